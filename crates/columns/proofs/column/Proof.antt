@@ -1,0 +1,20 @@
+use borrow.Author.Needs.{needs}
+use Rattle.columns.proofs.column.Statement.{statement}
+use Rattle.columns.proofs.column.Tie as tie
+use Rattle.columns.proofs.column.Reads as reads
+use Rattle.columns.proofs.column.Lts as lts
+
+-- src/lib.rt:70:25
+shared-slice-read-result : tie.Need-shared-slice-read-result
+shared-slice-read-result c = search needs
+
+-- src/lib.rt:67:1
+returns : tie.Need-returns
+returns c = search needs
+
+-- src/lib.rt:67:1
+returns-2 : tie.Need-returns-2
+returns-2 c = search needs
+
+pub column-spec : {M : Type 1} → statement M
+column-spec = tie.close (tie.spec shared-slice-read-result returns returns-2)
