@@ -1,17 +1,18 @@
 -- 01: one card. "Cards go line by line, 1 first, then fields left to right, each 2, 3, 4, 5".
 use Prim.Native.Nat.{ℕ, zero, suc, _+_}
 use mathlib.Core.List.{List, [], _∷_, _++_}
-use mathlib.Core.Bool.{Bool, true, false, cond}
+use mathlib.Core.Bool.{Bool, true, false, cond, _||_}
 use lib.Dec.{leb, eqb}
 use lib.IntN.{ℤ}
 use Rattle.columns.specs.Bytes.{blank, every}
 use Rattle.columns.specs.Lines.{lineGood, blankCard}
 use Rattle.columns.specs.Names.{placeOf}
-use Rattle.columns.specs.Numbers.{rangedOf}
+use Rattle.columns.specs.Columns.{columns}
 use Rattle.columns.specs.declared.Found.{Found}
 use Rattle.columns.specs.declared.Found.the-variants.{At, Nothing}
-use Rattle.columns.specs.declared.Field.{Field}
-use Rattle.columns.specs.declared.Field.the-variants.{Value, Malformed, OutOfRange}
+use Rattle.fields.specs.declared.Field.{Field}
+use Rattle.fields.specs.declared.Field.the-variants.{Value, Malformed, OutOfRange}
+use Rattle.fields.specs.Number.{numberOf, inRange}
 use Rattle.cards.specs.Formats.{Number}
 
 -- what a card gives, or the number of the refusal that it earns (the place is its line)
@@ -33,7 +34,7 @@ fieldGives OutOfRange = bad 3
 
 -- the number in a field of the line
 unfoldable pub number : List ℕ → Number → Card ℤ
-number line f = fieldGives (rangedOf line (f .from) (f .width) (f .decimals) (f .low) (f .high))
+number line f = fieldGives (inRange (f .low) (f .high) (numberOf (f .format) (columns line (f .from) (f .width))))
 
 -- n fields in a row, field k the next, after the numbers that stand left of it
 unfoldable pub numbersFrom : List ℕ → (ℕ → Number) → List ℤ → ℕ → ℕ → Card (List ℤ)
@@ -46,35 +47,33 @@ numbersFrom line f left k (suc n) = do
 abbrev pub numbers : List ℕ → (ℕ → Number) → ℕ → Card (List ℤ)
 numbers line f n = numbersFrom line f [] 0 n
 
+abbrev pub unlessFound : Found → List ℕ → Card (List ℕ)
+unlessFound (At place) name = bad 4
+unlessFound Nothing name = good name
+
 -- "4 a constituent's own name blank, or twice in part 1": the name on a frequency card, after those of the cards before it
 unfoldable pub newName : List (List ℕ) → List ℕ → Card (List ℕ)
-newName before name = cond (every blank name) (bad 4) (unseen (placeOf name before))
-  where
-    unseen : Found → Card (List ℕ)
-    unseen (At k) = bad 4
-    unseen Nothing = good name
+newName before name = cond (every blank name) (bad 4) (unlessFound (placeOf name before) name)
 
--- where a number stands first in a list of numbers, which has positions k and up
-unfoldable pub positionFrom : ℕ → List ℕ → ℕ → Found
-positionFrom x [] k = Nothing
-positionFrom x (y ∷ ys) k = cond (eqb x y) (At k) (positionFrom x ys (k + 1))
+abbrev pub placeFound : Found → Card ℕ
+placeFound (At place) = good place
+placeFound Nothing = bad 5
 
-abbrev pub positionOf : ℕ → List ℕ → Found
-positionOf x ys = positionFrom x ys 0
+-- the place of the frequency with a main or shallow constituent's own name: "4 a constituent's own name blank", "5 definition without frequency"
+unfoldable pub placeNamed : List (List ℕ) → List ℕ → Card ℕ
+placeNamed names name = cond (every blank name) (bad 4) (placeFound (placeOf name names))
 
--- whether it stands there at all
-abbrev pub isFound : Found → Bool
-isFound (At k) = true
-isFound Nothing = false
+-- whether a place stands among others
+unfoldable pub isAmong : ℕ → List ℕ → Bool
+isAmong place [] = false
+isAmong place (p ∷ ps) = eqb place p || isAmong place ps
 
--- the place of a main or shallow constituent's own name, given the names of part 1 and the places defined so far:
--- "4 blank, or twice in parts 3 and 4 together", "5 definition without frequency". A name stands once in part 1, so its place stands for it.
+-- that place, not defined so far: "4 twice in parts 3 and 4 together". Names stand once in part 1, so a name twice is a place twice,
+-- and a name without frequency stands for none: it is 5.
 unfoldable pub newPlace : List (List ℕ) → List ℕ → List ℕ → Card ℕ
-newPlace names defined name = cond (every blank name) (bad 4) (undefined (placeOf name names))
-  where
-    undefined : Found → Card ℕ
-    undefined (At place) = cond (isFound (positionOf place defined)) (bad 4) (good place)
-    undefined Nothing = bad 5
+newPlace names defined name = do
+  place ← placeNamed names name
+  cond (isAmong place defined) (bad 4) (good place)
 
 -- what the next card of part 1, 3 or 4 comes to
 pub data Next (A : Type 0) : Type 0 where

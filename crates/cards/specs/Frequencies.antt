@@ -12,19 +12,20 @@ use Rattle.cards.specs.Card.{Card, good, _>>=_, number, newName, Next, n
 abbrev pub namesOf : List Frequency → List (List ℕ)
 namesOf = map (λ f. f .name)
 
--- a frequency card: name, frequency
-unfoldable pub frequencyCard : List Frequency → List ℕ → Card Frequency
-frequencyCard before line = do
-  name ← newName (namesOf before) (columns line frequencyName 5)
+-- a frequency card, after cards with these names: name, frequency
+unfoldable pub frequencyCard : List (List ℕ) → List ℕ → Card Frequency
+frequencyCard names line = do
+  name ← newName names (columns line frequencyName 5)
   frequency ← number line frequencyField
   good (record { name = name; frequency = natAbs frequency })
 
 -- "At most 160 frequencies"
-unfoldable pub nextFrequency : List Frequency → List ℕ → Next Frequency
-nextFrequency before line = nextCard 160 (length before) line (frequencyCard before line)
+unfoldable pub nextFrequency : List (List ℕ) → List ℕ → Next Frequency
+nextFrequency names line = nextCard 160 (length names) line (frequencyCard names line)
 
 -- the cards from line n on, after the frequencies of those before it; "7 file ends inside a part; place: the line after the last"
 unfoldable pub frequenciesFrom : List (List ℕ) → ℕ → List Frequency → Reading (List Frequency)
 frequenciesFrom [] n before = refused 7 n
 frequenciesFrom (line ∷ lines) n before =
-    onwardOrEnd (nextFrequency before line) n (given before lines (n + 1)) (λ f. frequenciesFrom lines (n + 1) (before ++ (f ∷ [])))
+    onwardOrEnd (nextFrequency (namesOf before) line) n (given before lines (n + 1))
+    (λ f. frequenciesFrom lines (n + 1) (before ++ (f ∷ [])))

@@ -5,3 +5,4 @@ pub mod Longitudes
 pub mod Mains
 pub mod Shallows
 pub mod Cards
+pub mod Answers

@@ -1,1 +1,14 @@
-pub fn one() -> u8 { 1 }
+// The card file: its reader, with refusals 1 to 7.
+mod numbers;
+mod places;
+
+// 01's refusals of a card file, in the order of its table.
+pub enum Refusal {
+    Line,
+    Malformed,
+    Range,
+    Name,
+    Missing,
+    Count,
+    Ended,
+}

@@ -1,0 +1,56 @@
+-- What the code's answers stand for in 01's terms.
+use Prim.Native.Nat.{ℕ, _*_, _≤_}
+use mathlib.Core.List.{List}
+use lib.ListN.{getD}
+use lib.IntN.{ℤ, pos}
+use Rattle.table.specs.View.{listed}
+use Rattle.cards.specs.Card.{Card, good, bad}
+use Rattle.cards.specs.declared.Refusal.{Refusal}
+use Rattle.cards.specs.declared.Refusal.the-variants.{Line, Malformed, Range, Name, Missing, Count, Ended}
+use Rattle.cards.specs.declared.numbers.Small.{Small}
+use Rattle.cards.specs.declared.numbers.Small.the-variants as small
+use Rattle.cards.specs.declared.numbers.Natural.{Natural}
+use Rattle.cards.specs.declared.numbers.Natural.the-variants as natural
+use Rattle.cards.specs.declared.numbers.Fault.{Fault}
+use Rattle.cards.specs.declared.numbers.Fault.the-variants as fault
+use Rattle.cards.specs.declared.places.Place.{Place}
+use Rattle.cards.specs.declared.places.Place.the-variants as place
+
+-- 01, Turned down by the input: the numbers of its table
+abbrev pub numberOf : Refusal → ℕ
+numberOf Line = 1
+numberOf Malformed = 2
+numberOf Range = 3
+numberOf Name = 4
+numberOf Missing = 5
+numberOf Count = 6
+numberOf Ended = 7
+
+-- a signed number of a card
+abbrev pub smallGives : Small → Card ℤ
+smallGives (small.Value v) = good v
+smallGives (small.Bad r) = bad (numberOf r)
+
+-- a number of a card that is not below 0
+abbrev pub naturalGives : Natural → Card ℤ
+naturalGives (natural.Value n) = good (pos n)
+naturalGives (natural.Bad r) = bad (numberOf r)
+
+-- it keeps to its range
+abbrev pub NaturalWithin : Natural → ℕ → Type 0
+NaturalWithin (natural.Value n) most = n ≤ most
+NaturalWithin (natural.Bad r) most = Unit
+
+-- something on a card, unless it has a fault
+abbrev pub faultGives : {A : Type 0} → Fault → A → Card A
+faultGives fault.Clear a = good a
+faultGives (fault.Bad r) a = bad (numberOf r)
+
+-- a place
+abbrev pub placeGives : Place → Card ℕ
+placeGives (place.At p) = good p
+placeGives (place.Bad r) = bad (numberOf r)
+
+-- the places in the rows of cards that the table keeps: each row begins with its place
+abbrev pub placesIn : ℕ → List ℕ → ℕ → List ℕ
+placesIn width cards count = listed (λ k. getD cards (width * k) 0) 0 count
