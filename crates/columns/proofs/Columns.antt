@@ -58,7 +58,7 @@ padded-all f (x ∷ s) = rw (padded-tail f x s 0 (length s), padded-all f s)
 
 -- how far a kind goes in the columns from k to e, one column on
 pub run-more : (kind : ℕ → Bool) (s : List ℕ) (k e : ℕ) → k < e
-  → length (leading kind (padded 32 s k (e - k))) ≡ cond (kind (getD s k 32)) (suc (length (leading kind (padded 32 s (k + 1) (e - (k + 1)))))) 0
+    → length (leading kind (padded 32 s k (e - k))) ≡ cond (kind (getD s k 32)) (suc (length (leading kind (padded 32 s (k + 1) (e - (k + 1)))))) 0
 run-more kind s k e h = rw (padded-more 32 s k e h) (leading-cons kind (getD s k 32) (padded 32 s (k + 1) (e - (k + 1))))
 
 pub run-none : (kind : ℕ → Bool) (s : List ℕ) (k e : ℕ) → e ≤ k → length (leading kind (padded 32 s k (e - k))) ≡ 0
@@ -67,11 +67,11 @@ run-none kind s k e h = rw (padded-none 32 s k e h)
 
 -- a kind goes through the columns from k to e when it goes at least to e
 pub every-run : (kind : ℕ → Bool) (s : List ℕ) (k e : ℕ) → every kind (padded 32 s k (e - k)) ≡ leb e (k + length (leading kind (padded 32 s k (e - k))))
-every-run kind s k e = rw (every-leading kind (padded 32 s k (e - k)), length-padded 32 s k (e - k)) (shift _ e k)
+every-run kind s k e = rw (every-leading kind (padded 32 s k (e - k)), length-padded 32 s k (e - k)) (shift (length (leading kind (padded 32 s k (e - k)))) e k)
   where
     shift : (n e k : ℕ) → leb (e - k) n ≡ leb e (k + n)
     shift n e k = go (leb (e - k) n) refl
       where
         go : (t : Bool) → leb (e - k) n ≡ t → t ≡ leb e (k + n)
-        go true h = let m : e ≤ k + n = omega (arith, leb-true _ _ h) in sym (le-leb _ _ m)
-        go false h = let m : k + n < e = omega (arith, leb-false _ _ h) in sym (lt-leb _ _ m)
+        go true h = let m : e ≤ k + n = omega (arith, leb-true (e - k) n h) in sym (le-leb _ _ m)
+        go false h = let m : k + n < e = omega (arith, leb-false (e - k) n h) in sym (lt-leb _ _ m)

@@ -14,8 +14,8 @@ use Rattle.columns.specs.Lines.{inFront, linesOf, firstLine, restLines}
 
 -- one byte in front
 lines-cons : (t : Bool) (b : ℕ) (s : List ℕ) → linesOf s ≡ firstLine s ∷ linesOf (drop (suc (length (firstLine s))) s)
-  → cond t ([] ∷ linesOf s) (inFront b (linesOf s))
-  ≡ cond (not t) (b ∷ firstLine s) [] ∷ linesOf (drop (suc (length (cond (not t) (b ∷ firstLine s) []))) (b ∷ s))
+    → cond t ([] ∷ linesOf s) (inFront b (linesOf s))
+    ≡ cond (not t) (b ∷ firstLine s) [] ∷ linesOf (drop (suc (length (cond (not t) (b ∷ firstLine s) []))) (b ∷ s))
 lines-cons true b s h = refl
 lines-cons false b s h = rw h
 
