@@ -36,14 +36,17 @@ length-padded f s k zero = refl
 length-padded f s k (suc n) = ap suc (length-padded f s (k + 1) n)
 
 -- a part that is padded is that part of the padded row
-pub padded-part : (f : ℕ) (s : List ℕ) (a w j n : ℕ) → j + n ≤ w → padded f (take w (drop a s)) j n ≡ padded f s (a + j) n
+padded-from : (f : ℕ) (s : List ℕ) (a w j n : ℕ) → j + n ≤ w → padded f (take w (drop a s)) j n ≡ padded f s (a + j) n
 unfolding padded
-padded-part f s a w j zero h = refl
-padded-part f s a w j (suc n) h =
+padded-from f s a w j zero h = refl
+padded-from f s a w j (suc n) h =
     let i : j < w = omega arith in
     let m : j + 1 + n ≤ w = omega arith in
     let e : a + (j + 1) ≡ a + j + 1 = omega arith in
-    rw (getD-take w (drop a s) j f i, getD-drop a s j f, padded-part f s a w (j + 1) n m, e)
+    rw (getD-take w (drop a s) j f i, getD-drop a s j f, padded-from f s a w (j + 1) n m, e)
+
+pub padded-part : (f : ℕ) (s : List ℕ) (a w : ℕ) → padded f (take w (drop a s)) 0 w ≡ padded f s a w
+padded-part f s a w = let h : 0 + w ≤ w = omega arith in padded-from f s a w 0 w h ∙ ap (λ (k : ℕ). padded f s k w) (add-zero a)
 
 -- a row with as many columns as it has bytes is itself
 padded-tail : (f x : ℕ) (s : List ℕ) (k n : ℕ) → padded f (x ∷ s) (k + 1) n ≡ padded f s k n

@@ -91,7 +91,6 @@ fn begins(field: &[u8], k: usize, end: usize, b: u8) -> bool
 
 // An I field behind its sign, from column k to column `end`.
 fn whole_size(field: &[u8], k: usize, end: usize) -> Size
-    requires { ⌜ k ≤ end ⌝ }
     ensures { λ r. ⌜ r ≡ kept (wholeGood (columns (now (field .entry)) k (end - k))) (wholeSize (columns (now (field .entry)) k (end - k))) ⌝ }
 {
     let stop = columns::run_end(field, k, end, 48, 57);
@@ -115,7 +114,6 @@ fn fixed_digits(field: &[u8], k: usize, point: usize, stop: usize, missing: usiz
 
 // An F field behind its sign, from column k to column `end`.
 fn fixed_size(field: &[u8], k: usize, end: usize, decimals: usize) -> Size
-    requires { ⌜ k ≤ end ⌝ }
     ensures { λ r. ⌜ r ≡ kept (fixedGood decimals (columns (now (field .entry)) k (end - k))) (fixedSize decimals (columns (now (field .entry)) k (end - k))) ⌝ }
 {
     let point = columns::run_end(field, k, end, 48, 57);
@@ -137,7 +135,6 @@ fn fixed_size(field: &[u8], k: usize, end: usize, decimals: usize) -> Size
 
 // A field behind its sign, without it.
 fn size_of(field: &[u8], k: usize, end: usize, format: Format) -> Size
-    requires { ⌜ k ≤ end ⌝ }
     ensures { λ r. ⌜ r ≡ keptOf format (columns (now (field .entry)) k (end - k)) ⌝ }
 {
     match format {
@@ -180,8 +177,15 @@ fn ranged(negative: bool, size: u64, low: i64, high: i64) -> Field
 }
 
 // A field behind its sign, from column k to column `end`, in its range.
-fn unsigned(field: &[u8], k: usize, end: usize, format: Format, negative: bool, low: i64, high: i64) -> Field
-    requires { ⌜ k ≤ end ⌝ }
+fn unsigned(
+    field: &[u8],
+    k: usize,
+    end: usize,
+    format: Format,
+    negative: bool,
+    low: i64,
+    high: i64,
+) -> Field
     ensures { λ r. ⌜ r ≡ inRange low high (number.unsigned format negative (columns (now (field .entry)) k (end - k))) ⌝ }
 {
     let size = size_of(field, k, end, format);
@@ -192,7 +196,14 @@ fn unsigned(field: &[u8], k: usize, end: usize, format: Format, negative: bool, 
 }
 
 // The number in `width` columns of the line from column `from` on, if it is from `low` to `high`.
-pub fn ranged_field(line: &[u8], from: usize, width: usize, format: Format, low: i64, high: i64) -> Field
+pub fn ranged_field(
+    line: &[u8],
+    from: usize,
+    width: usize,
+    format: Format,
+    low: i64,
+    high: i64,
+) -> Field
     ensures { λ r. ⌜ r ≡ inRange low high (numberOf format (columns (now (line .entry)) from width)) ⌝ }
 {
     let field = columns::part(line, from, width);

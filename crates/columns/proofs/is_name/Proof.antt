@@ -8,7 +8,6 @@ use Rattle.columns.proofs.name_at.Reads as name-at-reads
 use Rattle.columns.proofs.same_name.Reads as same-name-reads
 use mathlib.Core.Path.{_≡_, refl, sym, ap, _∙_}
 use Prim.Native.Nat.{_*_}
-use native.Mathlib.Nat.{add-zero}
 use Rattle.columns.proofs.Columns.{padded-part}
 
 -- src/lib.rt:162:21
@@ -21,7 +20,7 @@ same-name-requires c κs = search needs
 
 -- src/lib.rt:159:1
 returns : tie.Need-returns
-returns c = let a = c .before .before .before .before .args in rw (c .before .name-at .ensures, padded-part 0 (a .names .now) (5 * a .place) 5 0 5 (omega arith), add-zero (5 * a .place)) at (c .same-name .ensures)
+returns c = let a = c .before .before .before .before .args in rw (c .before .name-at .ensures, padded-part 0 (a .names .now) (5 * a .place) 5) at (c .same-name .ensures)
 
 pub is-name-spec : {M : Type 1} → statement M
 is-name-spec = tie.close (tie.spec name-at-requires same-name-requires returns)
