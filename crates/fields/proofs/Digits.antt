@@ -1,13 +1,12 @@
 -- The number that digits write, one digit on; and that a cap put on it between two digits shows only as a cap on the end:
 -- what is at least the cap stays so with any digit more. By induction on the digits. Assumes nothing.
-use mathlib.Core.Path.{_≡_, refl, sym, ap, _∙_}
+use mathlib.Core.Path.{_≡_, refl}
 use Prim.Native.Nat.{ℕ, zero, suc, _+_, _-_, _*_, _≤_, _<_, min}
 use mathlib.Core.List.{List, [], _∷_, _++_}
-use mathlib.Core.Bool.{Bool, true, false}
-use lib.ListN.{length, getD, replicate}
+use mathlib.Core.Bool.{true, false}
+use lib.ListN.{getD, replicate}
 use lib.Dec.{eqb}
 use native.Mathlib.Omega.{arith}
-use borrow.Author.Tests.{leb-true}
 use Rattle.columns.specs.Columns.{columns, padded}
 use Rattle.columns.proofs.Columns.{padded-more, padded-none}
 use Rattle.fields.specs.Number.{begins, numeral}

@@ -1,24 +1,23 @@
 -- A number is in a range of 64-bit numbers exactly when its capped size, with its sign, is: all from the cap on lie outside.
 -- By cases on the signs. Assumes nothing.
-use mathlib.Core.Path.{_≡_, refl, sym, ap, _∙_}
-use Prim.Native.Nat.{ℕ, zero, suc, _+_, _-_, _*_, _≤_, _<_, _^_, min}
+use mathlib.Core.Path.{_≡_, refl, sym, _∙_}
+use Prim.Native.Nat.{ℕ, zero, suc, _≤_, _<_, min}
 use mathlib.Core.List.{List}
-use mathlib.Core.Bool.{Bool, true, false, cond, not, _&&_, and-false}
+use mathlib.Core.Bool.{Bool, true, false, cond, not, and-false}
 use lib.IntN.{ℤ, pos, negsuc, negℤ, _-ℤ_}
-use lib.Signed.{mag, ltZ, leZ}
+use lib.Signed.{ltZ, leZ}
 use lib.Dec.{leb, ltb}
 use native.Mathlib.Nat.{zero-add}
 use native.Mathlib.Omega.{arith}
 use borrow.Author.Tests.{ltb-true, ltb-false, le-leb, lt-leb}
 use mir.Syntax.{w64}
-use mir.Val.{SFits, toZ, ofZ, hbits}
-use mir.ValLaws.{toZ-pos, toZ-ofZ}
+use mir.Val.{SFits, toZ}
+use mir.ValLaws.{toZ-pos}
 use Rattle.fields.specs.Number.{number, malformed, signed, inRange, unsigned, wholeGood, wholeSize, fixedGood, fixedSize}
 use Rattle.fields.specs.Capped.{cap, kept, keptOf}
 use Rattle.fields.specs.declared.Format.{Format}
 use Rattle.fields.specs.declared.Format.the-variants.{Whole, Fixed}
 use Rattle.fields.specs.declared.Size.the-variants.{Of, Bad}
-use Rattle.fields.specs.declared.Field.{Field}
 use Rattle.fields.specs.declared.Field.the-variants.{Malformed, OutOfRange}
 
 leb-ltb : (a b : ℕ) → leb a b ≡ not (ltb b a)

@@ -1,13 +1,12 @@
 -- What a field is behind its sign, by the columns where its digits, its point and its decimals end.
 -- Resting on the laws of runs of `columns`. Assumes nothing.
-use mathlib.Core.Path.{_≡_, refl, sym, ap, _∙_}
-use Prim.Native.Nat.{ℕ, zero, suc, _+_, _-_, _*_, _≤_, _<_}
-use mathlib.Core.List.{List, [], _∷_, _++_}
-use mathlib.Core.Bool.{Bool, true, false, _&&_}
+use mathlib.Core.Path.{_≡_, sym}
+use Prim.Native.Nat.{ℕ, _+_, _-_}
+use mathlib.Core.List.{List}
+use mathlib.Core.Bool.{_&&_}
 use lib.ListN.{length, take, drop, replicate, length-append}
 use lib.Dec.{leb, ltb}
 use native.Mathlib.Nat.{sub-zero}
-use native.Mathlib.Omega.{arith}
 use Rattle.columns.specs.Bytes.{blank, every, leading, behind}
 use Rattle.columns.specs.Columns.{columns}
 use Rattle.columns.proofs.Columns.{length-padded, padded-part, padded-next, run-leading, run-behind}

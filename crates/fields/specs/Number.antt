@@ -1,6 +1,6 @@
 -- 01, The card file: "A number is blanks, perhaps a minus, digits, blanks. F fields need one point, at least one digit, and no more
 -- decimals than their format. Blank number fields are malformed."
-use Prim.Native.Nat.{ℕ, zero, suc, _+_, _*_, _-_}
+use Prim.Native.Nat.{ℕ, _+_, _*_, _-_}
 use mathlib.Core.List.{List, [], _∷_, _++_}
 use mathlib.Core.Bool.{Bool, true, false, cond, _&&_}
 use lib.Dec.{leb, ltb, eqb}

@@ -23,7 +23,7 @@ pub enum Field {
 }
 
 // A number without its sign.
-pub enum Size {
+enum Size {
     Of(u64),
     Bad,
 }

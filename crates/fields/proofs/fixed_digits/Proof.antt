@@ -1,36 +1,27 @@
-use native.Mathlib.Omega.{arith}
+-- `fields::fixed_digits` meets its contract. A cap put on between the digits shows only at the end: `capped-before`, twice. Assumes nothing.
 use borrow.Author.Needs.{needs}
 use Rattle.fields.proofs.fixed_digits.Statement.{statement}
 use Rattle.fields.proofs.fixed_digits.Tie as tie
-use Rattle.fields.proofs.fixed_digits.Reads as reads
-use Rattle.fields.proofs.fixed_digits.Lts as lts
-use Rattle.fields.proofs.numeral.Reads as numeral-reads
-use Rattle.fields.proofs.zeros.Reads as zeros-reads
-use mathlib.Core.Path.{_≡_, refl, sym, ap, _∙_}
-use Prim.Native.Nat.{ℕ, _+_, _-_}
+use mathlib.Core.Path.{_∙_}
+use Prim.Native.Nat.{_+_, _-_}
 use lib.ListN.{replicate}
 use Rattle.columns.specs.Columns.{columns}
 use Rattle.fields.specs.Number as spec
 use Rattle.fields.specs.Capped.{cap}
 use Rattle.fields.proofs.Digits.{capped-before}
 
--- src/lib.rt:112:9
 numeral-requires : tie.Need-numeral-requires
 numeral-requires c κs = search needs
 
--- src/lib.rt:113:26
 add-numeral : tie.Need-add-numeral
 add-numeral c = search needs
 
--- src/lib.rt:113:11
 numeral-requires-2 : tie.Need-numeral-requires-2
 numeral-requires-2 c κs = search needs
 
--- src/lib.rt:113:5
 zeros-requires : tie.Need-zeros-requires
 zeros-requires c κs = search needs
 
--- src/lib.rt:108:1
 returns : tie.Need-returns
 returns c =
     let a = c .before .before .before .before .args in

@@ -1,14 +1,10 @@
+-- `fields::numeral` meets its contract. The loop's invariant: the digits left, behind the number so far, write the capped number. Rests on `capped-before`. Assumes nothing.
 use native.Mathlib.Omega.{arith}
 use borrow.Author.Needs.{needs}
 use Rattle.fields.proofs.numeral.Statement.{statement}
 use Rattle.fields.proofs.numeral.Tie as tie
-use Rattle.fields.proofs.numeral.Reads as reads
-use Rattle.fields.proofs.numeral.Lts as lts
-use Rattle.columns.proofs.column.Reads as column-reads
-use Rattle.fields.proofs.digit.Reads as digit-reads
-use Rattle.fields.proofs.push.Reads as push-reads
-use mathlib.Core.Path.{_≡_, refl, sym, ap, _∙_}
-use Prim.Native.Nat.{ℕ, min, _+_, _*_, _-_, _≤_}
+use mathlib.Core.Path.{_≡_, refl, sym, _∙_}
+use Prim.Native.Nat.{min, _+_, _*_, _-_, _≤_}
 use lib.ListN.{getD}
 use Rattle.columns.specs.Columns.{columns}
 use Rattle.fields.specs.Number as spec
@@ -21,31 +17,24 @@ Inv-loop field k end before v₀ i₀ v i = (v ≤ cap) × (min cap (spec.numera
 abbrev μ-loop : tie.MeasureT-loop
 μ-loop field k end before v₀ i₀ v i = end - i
 
--- src/lib.rt:61:5
 loop-holds : tie.Need-loop-holds Inv-loop μ-loop
 loop-holds c = (c .before .pre, refl)
 
--- src/lib.rt:62:27
 column-requires : tie.Need-column-requires Inv-loop μ-loop
 column-requires c κs = search needs
 
--- src/lib.rt:62:21
 digit-requires : tie.Need-digit-requires Inv-loop μ-loop
 digit-requires c κs = search needs
 
--- src/lib.rt:62:9
 push-requires : tie.Need-push-requires Inv-loop μ-loop
 push-requires c κs = search needs
 
--- src/lib.rt:63:13
 add-i : tie.Need-add-i Inv-loop μ-loop
 add-i c = search needs
 
--- src/lib.rt:61:5
 loop-less : tie.Need-loop-less Inv-loop μ-loop
 loop-less c = search needs
 
--- src/lib.rt:61:5
 loop-again : tie.Need-loop-again Inv-loop μ-loop
 loop-again c =
     let s = c .before .before .before .before in
@@ -56,7 +45,6 @@ loop-again c =
     let e : u ≡ min cap (10 * s .loop .v + d) = rw (c .before .before .column .ensures) at (rw (c .before .digit .ensures .0) at (c .push .ensures)) in
     (omega arith, capped-before cap u (10 * s .loop .v + d) (columns (a .field .now) (i + 1) (a .end - (i + 1))) e ∙ (rw (numeral-more (a .field .now) (s .loop .v) i (a .end) (c .before .before .before .loop-test .taken)) at (s .loop .inv .1)))
 
--- src/lib.rt:55:1
 returns : tie.Need-returns Inv-loop μ-loop
 returns c =
     let s = c .before in

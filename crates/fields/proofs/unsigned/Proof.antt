@@ -1,35 +1,26 @@
-use native.Mathlib.Omega.{arith}
+-- `fields::unsigned` meets its contract. What is kept of a size has the answer of the size: `sized-of`, `sized-bad`. Assumes nothing.
 use borrow.Author.Needs.{needs}
 use Rattle.fields.proofs.unsigned.Statement.{statement}
 use Rattle.fields.proofs.unsigned.Tie as tie
-use Rattle.fields.proofs.unsigned.Reads as reads
-use Rattle.fields.proofs.unsigned.Lts as lts
-use Rattle.fields.proofs.ranged.Reads as ranged-reads
-use Rattle.fields.proofs.size_of.Reads as size-of-reads
-use mathlib.Core.Path.{_≡_, refl, sym, ap, _∙_}
+use mathlib.Core.Path.{sym, _∙_}
 use Prim.Native.Nat.{_-_}
 use mir.Syntax.{w64}
 use mir.ValLaws.{toZ-ofZ}
 use Rattle.columns.specs.Columns.{columns}
 use Rattle.fields.proofs.Ranges.{sized-of, sized-bad}
 
--- src/lib.rt:187:9
 size-of-requires : tie.Need-size-of-requires
 size-of-requires c κs = search needs
 
--- src/lib.rt:189:18
 enum-known-size : tie.Need-enum-known-size
 enum-known-size c = search needs
 
--- src/lib.rt:189:24
 ranged-requires : tie.Need-ranged-requires
 ranged-requires c κs = search needs
 
--- src/lib.rt:190:22
 enum-told : tie.Need-enum-told
 enum-told c = search needs
 
--- src/lib.rt:183:1
 returns : tie.Need-returns
 returns c =
     let s = c .before .before .before .before .before .before in
@@ -38,7 +29,6 @@ returns c =
     (simp (toZ-ofZ w64 (a .low) (s .fits .low), toZ-ofZ w64 (a .high) (s .fits .high)) at (c .ranged .ensures))
     ∙ sized-of (a .low) (a .high) (s .fits .low) (s .fits .high) (a .format) (a .negative) bs (c .before .before .size .given .0 .0) (sym (c .before .before .before .before .size-of .ensures) ∙ c .before .before .size .given .1)
 
--- src/lib.rt:183:1
 returns-2 : tie.Need-returns-2
 returns-2 c =
     let s = c .before .before .before .before in

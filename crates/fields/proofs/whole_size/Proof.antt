@@ -1,23 +1,17 @@
+-- `fields::whole_size` meets its contract. The tests in the definition's order, by the column where the digits end: `whole-good`, `whole-size`. Assumes nothing.
 use native.Mathlib.Omega.{arith}
 use borrow.Author.Needs.{needs}
 use Rattle.fields.proofs.whole_size.Statement.{statement}
 use Rattle.fields.proofs.whole_size.Tie as tie
-use Rattle.fields.proofs.whole_size.Reads as reads
-use Rattle.fields.proofs.whole_size.Lts as lts
-use Rattle.columns.proofs.all_among.Reads as all-among-reads
-use Rattle.columns.proofs.run_end.Reads as run-end-reads
-use Rattle.fields.proofs.numeral.Reads as numeral-reads
-use mathlib.Core.Path.{_≡_, refl, sym, ap, _∙_}
-use Prim.Native.Nat.{ℕ, _+_, _-_, _≤_, _<_}
+use mathlib.Core.Path.{ap}
+use Prim.Native.Nat.{_-_, _≤_, _<_}
 use borrow.Author.Tests.{lt-ltb, le-ltb}
 use Rattle.fields.specs.declared.Size.the-variants.{Of}
 use Rattle.fields.proofs.Sizes.{whole-good, whole-size}
 
--- src/lib.rt:97:9
 run-end-requires : tie.Need-run-end-requires
 run-end-requires c κs = search needs
 
--- src/lib.rt:99:9
 returns : tie.Need-returns
 returns c =
     let a = c .before .before .before .args in
@@ -25,15 +19,12 @@ returns c =
     let none : r .result - a .k ≤ 0 = omega arith in
     rw (whole-good (a .field .now) (a .k) (a .end) (r .result) (r .ensures), le-ltb 0 (r .result - a .k) none)
 
--- src/lib.rt:101:8
 all-among-requires : tie.Need-all-among-requires
 all-among-requires c κs = search needs
 
--- src/lib.rt:102:25
 numeral-requires : tie.Need-numeral-requires
 numeral-requires c κs = search needs
 
--- src/lib.rt:102:9
 returns-2 : tie.Need-returns-2
 returns-2 c =
     let a = c .before .before .before .before .before .before .args in
@@ -47,7 +38,6 @@ returns-2 c =
       whole-size (a .field .now) (a .k) (a .end) (r .result) (r .ensures),
     ) (ap Of (c .numeral .ensures))
 
--- src/lib.rt:93:1
 returns-3 : tie.Need-returns-3
 returns-3 c =
     let a = c .before .before .before .before .before .args in

@@ -1,10 +1,7 @@
-use native.Mathlib.Omega.{arith}
-use borrow.Author.Needs.{needs}
+-- `fields::within` meets its contract. The two tests of order; at most is not above: `leZ-ltZ`. Assumes nothing.
 use Rattle.fields.proofs.within.Statement.{statement}
 use Rattle.fields.proofs.within.Tie as tie
-use Rattle.fields.proofs.within.Reads as reads
-use Rattle.fields.proofs.within.Lts as lts
-use mathlib.Core.Path.{_≡_, refl, sym, ap, _∙_}
+use mathlib.Core.Path.{_≡_, ap}
 use mathlib.Core.Bool.{and-false}
 use Rattle.fields.specs.Number.{inRange}
 use Rattle.fields.proofs.Ranges.{leZ-ltZ}
@@ -14,7 +11,6 @@ use mir.Syntax.{w64}
 use mir.ValLaws.{toZ-ofZ}
 use Rattle.fields.specs.declared.Field.the-variants.{Value}
 
--- src/lib.rt:154:9
 returns : tie.Need-returns
 unfolding inRange
 returns c =
@@ -22,7 +18,6 @@ returns c =
     let t : ltZ (s .args .z) (s .args .low) ≡ true = rw (toZ-ofZ w64 (s .args .z) (s .fits .z), toZ-ofZ w64 (s .args .low) (s .fits .low)) at (c .if1 .taken) in
     rw (leZ-ltZ (s .args .low) (s .args .z), t)
 
--- src/lib.rt:157:9
 returns-2 : tie.Need-returns-2
 unfolding inRange
 returns-2 c =
@@ -30,7 +25,6 @@ returns-2 c =
     let t : ltZ (s .args .high) (s .args .z) ≡ true = rw (toZ-ofZ w64 (s .args .high) (s .fits .high), toZ-ofZ w64 (s .args .z) (s .fits .z)) at (c .if2 .taken) in
     rw (leZ-ltZ (s .args .z) (s .args .high), t, and-false (leZ (s .args .low) (s .args .z)))
 
--- src/lib.rt:150:1
 returns-3 : tie.Need-returns-3
 unfolding inRange
 returns-3 c =

@@ -1,12 +1,10 @@
+-- `fields::zeros` meets its contract. The loop's invariant: the zeros left, behind the number so far, write the capped number. Rests on `capped-before`. Assumes nothing.
 use native.Mathlib.Omega.{arith}
 use borrow.Author.Needs.{needs}
 use Rattle.fields.proofs.zeros.Statement.{statement}
 use Rattle.fields.proofs.zeros.Tie as tie
-use Rattle.fields.proofs.zeros.Reads as reads
-use Rattle.fields.proofs.zeros.Lts as lts
-use Rattle.fields.proofs.push.Reads as push-reads
-use mathlib.Core.Path.{_≡_, refl, sym, ap, _∙_}
-use Prim.Native.Nat.{ℕ, min, _+_, _*_, _-_, _≤_}
+use mathlib.Core.Path.{_≡_, sym, _∙_}
+use Prim.Native.Nat.{min, _+_, _*_, _-_, _≤_}
 use native.Mathlib.Nat.{sub-zero}
 use lib.ListN.{replicate}
 use Rattle.fields.specs.Number as spec
@@ -19,23 +17,18 @@ Inv-loop before n v₀ i₀ v i = (v ≤ cap) × (min cap (spec.numeral v (repli
 abbrev μ-loop : tie.MeasureT-loop
 μ-loop before n v₀ i₀ v i = n - i
 
--- src/lib.rt:75:5
 loop-holds : tie.Need-loop-holds Inv-loop μ-loop
 loop-holds c = (c .pre, simp sub-zero)
 
--- src/lib.rt:76:9
 push-requires : tie.Need-push-requires Inv-loop μ-loop
 push-requires c κs = search needs
 
--- src/lib.rt:77:13
 add-i : tie.Need-add-i Inv-loop μ-loop
 add-i c = search needs
 
--- src/lib.rt:75:5
 loop-less : tie.Need-loop-less Inv-loop μ-loop
 loop-less c = search needs
 
--- src/lib.rt:75:5
 loop-again : tie.Need-loop-again Inv-loop μ-loop
 loop-again c =
     let s = c .before .before in
@@ -44,7 +37,6 @@ loop-again c =
     let e : u ≡ min cap (10 * c .before .before .loop .v + 0) = c .push .ensures in
     (omega arith, capped-before cap u (10 * s .loop .v + 0) (replicate (a .n - (s .loop .i + 1)) 48) e ∙ (rw (zeros-more (s .loop .v) (s .loop .i) (a .n) (c .before .loop-test .taken)) at (s .loop .inv .1)))
 
--- src/lib.rt:69:1
 returns : tie.Need-returns Inv-loop μ-loop
 returns c =
     let s = c .before in
