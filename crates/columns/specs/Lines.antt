@@ -16,9 +16,13 @@ unfoldable pub linesOf : List ℕ → List (List ℕ)
 linesOf [] = []
 linesOf (b ∷ bs) = cond (eqb b 10) ([] ∷ linesOf bs) (inFront b (linesOf bs))
 
+-- a byte that is not LF
+abbrev pub inLine : ℕ → Bool
+inLine byte = not (eqb byte 10)
+
 -- the first line: the bytes in front of the first LF
 abbrev pub firstLine : List ℕ → List ℕ
-firstLine = leading (λ b. not (eqb b 10))
+firstLine = leading inLine
 
 -- the file behind its first line and that line's LF
 abbrev pub restLines : List ℕ → List ℕ

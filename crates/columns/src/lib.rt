@@ -5,12 +5,8 @@ ghost use lib.ListN.{length, getD, take, drop};
 ghost use Rattle.columns.specs.Bytes.{among, blank, every, leading};
 ghost use Rattle.columns.specs.Lines.{firstLine, restLines, lineGood, blankCard};
 ghost use Rattle.columns.specs.Columns as columns;
-ghost use Rattle.columns.specs.Columns.{columns};
+ghost use Rattle.columns.specs.Columns.{padded, columns};
 ghost use Rattle.columns.specs.Names.{same, nameAt, namesFrom, placeOf};
-
-// How many names a row of names holds, and its bytes.
-const PLACES: usize = 160;
-const NAMES: usize = 800;
 
 // Where a name stands among others.
 pub enum Found {
@@ -127,21 +123,30 @@ pub fn name_blank(part: &[u8]) -> bool
     all_among(part, 0, 5, 32, 32)
 }
 
-// Byte j of the name at a place; 0 past the last place.
-fn name_byte(names: &[u8; NAMES], place: usize, j: usize) -> u8
-    requires { ⌜ j < 5 ⌝ }
-    ensures { λ r. ⌜ r ≡ getD (now (names .entry)) (5 * place + j) 0 ⌝ }
+// The name at a place of a row of names of five bytes each, as a part of the row.
+fn name_at(names: &[u8], place: usize) -> &[u8]
+    ensures { λ r. ⌜ now r ≡ take 5 (drop (5 * place) (now (names .entry))) ⌝ }
 {
-    if place < PLACES { names[5 * place + j] } else { 0 }
+    if names.len() / 5 < place {
+        return &names[..0];
+    }
+    part(names, 5 * place, 5)
 }
 
-// Whether the name, padded, is the one at a place.
-pub fn is_name(part: &[u8], names: &[u8; NAMES], place: usize) -> bool
-    ensures { λ r. ⌜ r ≡ same (columns (now (part .entry)) 0 5) (nameAt (now (names .entry)) place) ⌝ }
+// The byte at k; 0 past the end of the row.
+fn byte(row: &[u8], k: usize) -> u8
+    ensures { λ r. ⌜ r ≡ getD (now (row .entry)) k 0 ⌝ }
+{
+    if k < row.len() { row[k] } else { 0 }
+}
+
+// Whether a name, padded, is the five bytes of a row.
+fn same_name(part: &[u8], row: &[u8]) -> bool
+    ensures { λ r. ⌜ r ≡ same (columns (now (part .entry)) 0 5) (padded 0 (now (row .entry)) 0 5) ⌝ }
 {
     let mut j = 0;
     while j < 5 {
-        if column(part, j) == name_byte(names, place, j) {
+        if column(part, j) == byte(row, j) {
             j = j + 1;
         } else {
             return false;
@@ -150,8 +155,15 @@ pub fn is_name(part: &[u8], names: &[u8; NAMES], place: usize) -> bool
     true
 }
 
+// Whether the name, padded, is the one at a place of the row of names.
+pub fn is_name(part: &[u8], names: &[u8], place: usize) -> bool
+    ensures { λ r. ⌜ r ≡ same (columns (now (part .entry)) 0 5) (nameAt (now (names .entry)) place) ⌝ }
+{
+    same_name(part, name_at(names, place))
+}
+
 // The first place below `count` whose name is this one, padded.
-pub fn find_name(part: &[u8], names: &[u8; NAMES], count: usize) -> Found
+pub fn find_name(part: &[u8], names: &[u8], count: usize) -> Found
     ensures { λ r. ⌜ r ≡ placeOf (columns (now (part .entry)) 0 5) (namesFrom (now (names .entry)) 0 count) ⌝ }
 {
     let mut k = 0;
