@@ -58,3 +58,9 @@ among-both place (p ∷ ps) qs = go (eqb place p) (among-both place ps qs)
     go : (t : Bool) → isAmong place (ps ++ qs) ≡ (isAmong place ps || isAmong place qs) → (t || isAmong place (ps ++ qs)) ≡ ((t || isAmong place ps) || isAmong place qs)
     go true e = refl
     go false e = e
+
+-- so many names
+pub names-count : (names : List ℕ) (k n : ℕ) → length (namesFrom names k n) ≡ n
+unfolding namesFrom
+names-count names k zero = refl
+names-count names k (suc n) = ap suc (names-count names (k + 1) n)

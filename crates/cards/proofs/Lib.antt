@@ -1,2 +1,4 @@
 pub mod Ranges
 pub mod Defined
+pub mod Walk
+pub mod Rows

@@ -1,10 +1,15 @@
 -- What the code's answers stand for in 01's terms.
-use Prim.Native.Nat.{ℕ, _*_, _≤_}
+use Prim.Native.Nat.{ℕ, _+_, _*_, _≤_}
 use mathlib.Core.List.{List}
-use lib.ListN.{getD}
+use lib.ListN.{length, getD, drop}
 use lib.IntN.{ℤ, pos}
 use Rattle.table.specs.View.{listed}
-use Rattle.cards.specs.Card.{Card, good, bad}
+use Rattle.columns.specs.Columns.{columns}
+use Rattle.columns.specs.Lines.{linesOf}
+use Rattle.table.specs.Table.{Frequency}
+use Rattle.cards.specs.Formats.{frequencyName}
+use Rattle.cards.specs.Card.{Card, good, bad, Next, ends, gives, fails, Reading, given, refused}
+use Rattle.cards.specs.Card as card
 use Rattle.cards.specs.declared.Refusal.{Refusal}
 use Rattle.cards.specs.declared.Refusal.the-variants.{Line, Malformed, Range, Name, Missing, Count, Ended}
 use Rattle.cards.specs.declared.numbers.Small.{Small}
@@ -13,6 +18,12 @@ use Rattle.cards.specs.declared.numbers.Natural.{Natural}
 use Rattle.cards.specs.declared.numbers.Natural.the-variants as natural
 use Rattle.cards.specs.declared.numbers.Fault.{Fault}
 use Rattle.cards.specs.declared.numbers.Fault.the-variants as fault
+use Rattle.cards.specs.declared.lines.Progress.{Progress}
+use Rattle.cards.specs.declared.lines.Progress.the-variants.{Reached, Refused}
+use Rattle.cards.specs.declared.opening.Opening.{Opening}
+use Rattle.cards.specs.declared.opening.Opening.the-variants as opening
+use Rattle.cards.specs.declared.frequencies.FrequencyStep.{FrequencyStep}
+use Rattle.cards.specs.declared.frequencies.FrequencyStep.the-variants as frequency
 use Rattle.cards.specs.declared.places.Place.{Place}
 use Rattle.cards.specs.declared.places.Place.the-variants as place
 
@@ -54,3 +65,29 @@ placeGives (place.Bad r) = bad (numberOf r)
 -- the places in the rows of cards that the table keeps: each row begins with its place
 abbrev pub placesIn : ℕ → List ℕ → ℕ → List ℕ
 placesIn width cards count = listed (λ k. getD cards (width * k) 0) 0 count
+
+-- how a card begins
+abbrev pub openingGives : Opening → card.Opening
+openingGives opening.Ends = card.blankEnds
+openingGives opening.Fields = card.readFields
+openingGives (opening.Fails r) = card.failsFirst (numberOf r)
+
+-- the frequency of a card, whose name is on its line
+abbrev pub frequencyRead : List ℕ → Natural → Card Frequency
+frequencyRead line (natural.Value f) = good (record { name = columns line frequencyName 5; frequency = f })
+frequencyRead line (natural.Bad r) = bad (numberOf r)
+
+abbrev pub frequencyGives : List ℕ → FrequencyStep → Next Frequency
+frequencyGives line frequency.Ends = ends
+frequencyGives line (frequency.Gives f) = gives (record { name = columns line frequencyName 5; frequency = f })
+frequencyGives line (frequency.Fails r) = fails (numberOf r)
+
+-- a part of the file: what it gives, and the lines behind the byte that was reached
+abbrev pub readingGives : {A : Type 0} → List ℕ → Progress → A → Reading A
+readingGives file (Reached at n) a = given a (linesOf (drop at file)) n
+readingGives file (Refused r n) a = refused (numberOf r) n
+
+-- a line takes a byte at least
+abbrev pub Within : List ℕ → Progress → Type 0
+Within file (Reached at n) = (at ≤ length file) × (n ≤ at + 1)
+Within file (Refused r n) = Unit

@@ -75,20 +75,31 @@ newPlace names defined name = do
   place ← placeNamed names name
   cond (isAmong place defined) (bad 4) (good place)
 
--- what the next card of part 1, 3 or 4 comes to
+-- what the next card of part 1, 3 or 4 comes to: the part ends, or a card gives something, or fails
 pub data Next (A : Type 0) : Type 0 where
   ends : Next A
   gives : A → Next A
   fails : ℕ → Next A
 
-abbrev pub cardGives : {A : Type 0} → Card A → Next A
-cardGives (good a) = gives a
-cardGives (bad r) = fails r
+-- whether its fields are to be read: "1 first"; "A blank card ends the part"; "a card past 160, 64 or 128 is 6 before its fields"
+pub data Opening : Type 0 where
+  blankEnds : Opening
+  readFields : Opening
+  failsFirst : ℕ → Opening
 
--- "1 first"; "A blank card ends the part"; "a card past 160, 64 or 128 is 6 before its fields"
-unfoldable pub nextCard : {A : Type 0} → ℕ → ℕ → List ℕ → Card A → Next A
-nextCard most before line card =
-    cond (lineGood line) (cond (blankCard line) ends (cond (leb most before) (fails 6) (cardGives card))) (fails 1)
+unfoldable pub opening : ℕ → ℕ → List ℕ → Opening
+opening most before line =
+    cond (lineGood line) (cond (blankCard line) blankEnds (cond (leb most before) (failsFirst 6) readFields)) (failsFirst 1)
+
+abbrev pub opened : {A : Type 0} → Opening → Card A → Next A
+opened blankEnds card = ends
+opened readFields (good a) = gives a
+opened readFields (bad r) = fails r
+opened (failsFirst r) card = fails r
+
+-- the next card on the line, after so many of `most`
+abbrev pub nextCard : {A : Type 0} → ℕ → ℕ → List ℕ → Card A → Next A
+nextCard most before line card = opened (opening most before line) card
 
 -- a card that must stand here, blank or not: a longitude card or a satellite card
 unfoldable pub dueCard : {A : Type 0} → List ℕ → Card A → Card A

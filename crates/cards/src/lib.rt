@@ -1,5 +1,8 @@
 // The card file: its reader, with refusals 1 to 7.
+mod frequencies;
+mod lines;
 mod numbers;
+mod opening;
 mod places;
 
 // 01's refusals of a card file, in the order of its table.

@@ -3,6 +3,7 @@ ghost use mathlib.Core.Path.{_≡_};
 ghost use Prim.Native.Nat.{_+_, _-_, _≤_, _<_};
 ghost use lib.ListN.{length, drop};
 ghost use Rattle.columns.specs.Lines.{firstLine, restLines};
+use crate::Refusal;
 
 // The line that starts at a byte of the file.
 pub fn line_at(file: &[u8], at: usize) -> &[u8]
@@ -18,4 +19,10 @@ pub fn next_line(file: &[u8], at: usize) -> usize
     ensures { λ r. ⌜ (at < r) × (r ≤ length (now (file .entry))) × (drop r (now (file .entry)) ≡ restLines (drop at (now (file .entry)))) ⌝ }
 {
     file.len() - columns::rest_lines(&file[at..]).len()
+}
+
+// Where the reader stands behind a part, byte and line, or the refusal that the part earns.
+pub enum Progress {
+    Reached(usize, usize),
+    Refused(Refusal, usize),
 }
