@@ -16,16 +16,18 @@ use Rattle.columns.specs.Columns.{padded, columns}
 use Rattle.columns.specs.Lines.{lineGood, blankCard, linesOf, firstLine, restLines}
 use Rattle.columns.specs.Names.{nameAt, namesFrom}
 use Rattle.columns.proofs.Columns.{length-padded}
-use Rattle.columns.proofs.Lines.{lines-next, lines-none}
 use Rattle.table.specs.Table.{Frequency}
 use Rattle.table.specs.View.{listed, rowOf, frequencyOf}
 use Rattle.table.proofs.Rows.{listed-same, listed-one-more, row-put, row-kept}
 use Rattle.cards.specs.declared.numbers.Natural.{Natural}
 use Rattle.cards.specs.declared.numbers.Natural.the-variants as natural
+use Rattle.cards.specs.declared.frequencies.FrequencyStep.{FrequencyStep}
 use Rattle.cards.specs.Formats.{frequencyName}
 use Rattle.cards.specs.Card.{Card, good, bad, _>>=_, gives, opening, opened, blankEnds, readFields, failsFirst, given, refused, onwardOrEnd}
-use Rattle.cards.specs.Frequencies.{namesOf, nextFrequency, frequenciesFrom}
-use Rattle.cards.specs.Answers.{naturalGives, frequencyRead}
+use Rattle.cards.specs.Frequencies.{namesOf, frequencyCard, nextFrequency, frequenciesFrom}
+use Rattle.cards.proofs.Defined.{names-count}
+use Rattle.cards.proofs.Walk.{lines-here, lines-end}
+use Rattle.cards.specs.Answers.{naturalGives, frequencyRead, frequencyGives}
 
 -- a card that gives something had room
 pub had-room : {A : Type 0} (most before : ℕ) (line : List ℕ) (card : Card A) (a : A) → opened (opening most before line) card ≡ gives a → before < most
@@ -37,6 +39,10 @@ had-room most before line card a e = go (lineGood line) (blankCard line) (leb mo
     go true false true h q = let z : _≡_ {A = ℕ} 0 1 = cc in absurd (omega arith)
     go true false false h q = leb-false most before h
     go false t u h q = let z : _≡_ {A = ℕ} 0 1 = cc in absurd (omega arith)
+
+pub frequency-room : (names line : List ℕ) (n : ℕ) (f : Frequency) → nextFrequency (namesFrom names 0 n) line ≡ gives f → n < 160
+unfolding nextFrequency
+frequency-room names line n f e = rw (names-count names 0 n) at (had-room 160 (length (namesFrom names 0 n)) line (frequencyCard (namesFrom names 0 n) line) f e)
 
 -- the frequency is the number in its field
 pub frequency-read : (line : List ℕ) (r : Natural) → frequencyRead line r ≡ (naturalGives r >>= λ f. good (record { name = columns line frequencyName 5; frequency = natAbs f }))
@@ -79,14 +85,17 @@ frequency-put names speeds name v n wide fits room =
       listed-same (frequencyOf (sets names (5 * n) name) (set speeds n v)) (frequencyOf names speeds) 0 n
         (λ k a b. let h : k < n = omega arith in rw (row-kept 0 5 names n name wide k h, getD-set-other speeds n k v 0 (λ e. omega arith))))
 
--- the frequencies from byte `at` on: the next line, or none left
-module _ (file : List ℕ) (at n : ℕ) (before : List Frequency) where
-  pub frequencies-next : at < length file → frequenciesFrom (linesOf (drop at file)) n before
-      ≡ onwardOrEnd (nextFrequency (namesOf before) (firstLine (drop at file))) n (given before (linesOf (restLines (drop at file))) (n + 1))
-        (λ f. frequenciesFrom (linesOf (restLines (drop at file))) (n + 1) (before ++ (f ∷ [])))
+-- the frequencies from byte `at` on, as the code reads the line there and steps to the next; or none left
+module _ (file : List ℕ) (at n : ℕ) (names speeds : List ℕ) (count : ℕ) where
+  pub frequencies-step : (next : ℕ) (line : List ℕ) (r : FrequencyStep) → at < length file → line ≡ firstLine (drop at file) → drop next file ≡ restLines (drop at file)
+      → frequencyGives line r ≡ nextFrequency (namesFrom names 0 count) line
+      → frequenciesFrom (linesOf (drop at file)) n (listed (frequencyOf names speeds) 0 count)
+      ≡ onwardOrEnd (frequencyGives line r) n (given (listed (frequencyOf names speeds) 0 count) (linesOf (drop next file)) (n + 1))
+        (λ f. frequenciesFrom (linesOf (drop next file)) (n + 1) (listed (frequencyOf names speeds) 0 count ++ (f ∷ [])))
   unfolding frequenciesFrom
-  frequencies-next h = rw (lines-next (drop at file) (omega (arith, length-drop at file)))
+  frequencies-step next line r h first rest card =
+      rw (lines-here file at next line h first rest, names-of names speeds 0 count, ← card)
 
-  pub frequencies-end : length file ≤ at → frequenciesFrom (linesOf (drop at file)) n before ≡ refused 7 n
+  pub frequencies-end : length file ≤ at → frequenciesFrom (linesOf (drop at file)) n (listed (frequencyOf names speeds) 0 count) ≡ refused 7 n
   unfolding frequenciesFrom
-  frequencies-end h = rw (lines-none (drop at file) (omega (arith, length-drop at file)))
+  frequencies-end h = rw (lines-end file at h)

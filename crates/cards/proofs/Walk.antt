@@ -9,7 +9,8 @@ use borrow.Author.Tests.{leb-true, leb-false}
 use lib.ListN.{length, take, drop, length-drop, drop-of-length-le}
 use lib.Seq.{take-all, drop-drop, drop-length}
 use native.Mathlib.Omega.{arith}
-use Rattle.columns.specs.Lines.{firstLine, restLines}
+use Rattle.columns.specs.Lines.{linesOf, firstLine, restLines}
+use Rattle.columns.proofs.Lines.{lines-next, lines-none}
 
 -- the part of a slice from byte a on
 pub tail-is : (s : List ℕ) (a : ℕ) → take (length s - a) (drop a s) ≡ drop a s
@@ -33,3 +34,11 @@ module _ (s : List ℕ) (a : ℕ) (h : a < length s) where
 
   pub rest-again : drop (length s - length (restLines (drop a s))) s ≡ restLines (drop a s)
   rest-again = let n = length (firstLine (drop a s)) + 1 in rw (drop-drop n a s) (drop-again (a + n) s)
+
+-- the lines from byte `at` on, as the code reads the line there and steps to the next; or none left
+pub lines-here : (file : List ℕ) (at next : ℕ) (line : List ℕ) → at < length file → line ≡ firstLine (drop at file) → drop next file ≡ restLines (drop at file)
+    → linesOf (drop at file) ≡ line ∷ linesOf (drop next file)
+lines-here file at next line h first rest = rw (rest, first) (lines-next (drop at file) (omega (arith, length-drop at file)))
+
+pub lines-end : (file : List ℕ) (at : ℕ) → length file ≤ at → linesOf (drop at file) ≡ []
+lines-end file at h = lines-none (drop at file) (omega (arith, length-drop at file))
