@@ -81,9 +81,13 @@ pub frequency-put : (names speeds name : List ℕ) (v n : ℕ) → length name �
 unfolding frequencyOf
 frequency-put names speeds name v n wide fits room =
     listed-one-more (frequencyOf (sets names (5 * n) name) (set speeds n v)) 0 n
-    ∙ rw (zero-add n, row-put 0 5 names n name wide fits, getD-set-same speeds n v 0 room,
+    ∙ rw (
+      zero-add n,
+      row-put 0 5 names n name wide fits,
+      getD-set-same speeds n v 0 room,
       listed-same (frequencyOf (sets names (5 * n) name) (set speeds n v)) (frequencyOf names speeds) 0 n
-        (λ k a b. let h : k < n = omega arith in rw (row-kept 0 5 names n name wide k h, getD-set-other speeds n k v 0 (λ e. omega arith))))
+          (λ k a b. let h : k < n = omega arith in rw (row-kept 0 5 names n name wide k h, getD-set-other speeds n k v 0 (λ e. omega arith))),
+    )
 
 -- the frequencies from byte `at` on, as the code reads the line there and steps to the next; or none left
 module _ (file : List ℕ) (at n : ℕ) (names speeds : List ℕ) (count : ℕ) where
@@ -91,7 +95,7 @@ module _ (file : List ℕ) (at n : ℕ) (names speeds : List ℕ) (count : ℕ) 
       → frequencyGives line r ≡ nextFrequency (namesFrom names 0 count) line
       → frequenciesFrom (linesOf (drop at file)) n (listed (frequencyOf names speeds) 0 count)
       ≡ onwardOrEnd (frequencyGives line r) n (given (listed (frequencyOf names speeds) 0 count) (linesOf (drop next file)) (n + 1))
-        (λ f. frequenciesFrom (linesOf (drop next file)) (n + 1) (listed (frequencyOf names speeds) 0 count ++ (f ∷ [])))
+      (λ f. frequenciesFrom (linesOf (drop next file)) (n + 1) (listed (frequencyOf names speeds) 0 count ++ (f ∷ [])))
   unfolding frequenciesFrom
   frequencies-step next line r h first rest card =
       rw (lines-here file at next line h first rest, names-of names speeds 0 count, ← card)

@@ -37,4 +37,4 @@ readCards file =
     followed (mainsFrom (namesOf frequencies) lines n [] 0) λ mains lines n.
     followed (shallowsFrom (namesOf frequencies) (mainPlaces mains) lines n []) λ shallows lines n.
     allDefined frequencies 0 (mainPlaces mains ++ shallowPlaces shallows)
-      (record { frequencies = frequencies; longitudes = longitudes; increases = increases; mains = mains; shallows = shallows })
+    (record { frequencies = frequencies; longitudes = longitudes; increases = increases; mains = mains; shallows = shallows })

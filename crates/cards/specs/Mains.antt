@@ -28,7 +28,7 @@ mainCard names places satellites line = do
   phase ← number line mainPhaseField
   count ← number line satelliteCountField
   cond (ltb 256 (satellites + natAbs count)) (bad 6)
-    (good (record { main = record { place = place; doodson = doodson; phase = phase; satellites = [] }; count = natAbs count }))
+      (good (record { main = record { place = place; doodson = doodson; phase = phase; satellites = [] }; count = natAbs count }))
 
 -- "64 mains"
 unfoldable pub nextMain : List (List ℕ) → List ℕ → ℕ → List ℕ → Next MainCard
@@ -65,13 +65,13 @@ unfoldable mutual
   mainsFrom names (line ∷ lines) n mains satellites =
       onwardOrEnd (nextMain names (mainPlaces mains) satellites line) n (given mains lines (n + 1))
       (λ c. cond (eqb (c .count) 0)
-        (mainsFrom names lines (n + 1) (mains ++ (c .main ∷ [])) satellites)
-        (satellitesFrom names lines (n + 1) mains satellites (c .main) (c .count)))
+      (mainsFrom names lines (n + 1) (mains ++ (c .main ∷ [])) satellites)
+      (satellitesFrom names lines (n + 1) mains satellites (c .main) (c .count)))
 
   pub satellitesFrom : List (List ℕ) → List (List ℕ) → ℕ → List Main → ℕ → Main → ℕ → Reading (List Main)
   satellitesFrom names [] n mains satellites m count = refused 7 n
   satellitesFrom names (line ∷ lines) n mains satellites m count =
       onward (satelliteCard count line) n
       (λ more. cond (leb count 3)
-        (mainsFrom names lines (n + 1) (mains ++ (withMore m more ∷ [])) (satellites + min count 3))
-        (satellitesFrom names lines (n + 1) mains (satellites + 3) (withMore m more) (count - 3)))
+      (mainsFrom names lines (n + 1) (mains ++ (withMore m more ∷ [])) (satellites + min count 3))
+      (satellitesFrom names lines (n + 1) mains (satellites + 3) (withMore m more) (count - 3)))

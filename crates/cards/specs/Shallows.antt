@@ -17,8 +17,8 @@ use Rattle.cards.specs.Card.{Card, good, bad, _>>=_, number, placeFound,
 unfoldable pub coefficient : ℕ → ℤ → Card ℤ
 coefficient sizes hundredths =
     cond (eqb (natAbs hundredths) 0 || not (eqb (natAbs (remZ hundredths (pos 100))) 0) || ltb 12 (sizes + natAbs (quotZ hundredths (pos 100))))
-      (bad 3)
-      (good (quotZ hundredths (pos 100)))
+    (bad 3)
+    (good (quotZ hundredths (pos 100)))
 
 -- where a place stands first among the mains' places, which have positions k and up: "5 part not a main"
 unfoldable pub mainAt : ℕ → List ℕ → ℕ → Card ℕ

@@ -11,9 +11,13 @@ ghost use Rattle.table.specs.View.{listed, frequencyOf};
 ghost use Rattle.cards.specs.Frequencies.{frequencyCard, nextFrequency, frequenciesFrom};
 ghost use Rattle.cards.specs.Answers.{frequencyRead, frequencyGives, readingGives, Within};
 use crate::Refusal;
-use crate::lines::{Progress, line_at, next_line};
-use crate::numbers::{Natural, natural_field};
-use crate::opening::{Opening, begins};
+use crate::lines::Progress;
+use crate::lines::line_at;
+use crate::lines::next_line;
+use crate::numbers::Natural;
+use crate::numbers::natural_field;
+use crate::opening::Opening;
+use crate::opening::begins;
 
 // What the next card of part 1 comes to: the part's end, a frequency, or a refusal.
 pub enum FrequencyStep {
@@ -32,7 +36,14 @@ fn frequency_fields(line: &[u8], names: &[u8], count: usize) -> Natural
     }
     match columns::find_name(name, names, count) {
         columns::Found::At(_) => Natural::Bad(Refusal::Name),
-        columns::Found::Nothing => natural_field(line, 12, 13, fields::Format::Fixed(10), 0, 4999999999),
+        columns::Found::Nothing => natural_field(
+            line,
+            12,
+            13,
+            fields::Format::Fixed(10),
+            0,
+            4999999999,
+        ),
     }
 }
 
@@ -85,19 +96,34 @@ pub fn read_frequencies(file: &[u8]) -> Frequencies
         let next = next_line(file, at);
         match frequency_card(line, &names, count) {
             FrequencyStep::Ends => {
-                return Frequencies { progress: Progress::Reached(next, n + 1), count: count, names: names, speeds: speeds };
+                return Frequencies {
+                    progress: Progress::Reached(next, n + 1),
+                    count: count,
+                    names: names,
+                    speeds: speeds,
+                };
             }
             FrequencyStep::Gives(v) => {
                 put_name(&mut names, count, line, 4);
                 speeds[count] = v;
             }
             FrequencyStep::Fails(r) => {
-                return Frequencies { progress: Progress::Refused(r, n), count: count, names: names, speeds: speeds };
+                return Frequencies {
+                    progress: Progress::Refused(r, n),
+                    count: count,
+                    names: names,
+                    speeds: speeds,
+                };
             }
         }
         count = count + 1;
         at = next;
         n = n + 1;
     }
-    Frequencies { progress: Progress::Refused(Refusal::Ended, n), count: count, names: names, speeds: speeds }
+    Frequencies {
+        progress: Progress::Refused(Refusal::Ended, n),
+        count: count,
+        names: names,
+        speeds: speeds,
+    }
 }

@@ -29,7 +29,13 @@ pub enum Fault {
 }
 
 // The number in a field with the range -`most` to `most`.
-pub fn small_field(line: &[u8], from: usize, width: usize, format: fields::Format, most: u8) -> Small
+pub fn small_field(
+    line: &[u8],
+    from: usize,
+    width: usize,
+    format: fields::Format,
+    most: u8,
+) -> Small
     requires { ⌜ most ≤ 127 ⌝ }
     ensures { λ r. ⌜ smallGives r ≡ number (now (line .entry)) (within most from width format) ⌝ }
 {
@@ -42,7 +48,14 @@ pub fn small_field(line: &[u8], from: usize, width: usize, format: fields::Forma
 }
 
 // The number in a field with the range `least` to `most`.
-pub fn natural_field(line: &[u8], from: usize, width: usize, format: fields::Format, least: u64, most: u64) -> Natural
+pub fn natural_field(
+    line: &[u8],
+    from: usize,
+    width: usize,
+    format: fields::Format,
+    least: u64,
+    most: u64,
+) -> Natural
     requires { ⌜ (least < 2 ^ 63) × (most < 2 ^ 63) ⌝ }
     ensures { λ r. ⌜ naturalGives r ≡ number (now (line .entry)) (field from width format (pos least) (pos most)) ⌝ }
     ensures { λ r. ⌜ NaturalWithin r most ⌝ }
@@ -74,11 +87,17 @@ pub fn small_row(line: &[u8], from: usize, count: usize, most: u8) -> SmallRow
                 k = k + 1;
             }
             Small::Bad(r) => {
-                return SmallRow { fault: Fault::Bad(r), values: values };
+                return SmallRow {
+                    fault: Fault::Bad(r),
+                    values: values,
+                };
             }
         }
     }
-    SmallRow { fault: Fault::Clear, values: values }
+    SmallRow {
+        fault: Fault::Clear,
+        values: values,
+    }
 }
 
 // Five numbers that are not below 0.
@@ -101,9 +120,15 @@ pub fn five_card(line: &[u8], most: u64) -> Five
                 k = k + 1;
             }
             Natural::Bad(r) => {
-                return Five { fault: Fault::Bad(r), values: values };
+                return Five {
+                    fault: Fault::Bad(r),
+                    values: values,
+                };
             }
         }
     }
-    Five { fault: Fault::Clear, values: values }
+    Five {
+        fault: Fault::Clear,
+        values: values,
+    }
 }

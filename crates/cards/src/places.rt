@@ -61,7 +61,14 @@ pub fn main_at(place: u16, cards: &[u16], count: usize) -> Place
 }
 
 // The main with the name in five columns of the line, by its position.
-pub fn main_named(line: &[u8], from: usize, names: &[u8], frequencies: usize, cards: &[u16], mains: usize) -> Place
+pub fn main_named(
+    line: &[u8],
+    from: usize,
+    names: &[u8],
+    frequencies: usize,
+    cards: &[u16],
+    mains: usize,
+) -> Place
     requires { ⌜ (frequencies ≤ 160) × (mains ≤ 160) ⌝ }
     ensures { λ r. ⌜ placeGives r ≡ mainNamed (namesFrom (now (names .entry)) 0 frequencies) (placesIn 3 (now (cards .entry)) mains) (columns (now (line .entry)) from 5) ⌝ }
 {

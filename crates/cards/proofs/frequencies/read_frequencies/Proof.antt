@@ -122,10 +122,15 @@ loop-again c =
     let v = c .before .before .before .v .given .0 .0 in
     let room : s .loop .count < 160 = frequency-room (s .loop .names) line (s .loop .count) _ (sym (c .before .before .before .before .before .frequency-card .ensures) ∙ ap (frequencyGives line) (c .before .before .before .v .given .1)) in
     let put : c .put-name .last .0 ≡ sets (s .loop .names) (5 * s .loop .count) (columns line 4 5) = c .put-name .ensures in
-    let len : length (s .loop .names) ≡ 800 = s .loop .inv .3 in
-    (omega arith, omega arith, omega arith, ap length put ∙ length-sets (s .loop .names) (5 * s .loop .count) (columns line 4 5) ∙ len, search needs,
-    rw (put, frequency-put (s .loop .names) (s .loop .speeds) (columns line 4 5) v (s .loop .count) (length-padded 32 line 4 5) (omega arith) (omega arith))
-    (rw (frequencies-step (a .file .now) (s .loop .at) (s .loop .n) (s .loop .names) (s .loop .speeds) (s .loop .count) (next .result) line (c .before .before .before .before .before .frequency-card .result) (c .before .before .before .before .before .before .before .before .before .loop-test .taken) (c .before .before .before .before .before .before .before .before .line-at .ensures) (next .ensures .2) (c .before .before .before .before .before .frequency-card .ensures), c .before .before .before .v .given .1) at (s .loop .inv .5)))
+    let len : length (s .loop .names) ≡ 800 = s .loop .inv .3 in (
+      omega arith,
+      omega arith,
+      omega arith,
+      ap length put ∙ length-sets (s .loop .names) (5 * s .loop .count) (columns line 4 5) ∙ len,
+      search needs,
+      rw (put, frequency-put (s .loop .names) (s .loop .speeds) (columns line 4 5) v (s .loop .count) (length-padded 32 line 4 5) (omega arith) (omega arith))
+          (rw (frequencies-step (a .file .now) (s .loop .at) (s .loop .n) (s .loop .names) (s .loop .speeds) (s .loop .count) (next .result) line (c .before .before .before .before .before .frequency-card .result) (c .before .before .before .before .before .before .before .before .before .loop-test .taken) (c .before .before .before .before .before .before .before .before .line-at .ensures) (next .ensures .2) (c .before .before .before .before .before .frequency-card .ensures), c .before .before .before .v .given .1) at (s .loop .inv .5)),
+    )
 
 -- src/frequencies.rt:74:1
 returns-3 : tie.Need-returns-3 Inv-loop μ-loop
