@@ -1,12 +1,13 @@
 -- What the code's answers stand for in 01's terms.
 use Prim.Native.Nat.{ℕ, _+_, _*_, _≤_}
-use mathlib.Core.List.{List}
-use lib.ListN.{length, getD, drop}
+use mathlib.Core.List.{List, []}
+use lib.ListN.{length, getD, take, drop}
 use lib.IntN.{ℤ, pos}
 use Rattle.table.specs.View.{listed}
 use Rattle.columns.specs.Columns.{columns}
 use Rattle.columns.specs.Lines.{linesOf}
 use Rattle.table.specs.Table.{Frequency}
+use Rattle.cards.specs.Mains.{MainCard}
 use Rattle.cards.specs.Formats.{frequencyName}
 use Rattle.cards.specs.Card.{Card, good, bad, Next, ends, gives, fails, Reading, given, refused}
 use Rattle.cards.specs.Card as card
@@ -24,6 +25,9 @@ use Rattle.cards.specs.declared.opening.Opening.{Opening}
 use Rattle.cards.specs.declared.opening.Opening.the-variants as opening
 use Rattle.cards.specs.declared.frequencies.FrequencyStep.{FrequencyStep}
 use Rattle.cards.specs.declared.frequencies.FrequencyStep.the-variants as frequency
+use Rattle.cards.specs.declared.mains.MainStep.{MainStep}
+use Rattle.cards.specs.declared.mains.MainStep.the-variants as main
+use Rattle.cards.specs.declared.mains.MainRead.{MainRead}
 use Rattle.cards.specs.declared.places.Place.{Place}
 use Rattle.cards.specs.declared.places.Place.the-variants as place
 
@@ -91,3 +95,13 @@ readingGives file (Refused r n) a = refused (numberOf r) n
 abbrev pub Within : List ℕ → Progress → Type 0
 Within file (Reached at n) = (at ≤ length file) × (n ≤ at + 1)
 Within file (Refused r n) = Unit
+
+-- a constituent card: the main with a place, and a row of six Doodson numbers and the phase
+abbrev pub mainStepGives : MainStep → ℕ → List ℤ → Next MainCard
+mainStepGives main.Ends place angles = ends
+mainStepGives (main.Gives count) place angles =
+    gives (record { main = record { place = place; doodson = take 6 angles; phase = getD angles 6 (pos 0); satellites = [] }; count = count })
+mainStepGives (main.Fails r) place angles = fails (numberOf r)
+
+abbrev pub mainGives : MainRead → Next MainCard
+mainGives m = mainStepGives (m .step) (m .place) (m .angles)

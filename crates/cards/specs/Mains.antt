@@ -4,7 +4,7 @@ use mathlib.Core.List.{List, [], _∷_, _++_, map}
 use mathlib.Core.Bool.{cond}
 use lib.Dec.{leb, ltb, eqb}
 use lib.ListN.{length}
-use lib.IntN.{natAbs}
+use lib.IntN.{ℤ, natAbs}
 use Rattle.columns.specs.Columns.{column, columns}
 use Rattle.table.specs.Table.{markOf, Satellite, Main}
 use Rattle.cards.specs.Formats.{mainName, doodsonField, mainPhaseField, satelliteCountField, satelliteColumn, differenceField, satellitePhaseField, ratioField, markColumn}
@@ -19,16 +19,25 @@ pub record MainCard : Type 0 where
   pub main : Main
   pub count : ℕ
 
--- a constituent card, after mains with these places and so many satellites in all: name; six Doodson numbers; phase; satellite count;
--- "a satellite count that passes 256 in all is 6 after its own 3". The names are those of part 1.
-unfoldable pub mainCard : List (List ℕ) → List ℕ → ℕ → List ℕ → Card MainCard
-mainCard names places satellites line = do
-  place ← newPlace names places (columns line mainName 5)
+-- the main with these numbers, after so many satellites in all: "a satellite count that passes 256 in all is 6 after its own 3"
+unfoldable pub mainMade : ℕ → List ℤ → ℤ → ℤ → ℕ → Card MainCard
+mainMade place doodson phase count satellites =
+    cond (ltb 256 (satellites + natAbs count)) (bad 6)
+      (good (record { main = record { place = place; doodson = doodson; phase = phase; satellites = [] }; count = natAbs count }))
+
+-- the numbers of a constituent card: six Doodson numbers; phase; satellite count
+unfoldable pub mainNumbers : ℕ → ℕ → List ℕ → Card MainCard
+mainNumbers place satellites line = do
   doodson ← numbers line doodsonField 6
   phase ← number line mainPhaseField
   count ← number line satelliteCountField
-  cond (ltb 256 (satellites + natAbs count)) (bad 6)
-      (good (record { main = record { place = place; doodson = doodson; phase = phase; satellites = [] }; count = natAbs count }))
+  mainMade place doodson phase count satellites
+
+-- a constituent card, after mains with these places and so many satellites in all: name, and the numbers. The names are those of part 1.
+unfoldable pub mainCard : List (List ℕ) → List ℕ → ℕ → List ℕ → Card MainCard
+mainCard names places satellites line = do
+  place ← newPlace names places (columns line mainName 5)
+  mainNumbers place satellites line
 
 -- "64 mains"
 unfoldable pub nextMain : List (List ℕ) → List ℕ → ℕ → List ℕ → Next MainCard

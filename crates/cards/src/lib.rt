@@ -1,6 +1,8 @@
 // The card file: its reader, with refusals 1 to 7.
 mod frequencies;
 mod lines;
+mod longitudes;
+mod mains;
 mod numbers;
 mod opening;
 mod places;
