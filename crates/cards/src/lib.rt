@@ -1,11 +1,11 @@
 // The card file: its reader, with refusals 1 to 7.
-mod frequencies;
-mod lines;
-mod longitudes;
-mod mains;
-mod numbers;
-mod opening;
-mod places;
+pub mod frequencies;
+pub mod lines;
+pub mod longitudes;
+pub mod mains;
+pub mod numbers;
+pub mod opening;
+pub mod places;
 
 // 01's refusals of a card file, in the order of its table.
 pub enum Refusal {
