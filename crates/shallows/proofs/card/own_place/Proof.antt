@@ -5,6 +5,9 @@ use Rattle.shallows.proofs.card.own_place.Reads as reads
 use Rattle.shallows.proofs.card.own_place.Lts as lts
 use Rattle.cards.proofs.places.is_among.Reads as is-among-reads
 use Rattle.cards.proofs.places.place_named.Reads as place-named-reads
+use mathlib.Core.Path.{_≡_, refl, sym, ap, _∙_}
+use Rattle.cards.specs.Card.{newPlace}
+use Rattle.cards.proofs.Defined.{among-both}
 
 -- src/card.rt:29:11
 place-named-requires : tie.Need-place-named-requires
@@ -20,7 +23,8 @@ is-among-requires c κs = search needs
 
 -- src/card.rt:32:17
 returns : tie.Need-returns
-returns c = ?
+unfolding newPlace
+returns c = rw (← c .before .before .before .before .before .place-named .ensures, c .before .before .before .place .given .1, among-both, ← c .before .is-among .ensures, c .if1 .taken)
 
 -- src/card.rt:34:16
 is-among-requires-2 : tie.Need-is-among-requires-2
@@ -28,7 +32,8 @@ is-among-requires-2 c κs = search needs
 
 -- src/card.rt:35:17
 returns-2 : tie.Need-returns-2
-returns-2 c = ?
+unfolding newPlace
+returns-2 c = rw (← c .before .before .before .before .before .before .before .place-named .ensures, c .before .before .before .before .before .place .given .1, among-both, ← c .before .before .before .is-among .ensures, c .before .before .if1 .left, ← c .before .is-among2 .ensures, c .if2 .taken)
 
 -- src/card.rt:39:20
 enum-known-r : tie.Need-enum-known-r
@@ -36,11 +41,13 @@ enum-known-r c = search needs
 
 -- src/card.rt:25:1
 returns-3 : tie.Need-returns-3
-returns-3 c = ?
+unfolding newPlace
+returns-3 c = rw (← c .before .before .before .before .before .before .before .place-named .ensures, c .before .before .before .before .before .place .given .1, among-both, ← c .before .before .before .is-among .ensures, c .before .before .if1 .left, ← c .before .is-among2 .ensures, c .if2 .left)
 
 -- src/card.rt:25:1
 returns-4 : tie.Need-returns-4
-returns-4 c = ?
+unfolding newPlace
+returns-4 c = rw (← c .before .before .before .place-named .ensures, c .before .r .given .1)
 
 pub own-place-spec : {M : Type 1} → statement M
 own-place-spec =

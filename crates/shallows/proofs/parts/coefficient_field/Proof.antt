@@ -5,6 +5,19 @@ use Rattle.shallows.proofs.parts.coefficient_field.Reads as reads
 use Rattle.shallows.proofs.parts.coefficient_field.Lts as lts
 use Rattle.fields.proofs.ranged_field.Reads as ranged-field-reads
 use Rattle.shallows.proofs.parts.whole_coefficient.Reads as whole-coefficient-reads
+use mathlib.Core.Path.{_≡_, refl, sym, ap, _∙_}
+use lib.IntN.{pos, negℤ}
+use mir.Syntax.{w64}
+use mir.Val.{SFits}
+use mir.ValLaws.{toZ-ofZ}
+use native.Mathlib.Omega.{arith}
+use Rattle.columns.specs.Columns.{columns}
+use Rattle.fields.specs.Number.{numberOf, inRange}
+use Rattle.fields.specs.declared.Field.the-variants.{Value, Malformed, OutOfRange}
+use Rattle.fields.specs.declared.Format.the-variants.{Fixed}
+use Rattle.cards.specs.Formats.{coefficientField}
+use Rattle.cards.proofs.Ranges.{ranged-within, number-is}
+use Rattle.shallows.proofs.Coefficients.{hundredths-size}
 
 -- src/parts.rt:48:11
 ranged-field-requires : tie.Need-ranged-field-requires
@@ -16,7 +29,12 @@ enum-known-v c = search needs
 
 -- src/parts.rt:49:36
 whole-coefficient-requires : tie.Need-whole-coefficient-requires
-whole-coefficient-requires c κs = ?
+whole-coefficient-requires c κs =
+    let a = c .before .before .before .before .before .args in
+    let v = c .before .v .given .0 .0 in
+    let f : SFits w64 v = search needs in
+    let e : Value v ≡ inRange (negℤ (pos 900)) (pos 900) (numberOf (Fixed 2) (columns (a .line .now) (a .at) 5)) = sym (c .before .v .given .1) ∙ c .before .before .before .ranged-field .ensures in
+    rw (toZ-ofZ w64 v f) (hundredths-size v (ranged-within (negℤ (pos 900)) (pos 900) v _ e), c .before .before .before .before .before .pre)
 
 -- src/parts.rt:50:48
 enum-told : tie.Need-enum-told
@@ -28,15 +46,24 @@ enum-told-2 c = search needs
 
 -- src/parts.rt:44:1
 returns : tie.Need-returns
-returns c = ?
+returns c =
+    let a = c .before .before .before .before .before .before .args in
+    let v = c .before .before .v .given .0 .0 in
+    let f : SFits w64 v = search needs in
+    let e : Value v ≡ inRange (negℤ (pos 900)) (pos 900) (numberOf (Fixed 2) (columns (a .line .now) (a .at) 5)) = sym (c .before .before .v .given .1) ∙ c .before .before .before .before .ranged-field .ensures in
+    rw (← number-is (a .line .now) (coefficientField (a .at)) (Value v) e) (rw (toZ-ofZ w64 v f) at (c .whole-coefficient .ensures))
 
 -- src/parts.rt:44:1
 returns-2 : tie.Need-returns-2
-returns-2 c = ?
+returns-2 c =
+    let a = c .before .before .before .before .args in
+    rw (← number-is (a .line .now) (coefficientField (a .at)) Malformed (sym (c .enum-told .given .1) ∙ c .before .before .ranged-field .ensures))
 
 -- src/parts.rt:44:1
 returns-3 : tie.Need-returns-3
-returns-3 c = ?
+returns-3 c =
+    let a = c .before .before .before .before .args in
+    rw (← number-is (a .line .now) (coefficientField (a .at)) OutOfRange (sym (c .enum-told2 .given .1) ∙ c .before .before .ranged-field .ensures))
 
 pub coefficient-field-spec : {M : Type 1} → statement M
 coefficient-field-spec =

@@ -5,6 +5,11 @@ use Rattle.shallows.proofs.parts.part.Reads as reads
 use Rattle.shallows.proofs.parts.part.Lts as lts
 use Rattle.cards.proofs.places.main_named.Reads as main-named-reads
 use Rattle.shallows.proofs.parts.coefficient_field.Reads as coefficient-field-reads
+use mathlib.Core.Path.{_≡_, refl, sym, ap, _∙_}
+use mir.Syntax.{w8}
+use mir.Val.{SFits}
+use mir.ValLaws.{toZ-ofZ}
+use Rattle.shallows.proofs.Coefficients.{part-is}
 
 -- src/parts.rt:66:19
 mul-at : tie.Need-mul-at
@@ -44,15 +49,18 @@ enum-known-r-2 c = search needs
 
 -- src/parts.rt:62:1
 returns : tie.Need-returns
-returns c = ?
+returns c =
+    let v = c .before .before .before .before .before .c .given .0 .0 in
+    let f : SFits w8 v = search needs in
+    rw (part-is, ← c .before .before .before .before .before .before .before .coefficient-field .ensures, c .before .before .before .before .before .c .given .1, ← c .before .before .before .main-named .ensures, c .before .m .given .1, toZ-ofZ w8 v f)
 
 -- src/parts.rt:62:1
 returns-2 : tie.Need-returns-2
-returns-2 c = ?
+returns-2 c = rw (part-is, ← c .before .before .before .before .before .before .before .coefficient-field .ensures, c .before .before .before .before .before .c .given .1, ← c .before .before .before .main-named .ensures, c .before .r .given .1)
 
 -- src/parts.rt:62:1
 returns-3 : tie.Need-returns-3
-returns-3 c = ?
+returns-3 c = rw (part-is, ← c .before .before .before .coefficient-field .ensures, c .before .r2 .given .1)
 
 pub part-spec : {M : Type 1} → statement M
 part-spec =
