@@ -4,50 +4,83 @@ use Rattle.shallows.proofs.parts.parts_on.Reads as reads
 use Rattle.shallows.proofs.parts.parts_on.Lts as lts
 use Rattle.shallows.proofs.parts.part.Reads as part-reads
 use Rattle.shallows.proofs.parts.size.Reads as size-reads
+use borrow.Author.Needs.{needs}
+use mathlib.Core.Path.{_≡_, refl, sym, ap, _∙_}
+use mathlib.Core.List.{List, [], _∷_, _++_}
+use Prim.Native.Nat.{ℕ, _+_, _-_, _≤_, _<_}
+use native.Mathlib.Omega.{arith}
+use native.Mathlib.Nat.{sub-zero}
+use lib.IntN.{ℤ, natAbs}
+use lib.ListN.{length, getD, set, length-set}
+use lib.Seq.{getD-set-other}
+use mir.Syntax.{w8, w64}
+use mir.Val.{SFits}
+use mir.ValLaws.{toZ-ofZ}
+use mir.Facts.{sfits-widen}
+use Rattle.columns.specs.Names.{namesFrom}
+use Rattle.table.specs.View.{listed, partOf}
+use Rattle.cards.specs.Card.{good}
+use Rattle.cards.specs.Formats.{partColumn}
+use Rattle.cards.specs.Shallows as shallows
+use Rattle.cards.specs.Shallows.{partsOn}
+use Rattle.cards.specs.Answers.{placesIn}
+use Rattle.shallows.specs.Answers.{partGives}
+use Rattle.shallows.proofs.PartLaws.{parts-more, parts-none, part-sizes, part-put}
 
 abbrev Inv-loop : tie.InvT-loop
 Inv-loop line place count names frequencies maincards mains card₀ coefficients₀ sizes₀ j₀ end card coefficients sizes j =
-    ?
+    (j ≤ count) × (sizes ≤ 12) × (length card ≡ 6) × (length coefficients ≡ 4) × (getD card 0 0 ≡ place) × (getD card 1 0 ≡ count)
+    × (partsOn (namesFrom names 0 frequencies) (placesIn 3 maincards mains) line (listed (partOf card coefficients) 0 j) sizes j (count - j) ≡ partsOn (namesFrom names 0 frequencies) (placesIn 3 maincards mains) line [] 0 0 count)
 
 abbrev μ-loop : tie.MeasureT-loop
 μ-loop line place count names frequencies maincards mains card₀ coefficients₀ sizes₀ j₀ end card coefficients sizes j =
-    ?
+    count - j
 
 -- src/parts.rt:100:5
 loop-holds : tie.Need-loop-holds Inv-loop μ-loop
-loop-holds c = ?
+unfolding listed
+loop-holds c = (omega arith, omega arith, refl, refl, refl, refl, rw (sub-zero (c .before .before .before .args .count)))
 
 -- src/parts.rt:101:15
 part-requires : tie.Need-part-requires Inv-loop μ-loop
-part-requires c κs = ?
+part-requires c κs = search needs
 
 -- src/parts.rt:102:29
 enum-known-c : tie.Need-enum-known-c Inv-loop μ-loop
-enum-known-c c = ?
+enum-known-c c = search needs
 
 -- src/parts.rt:103:22
 add-card : tie.Need-add-card Inv-loop μ-loop
-add-card c = ?
+add-card c = search needs
 
 -- src/parts.rt:103:17
 mul-card : tie.Need-mul-card Inv-loop μ-loop
-mul-card c = ?
+mul-card c = search needs
 
 -- src/parts.rt:103:17
 array-write-card : tie.Need-array-write-card Inv-loop μ-loop
-array-write-card c = ?
+array-write-card c = search needs
 
 -- src/parts.rt:104:17
 array-set-from-coefficients : tie.Need-array-set-from-coefficients Inv-loop μ-loop
-array-set-from-coefficients c = ?
+array-set-from-coefficients c = search needs
 
 -- src/parts.rt:105:38
 cast-size : tie.Need-cast-size Inv-loop μ-loop
-cast-size c = ?
+cast-size c =
+    let v = c .before .c .given .0 .0 in
+    let f : SFits w8 v = search needs in
+    rw (toZ-ofZ w8 v f) (sfits-widen tt f)
 
 -- src/parts.rt:105:33
 size-requires : tie.Need-size-requires Inv-loop μ-loop
-size-requires c κs = ?
+size-requires c κs =
+    let s = c .before .before .before .before .before in
+    let a = s .before .before .before .before .args in
+    let v = c .before .c .given .0 .0 in
+    let f : SFits w8 v = search needs in
+    let g : SFits w64 v = sfits-widen tt f in
+    rw (toZ-ofZ w8 v f, toZ-ofZ w64 v g) (omega (arith, part-sizes (namesFrom (a .names .now) 0 (a .frequencies)) (placesIn 3 (a .maincards .now) (a .mains)) (a .line .now) (s .loop .sizes) (partColumn (s .loop .j)) _ (sym (ap partGives (c .before .c .given .1)) ∙ c .before .before .before .part .ensures)))
 
 -- src/parts.rt:105:25
 add-sizes : tie.Need-add-sizes Inv-loop μ-loop
@@ -55,11 +88,11 @@ add-sizes c = ?
 
 -- src/parts.rt:106:21
 add-j : tie.Need-add-j Inv-loop μ-loop
-add-j c = ?
+add-j c = search needs
 
 -- src/parts.rt:100:5
 loop-less : tie.Need-loop-less Inv-loop μ-loop
-loop-less c = ?
+loop-less c = search needs
 
 -- src/parts.rt:100:5
 loop-again : tie.Need-loop-again Inv-loop μ-loop
@@ -67,11 +100,14 @@ loop-again c = ?
 
 -- src/parts.rt:108:27
 enum-known-r : tie.Need-enum-known-r Inv-loop μ-loop
-enum-known-r c = ?
+enum-known-r c = search needs
 
 -- src/parts.rt:109:17
 returns : tie.Need-returns Inv-loop μ-loop
-returns c = ?
+returns c =
+    let s = c .before .before .before .before .before in
+    let a = s .before .before .before .before .args in
+    ?
 
 -- src/parts.rt:91:1
 returns-2 : tie.Need-returns-2 Inv-loop μ-loop
