@@ -16,6 +16,9 @@ use Rattle.cards.specs.Formats.{partColumn, coefficientField, partName}
 use Rattle.cards.specs.Card.{Card, good, bad, _>>=_, number}
 use Rattle.cards.specs.Shallows as shallows
 use Rattle.cards.specs.Shallows.{coefficient, mainNamed, partsOn}
+use Rattle.shallows.specs.declared.parts.PartRead.{PartRead}
+use Rattle.shallows.specs.declared.parts.PartRead.the-variants.{Gives}
+use Rattle.shallows.specs.Answers.{partGives}
 use Rattle.shallows.proofs.Coefficients.{coefficient-sizes}
 
 module _ (names : List (List ℕ)) (mains : List ℕ) (line : List ℕ) where
@@ -49,6 +52,10 @@ module _ (names : List (List ℕ)) (mains : List ℕ) (line : List ℕ) where
       from : (h : Card ℤ) → good p ≡ (h >>= λ x. coefficient sizes x >>= rest) → sizes + natAbs (p .coefficient) ≤ 12
       from (good x) q = with-coefficient x (coefficient sizes x) refl q
       from (bad r) q = let z : _≡_ {A = ℕ} 0 1 = cc in absurd (omega arith)
+
+  -- and so does one that the code has read
+  pub read-sizes : (sizes at : ℕ) (r : PartRead) (c : ℤ) (m : ℕ) → r ≡ Gives c m → partGives r ≡ shallows.part names mains sizes line at → sizes + natAbs c ≤ 12
+  read-sizes sizes at r c m told is = part-sizes sizes at (record { coefficient = c; main = m }) (rw told at is)
 
 -- a part stored in the rows is the last of them
 pub part-put : (card : List ℕ) (coefficients : List ℤ) (c : ℤ) (m j : ℕ) → 2 + j < length card → j < length coefficients

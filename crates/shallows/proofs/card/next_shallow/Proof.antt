@@ -6,6 +6,11 @@ use Rattle.shallows.proofs.card.next_shallow.Lts as lts
 use Rattle.cards.proofs.opening.begins.Reads as begins-reads
 use Rattle.shallows.proofs.card.failed.Reads as failed-reads
 use Rattle.shallows.proofs.card.shallow_card.Reads as shallow-card-reads
+use mathlib.Core.Path.{_≡_, refl, sym, ap, _∙_}
+use Prim.Native.Nat.{_*_}
+use lib.ListN.{getD}
+use Rattle.table.proofs.Rows.{listed-length}
+use Rattle.cards.specs.Shallows.{nextShallow}
 
 -- src/card.rt:62:11
 begins-requires : tie.Need-begins-requires
@@ -33,15 +38,18 @@ failed-requires c κs = search needs
 
 -- src/card.rt:58:1
 returns : tie.Need-returns
-returns c = ?
+unfolding nextShallow
+returns c = let a = c .before .before .before .before .before .before .before .args in rw (listed-length (λ i. getD (a .cards .now) (6 * i) 0) 0 (a .count), ← c .before .before .begins .ensures, c .enum-told .given .1)
 
 -- src/card.rt:58:1
 returns-2 : tie.Need-returns-2
-returns-2 c = ?
+unfolding nextShallow
+returns-2 c = let a = c .before .before .before .before .before .before .before .before .args in rw (listed-length (λ i. getD (a .cards .now) (6 * i) 0) 0 (a .count), ← c .before .before .before .begins .ensures, c .before .enum-told2 .given .1) (c .shallow-card .ensures)
 
 -- src/card.rt:58:1
 returns-3 : tie.Need-returns-3
-returns-3 c = ?
+unfolding nextShallow
+returns-3 c = let a = c .before .before .before .before .before .before .before .before .before .args in rw (listed-length (λ i. getD (a .cards .now) (6 * i) 0) 0 (a .count), ← c .before .before .before .before .begins .ensures, c .before .before .r .given .1) (c .failed .ensures)
 
 pub next-shallow-spec : {M : Type 1} → statement M
 next-shallow-spec =

@@ -7,6 +7,10 @@ use Rattle.cards.proofs.numbers.natural_field.Reads as natural-field-reads
 use Rattle.shallows.proofs.card.failed.Reads as failed-reads
 use Rattle.shallows.proofs.card.own_place.Reads as own-place-reads
 use Rattle.shallows.proofs.parts.parts_on.Reads as parts-on-reads
+use mathlib.Core.Path.{_≡_, refl, sym, ap, _∙_}
+use Prim.Native.Nat.{_≤_}
+use native.Mathlib.Omega.{arith}
+use Rattle.cards.specs.Shallows.{shallowCard}
 
 -- src/card.rt:48:11
 own-place-requires : tie.Need-own-place-requires
@@ -26,11 +30,15 @@ enum-known-parts c = search needs
 
 -- src/card.rt:50:60
 cast-parts-on : tie.Need-cast-parts-on
-cast-parts-on c = ?
+cast-parts-on c =
+    let few : c .before .parts .given .0 .0 ≤ 4 = rw (c .before .parts .given .1) at (c .before .before .before .natural-field .ensures .1) in
+    search needs
 
 -- src/card.rt:50:38
 parts-on-requires : tie.Need-parts-on-requires
-parts-on-requires c κs = ?
+parts-on-requires c κs =
+    let few : c .before .parts .given .0 .0 ≤ 4 = rw (c .before .parts .given .1) at (c .before .before .before .natural-field .ensures .1) in
+    (few, c .before .before .before .before .before .before .before .before .before .before .before .before .pre .0, c .before .before .before .before .before .before .before .before .before .before .before .before .pre .1)
 
 -- src/card.rt:51:26
 enum-known-r : tie.Need-enum-known-r
@@ -50,15 +58,18 @@ failed-requires-2 c κs = search needs
 
 -- src/card.rt:44:1
 returns : tie.Need-returns
-returns c = ?
+unfolding shallowCard
+returns c = rw (← c .before .before .before .before .before .before .before .before .own-place .ensures, c .before .before .before .before .before .before .place .given .1, ← c .before .before .before .before .natural-field .ensures .0, c .before .before .parts .given .1) (c .parts-on .ensures)
 
 -- src/card.rt:44:1
 returns-2 : tie.Need-returns-2
-returns-2 c = ?
+unfolding shallowCard
+returns-2 c = rw (← c .before .before .before .before .before .before .before .before .own-place .ensures, c .before .before .before .before .before .before .place .given .1, ← c .before .before .before .before .natural-field .ensures .0, c .before .before .r .given .1) (c .failed .ensures)
 
 -- src/card.rt:44:1
 returns-3 : tie.Need-returns-3
-returns-3 c = ?
+unfolding shallowCard
+returns-3 c = rw (← c .before .before .before .before .own-place .ensures, c .before .before .r2 .given .1) (c .failed2 .ensures)
 
 pub shallow-card-spec : {M : Type 1} → statement M
 shallow-card-spec =

@@ -25,7 +25,7 @@ use Rattle.cards.specs.Shallows as shallows
 use Rattle.cards.specs.Shallows.{partsOn}
 use Rattle.cards.specs.Answers.{placesIn}
 use Rattle.shallows.specs.Answers.{partGives}
-use Rattle.shallows.proofs.PartLaws.{parts-more, parts-none, part-sizes, part-put}
+use Rattle.shallows.proofs.PartLaws.{parts-more, parts-none, read-sizes, part-put}
 
 abbrev Inv-loop : tie.InvT-loop
 Inv-loop line place count names frequencies maincards mains card₀ coefficients₀ sizes₀ j₀ end card coefficients sizes j =
@@ -80,11 +80,20 @@ size-requires c κs =
     let v = c .before .c .given .0 .0 in
     let f : SFits w8 v = search needs in
     let g : SFits w64 v = sfits-widen tt f in
-    rw (toZ-ofZ w8 v f, toZ-ofZ w64 v g) (omega (arith, part-sizes (namesFrom (a .names .now) 0 (a .frequencies)) (placesIn 3 (a .maincards .now) (a .mains)) (a .line .now) (s .loop .sizes) (partColumn (s .loop .j)) _ (sym (ap partGives (c .before .c .given .1)) ∙ c .before .before .before .part .ensures)))
+    let within = read-sizes (namesFrom (a .names .now) 0 (a .frequencies)) (placesIn 3 (a .maincards .now) (a .mains)) (a .line .now) (s .loop .sizes) (partColumn (s .loop .j)) (c .before .before .before .part .result) v _ (c .before .c .given .1) (c .before .before .before .part .ensures) in
+    rw (toZ-ofZ w8 v f, toZ-ofZ w64 v g) (omega arith)
 
 -- src/parts.rt:105:25
 add-sizes : tie.Need-add-sizes Inv-loop μ-loop
-add-sizes c = ?
+add-sizes c =
+    let s = c .before .before .before .before .before .before in
+    let a = s .before .before .before .before .args in
+    let v = c .before .before .c .given .0 .0 in
+    let f : SFits w8 v = search needs in
+    let g : SFits w64 v = sfits-widen tt f in
+    let size : c .size .result ≡ natAbs v = rw (toZ-ofZ w8 v f, toZ-ofZ w64 v g) at (c .size .ensures) in
+    let within = read-sizes (namesFrom (a .names .now) 0 (a .frequencies)) (placesIn 3 (a .maincards .now) (a .mains)) (a .line .now) (s .loop .sizes) (partColumn (s .loop .j)) (c .before .before .before .before .part .result) v _ (c .before .before .c .given .1) (c .before .before .before .before .part .ensures) in
+    omega arith
 
 -- src/parts.rt:106:21
 add-j : tie.Need-add-j Inv-loop μ-loop
@@ -96,7 +105,26 @@ loop-less c = search needs
 
 -- src/parts.rt:100:5
 loop-again : tie.Need-loop-again Inv-loop μ-loop
-loop-again c = ?
+loop-again c =
+    let s = c .before .before .before .before .before .before in
+    let a = s .before .before .before .before .args in
+    let v = c .before .before .c .given .0 .0 in
+    let m = c .before .before .c .given .0 .1 .0 in
+    let f : SFits w8 v = search needs in
+    let g : SFits w64 v = sfits-widen tt f in
+    let size : c .size .result ≡ natAbs v = rw (toZ-ofZ w8 v f, toZ-ofZ w64 v g) at (c .size .ensures) in
+    let within = read-sizes (namesFrom (a .names .now) 0 (a .frequencies)) (placesIn 3 (a .maincards .now) (a .mains)) (a .line .now) (s .loop .sizes) (partColumn (s .loop .j)) (c .before .before .before .before .part .result) v m (c .before .before .c .given .1) (c .before .before .before .before .part .ensures) in
+    let wide : 2 + s .loop .j < length (s .loop .card) = omega arith in
+    let long : s .loop .j < length (s .loop .coefficients) = omega arith in (
+      omega arith,
+      omega arith,
+      search needs,
+      search needs,
+      getD-set-other (s .loop .card) (2 + s .loop .j) 0 m 0 (λ e. omega arith) ∙ s .loop .inv .4,
+      getD-set-other (s .loop .card) (2 + s .loop .j) 1 m 0 (λ e. omega arith) ∙ s .loop .inv .5,
+      rw (toZ-ofZ w8 v f, part-put (s .loop .card) (s .loop .coefficients) v m (s .loop .j) wide long, size)
+          (rw (parts-more (namesFrom (a .names .now) 0 (a .frequencies)) (placesIn 3 (a .maincards .now) (a .mains)) (a .line .now) (listed (partOf (s .loop .card) (s .loop .coefficients)) 0 (s .loop .j)) (s .loop .sizes) (s .loop .j) (a .count) (c .before .before .before .before .before .loop-test .taken), ← c .before .before .before .before .part .ensures, c .before .before .c .given .1) at (s .loop .inv .6)),
+    )
 
 -- src/parts.rt:108:27
 enum-known-r : tie.Need-enum-known-r Inv-loop μ-loop
@@ -107,11 +135,17 @@ returns : tie.Need-returns Inv-loop μ-loop
 returns c =
     let s = c .before .before .before .before .before in
     let a = s .before .before .before .before .args in
-    ?
+    let e = rw (parts-more (namesFrom (a .names .now) 0 (a .frequencies)) (placesIn 3 (a .maincards .now) (a .mains)) (a .line .now) (listed (partOf (s .loop .card) (s .loop .coefficients)) 0 (s .loop .j)) (s .loop .sizes) (s .loop .j) (a .count) (c .before .before .before .before .loop-test .taken), ← c .before .before .before .part .ensures, c .before .r .given .1) at (s .loop .inv .6) in
+    rw (← e)
 
 -- src/parts.rt:91:1
 returns-2 : tie.Need-returns-2 Inv-loop μ-loop
-returns-2 c = ?
+returns-2 c =
+    let s = c .before in
+    let a = s .before .before .before .before .args in
+    let all : a .count ≡ s .loop .j = omega arith in
+    let e = rw (parts-none (namesFrom (a .names .now) 0 (a .frequencies)) (placesIn 3 (a .maincards .now) (a .mains)) (a .line .now) (listed (partOf (s .loop .card) (s .loop .coefficients)) 0 (s .loop .j)) (s .loop .sizes) (s .loop .j) (a .count) (c .loop-test .left)) at (s .loop .inv .6) in
+    rw (← e, s .loop .inv .4, s .loop .inv .5 ∙ all)
 
 pub parts-on-spec : {M : Type 1} → statement M
 parts-on-spec =
