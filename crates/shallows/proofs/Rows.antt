@@ -9,15 +9,16 @@ use lib.IntN.{ℤ, pos}
 use lib.ListN.{length, getD, drop}
 use lib.Seq.{sets}
 use Rattle.columns.specs.Lines.{linesOf, firstLine, restLines}
-use Rattle.table.specs.Table.{Shallow}
 use Rattle.table.specs.View.{listed, rowOf, shallowOf}
 use Rattle.table.proofs.Rows.{listed-same, listed-one-more, listed-length, row-at, row-put, row-kept}
-use Rattle.cards.specs.Card.{gives, given, refused, onwardOrEnd}
+use Rattle.cards.specs.Card.{given, refused, onwardOrEnd}
 use Rattle.cards.specs.Shallows.{shallowPlaces, shallowCard, nextShallow, shallowsFrom}
 use Rattle.cards.specs.Answers.{placesIn}
 use Rattle.cards.proofs.Walk.{lines-here, lines-end}
 use Rattle.cards.proofs.Rows.{had-room}
-use Rattle.shallows.specs.Answers.{inRows, shallowGives}
+use Rattle.shallows.specs.Answers.{inRows, stepGives, shallowGives}
+use Rattle.shallows.specs.declared.parts.ShallowStep.{ShallowStep}
+use Rattle.shallows.specs.declared.parts.ShallowStep.the-variants.{Gives}
 use Rattle.shallows.specs.declared.parts.ShallowRead.{ShallowRead}
 
 -- a row begins with its place
@@ -27,11 +28,12 @@ places-of cards coefficients k zero = refl
 places-of cards coefficients k (suc n) =
     rw (row-at 0 6 cards k 0 (omega arith), add-zero (6 * k), places-of cards coefficients (suc k) n)
 
--- a shallow card that gives something had room
-pub shallow-room : (names : List (List ℕ)) (mains : List ℕ) (cards line : List ℕ) (n : ℕ) (s : Shallow) → nextShallow names mains (placesIn 6 cards n) line ≡ gives s → n < 128
+-- a card that gives a constituent had room
+pub shallow-room : (names : List (List ℕ)) (mains : List ℕ) (cards line : List ℕ) (n : ℕ) (r : ShallowRead) → r .step ≡ Gives → shallowGives r ≡ nextShallow names mains (placesIn 6 cards n) line → n < 128
 unfolding nextShallow
-shallow-room names mains cards line n s e =
-    rw (listed-length (λ i. getD cards (6 * i) 0) 0 n) at (had-room 128 (length (placesIn 6 cards n)) line (shallowCard names mains (placesIn 6 cards n) line) s e)
+shallow-room names mains cards line n r told card =
+    let e = sym card ∙ ap (λ (s : ShallowStep). stepGives s (inRows (r .card) (r .coefficients))) told in
+    rw (listed-length (λ i. getD cards (6 * i) 0) 0 n) at (had-room 128 (length (placesIn 6 cards n)) line (shallowCard names mains (placesIn 6 cards n) line) _ e)
 
 -- a constituent stored in the next rows
 pub shallow-put : (cards : List ℕ) (coefficients : List ℤ) (card : List ℕ) (row : List ℤ) (n : ℕ) → length card ≡ 6 → length row ≡ 4 → 6 * n + 6 ≤ length cards → 4 * n + 4 ≤ length coefficients
