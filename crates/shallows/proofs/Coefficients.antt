@@ -1,15 +1,15 @@
 -- Laws of coefficients: the sizes of a quotient and a remainder are those of the sizes, and when so many hundredths are a coefficient.
 -- By cases on the sign, and by the clauses of the definition. Assumes nothing.
-use mathlib.Core.Path.{_≡_, refl, sym, ap, _∙_}
+use mathlib.Core.Path.{_≡_, refl, sym}
 use mathlib.Core.List.{List}
 use mathlib.Core.Bool.{Bool, true, false, false≢true, cond, _||_, not}
-use Prim.Native.Nat.{ℕ, zero, suc, _+_, _*_, _/_, _%_, _^_, _≤_, _<_}
+use Prim.Native.Nat.{ℕ, zero, suc, _+_, _/_, _%_, _≤_, _<_}
 use native.Mathlib.Omega.{arith}
-use lib.Dec.{T, leb, ltb, eqb}
-use lib.IntN.{ℤ, pos, negsuc, negℤ, natAbs, _-ℤ_, +ℤ-idl}
+use lib.Dec.{T, ltb, eqb}
+use lib.IntN.{ℤ, pos, negsuc, negℤ, natAbs}
 use lib.Signed.{ltZ, leZ, nonNeg, quotZ, remZ}
-use borrow.Author.Tests.{leb-true, ltb-true, ltb-false, eqb-true, eq-eqb, ne-eqb, lt-ltb, le-ltb}
-use mir.Syntax.{Width, w8, w64}
+use borrow.Author.Tests.{leb-true, ltb-true, ltb-false, eq-eqb, ne-eqb, lt-ltb, le-ltb}
+use mir.Syntax.{w8, w64}
 use mir.Val.{SFits}
 use Rattle.table.specs.Table.{Part}
 use Rattle.columns.specs.Columns.{columns}

@@ -9,7 +9,7 @@ use lib.IntN.{ℤ, pos}
 use lib.ListN.{length, getD, drop}
 use lib.Seq.{sets}
 use Rattle.columns.specs.Lines.{linesOf, firstLine, restLines}
-use Rattle.table.specs.View.{listed, rowOf, shallowOf}
+use Rattle.table.specs.View.{listed, shallowOf}
 use Rattle.table.proofs.Rows.{listed-same, listed-one-more, listed-length, row-at, row-put, row-kept}
 use Rattle.cards.specs.Card.{given, refused, onwardOrEnd}
 use Rattle.cards.specs.Shallows.{shallowPlaces, shallowCard, nextShallow, shallowsFrom}

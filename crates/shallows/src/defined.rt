@@ -28,7 +28,13 @@ pub enum Defined {
 }
 
 // The first of the frequencies that no main and no shallow constituent defines.
-pub fn undefined(frequencies: usize, maincards: &[u16; 192], mains: usize, cards: &[u16; 768], count: usize) -> Defined
+pub fn undefined(
+    frequencies: usize,
+    maincards: &[u16; 192],
+    mains: usize,
+    cards: &[u16; 768],
+    count: usize,
+) -> Defined
     requires { ⌜ (frequencies ≤ 160) × (mains ≤ 64) × (count ≤ 128) ⌝ }
     ensures { λ r. ⌜ ((fs : List Frequency) (t : Table) → length fs ≡ frequencies → definedGives r t ≡ allDefined fs 0 (placesIn 3 (now (maincards .entry)) mains ++ placesIn 6 (now (cards .entry)) count) t) ⌝ }
 {

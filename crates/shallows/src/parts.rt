@@ -12,7 +12,8 @@ ghost use Rattle.cards.specs.Answers.{smallGives, placesIn};
 ghost use Rattle.shallows.specs.Answers.{coefficientIn, partGives, withParts, shallowGives};
 use cards::Refusal;
 use cards::numbers::Small;
-use cards::places::{Place, main_named};
+use cards::places::Place;
+use cards::places::main_named;
 
 // The size of a coefficient, in whole numbers or in hundredths.
 fn size(z: i64) -> u64
@@ -59,7 +60,15 @@ pub enum PartRead {
 }
 
 // Part j of a card, after parts whose sizes add up to `sizes`.
-fn part(line: &[u8], j: usize, sizes: u64, names: &[u8], frequencies: usize, maincards: &[u16], mains: usize) -> PartRead
+fn part(
+    line: &[u8],
+    j: usize,
+    sizes: u64,
+    names: &[u8],
+    frequencies: usize,
+    maincards: &[u16],
+    mains: usize,
+) -> PartRead
     requires { ⌜ (j < 4) × (sizes ≤ 12) × (frequencies ≤ 160) × (mains ≤ 64) ⌝ }
     ensures { λ r. ⌜ partGives r ≡ shallows.part (namesFrom (now (names .entry)) 0 frequencies) (placesIn 3 (now (maincards .entry)) mains) sizes (now (line .entry)) (partColumn j) ⌝ }
 {
@@ -88,7 +97,15 @@ pub struct ShallowRead {
 }
 
 // The shallow constituent with a place and so many parts, which are read from its card.
-pub fn parts_on(line: &[u8], place: u16, count: u16, names: &[u8], frequencies: usize, maincards: &[u16], mains: usize) -> ShallowRead
+pub fn parts_on(
+    line: &[u8],
+    place: u16,
+    count: u16,
+    names: &[u8],
+    frequencies: usize,
+    maincards: &[u16],
+    mains: usize,
+) -> ShallowRead
     requires { ⌜ (count ≤ 4) × (frequencies ≤ 160) × (mains ≤ 64) ⌝ }
     ensures { λ r. ⌜ shallowGives r ≡ opened readFields (withParts place (partsOn (namesFrom (now (names .entry)) 0 frequencies) (placesIn 3 (now (maincards .entry)) mains) (now (line .entry)) [] 0 0 count)) ⌝ }
 {
@@ -106,9 +123,17 @@ pub fn parts_on(line: &[u8], place: u16, count: u16, names: &[u8], frequencies: 
                 j = j + 1;
             }
             PartRead::Bad(r) => {
-                return ShallowRead { step: ShallowStep::Fails(r), card: card, coefficients: coefficients };
+                return ShallowRead {
+                    step: ShallowStep::Fails(r),
+                    card: card,
+                    coefficients: coefficients,
+                };
             }
         }
     }
-    ShallowRead { step: ShallowStep::Gives, card: card, coefficients: coefficients }
+    ShallowRead {
+        step: ShallowStep::Gives,
+        card: card,
+        coefficients: coefficients,
+    }
 }

@@ -9,13 +9,21 @@ ghost use Rattle.columns.specs.Names.{namesFrom};
 ghost use Rattle.table.specs.View.{listed, shallowOf};
 ghost use Rattle.cards.specs.Shallows.{shallowsFrom};
 ghost use Rattle.cards.specs.Answers.{placesIn, readingGives};
-use cards::Refusal;
-use cards::lines::{Progress, line_at, next_line};
 use crate::card::next_shallow;
 use crate::parts::ShallowStep;
+use cards::Refusal;
+use cards::lines::Progress;
+use cards::lines::line_at;
+use cards::lines::next_line;
 
 // Stores the rows of shallow constituent k.
-fn put_shallow(cards: &mut [u16; 768], coefficients: &mut [i8; 512], k: usize, card: [u16; 6], row: [i8; 4])
+fn put_shallow(
+    cards: &mut [u16; 768],
+    coefficients: &mut [i8; 512],
+    k: usize,
+    card: [u16; 6],
+    row: [i8; 4],
+)
     requires { ⌜ k < 128 ⌝ }
     ensures { λ _. ⌜ now (cards .exit) ≡ sets (now (cards .entry)) (6 * k) card ⌝ }
     ensures { λ _. ⌜ now (coefficients .exit) ≡ sets (now (coefficients .entry)) (4 * k) row ⌝ }
@@ -33,7 +41,15 @@ pub struct Shallows {
 }
 
 // Part 4, from a byte of the file on, which begins line n.
-pub fn read_shallows(file: &[u8], at: usize, n: usize, names: &[u8; 800], frequencies: usize, maincards: &[u16; 192], mains: usize) -> Shallows
+pub fn read_shallows(
+    file: &[u8],
+    at: usize,
+    n: usize,
+    names: &[u8; 800],
+    frequencies: usize,
+    maincards: &[u16; 192],
+    mains: usize,
+) -> Shallows
     requires { ⌜ (at ≤ length (now file)) × (n ≤ at + 1) × (frequencies ≤ 160) × (mains ≤ 64) ⌝ }
     ensures { λ r. ⌜ readingGives (now (file .entry)) (r .progress) (listed (shallowOf (r .cards) (r .coefficients)) 0 (r .count)) ≡ shallowsFrom (namesFrom (now (names .entry)) 0 frequencies) (placesIn 3 (now (maincards .entry)) mains) (linesOf (drop at (now (file .entry)))) n [] ⌝ }
     ensures { λ r. ⌜ r .count ≤ 128 ⌝ }
@@ -45,22 +61,45 @@ pub fn read_shallows(file: &[u8], at: usize, n: usize, names: &[u8; 800], freque
     let mut line_number = n;
     while here < file.len() {
         let next = next_line(file, here);
-        let read = next_shallow(line_at(file, here), names, frequencies, maincards, mains, &cards, count);
+        let read = next_shallow(
+            line_at(file, here),
+            names,
+            frequencies,
+            maincards,
+            mains,
+            &cards,
+            count,
+        );
         let step = read.step;
         let card = read.card;
         let row = read.coefficients;
         match step {
             ShallowStep::Ends => {
-                return Shallows { progress: Progress::Reached(next, line_number + 1), count: count, cards: cards, coefficients: coefficients };
+                return Shallows {
+                    progress: Progress::Reached(next, line_number + 1),
+                    count: count,
+                    cards: cards,
+                    coefficients: coefficients,
+                };
             }
             ShallowStep::Gives => put_shallow(&mut cards, &mut coefficients, count, card, row),
             ShallowStep::Fails(r) => {
-                return Shallows { progress: Progress::Refused(r, line_number), count: count, cards: cards, coefficients: coefficients };
+                return Shallows {
+                    progress: Progress::Refused(r, line_number),
+                    count: count,
+                    cards: cards,
+                    coefficients: coefficients,
+                };
             }
         }
         count = count + 1;
         here = next;
         line_number = line_number + 1;
     }
-    Shallows { progress: Progress::Refused(Refusal::Ended, line_number), count: count, cards: cards, coefficients: coefficients }
+    Shallows {
+        progress: Progress::Refused(Refusal::Ended, line_number),
+        count: count,
+        cards: cards,
+        coefficients: coefficients,
+    }
 }

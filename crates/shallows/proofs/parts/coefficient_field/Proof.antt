@@ -1,16 +1,12 @@
+-- `shallows::parts::coefficient_field` meets its contract. The field's number, in its range, is at most 900 hundredths in size. Assumes nothing.
 use borrow.Author.Needs.{needs}
 use Rattle.shallows.proofs.parts.coefficient_field.Statement.{statement}
 use Rattle.shallows.proofs.parts.coefficient_field.Tie as tie
-use Rattle.shallows.proofs.parts.coefficient_field.Reads as reads
-use Rattle.shallows.proofs.parts.coefficient_field.Lts as lts
-use Rattle.fields.proofs.ranged_field.Reads as ranged-field-reads
-use Rattle.shallows.proofs.parts.whole_coefficient.Reads as whole-coefficient-reads
-use mathlib.Core.Path.{_≡_, refl, sym, ap, _∙_}
+use mathlib.Core.Path.{_≡_, sym, _∙_}
 use lib.IntN.{pos, negℤ}
 use mir.Syntax.{w64}
 use mir.Val.{SFits}
 use mir.ValLaws.{toZ-ofZ}
-use native.Mathlib.Omega.{arith}
 use Rattle.columns.specs.Columns.{columns}
 use Rattle.fields.specs.Number.{numberOf, inRange}
 use Rattle.fields.specs.declared.Field.the-variants.{Value, Malformed, OutOfRange}
@@ -19,15 +15,12 @@ use Rattle.cards.specs.Formats.{coefficientField}
 use Rattle.cards.proofs.Ranges.{ranged-within, number-is}
 use Rattle.shallows.proofs.Coefficients.{hundredths-size}
 
--- src/parts.rt:48:11
 ranged-field-requires : tie.Need-ranged-field-requires
 ranged-field-requires c κs = search needs
 
--- src/parts.rt:49:30
 enum-known-v : tie.Need-enum-known-v
 enum-known-v c = search needs
 
--- src/parts.rt:49:36
 whole-coefficient-requires : tie.Need-whole-coefficient-requires
 whole-coefficient-requires c κs =
     let a = c .before .before .before .before .before .args in
@@ -36,15 +29,12 @@ whole-coefficient-requires c κs =
     let e : Value v ≡ inRange (negℤ (pos 900)) (pos 900) (numberOf (Fixed 2) (columns (a .line .now) (a .at) 5)) = sym (c .before .v .given .1) ∙ c .before .before .before .ranged-field .ensures in
     rw (toZ-ofZ w64 v f) (hundredths-size v (ranged-within (negℤ (pos 900)) (pos 900) v _ e), c .before .before .before .before .before .pre)
 
--- src/parts.rt:50:48
 enum-told : tie.Need-enum-told
 enum-told c = search needs
 
--- src/parts.rt:51:49
 enum-told-2 : tie.Need-enum-told-2
 enum-told-2 c = search needs
 
--- src/parts.rt:44:1
 returns : tie.Need-returns
 returns c =
     let a = c .before .before .before .before .before .before .args in
@@ -53,13 +43,11 @@ returns c =
     let e : Value v ≡ inRange (negℤ (pos 900)) (pos 900) (numberOf (Fixed 2) (columns (a .line .now) (a .at) 5)) = sym (c .before .before .v .given .1) ∙ c .before .before .before .before .ranged-field .ensures in
     rw (← number-is (a .line .now) (coefficientField (a .at)) (Value v) e) (rw (toZ-ofZ w64 v f) at (c .whole-coefficient .ensures))
 
--- src/parts.rt:44:1
 returns-2 : tie.Need-returns-2
 returns-2 c =
     let a = c .before .before .before .before .args in
     rw (← number-is (a .line .now) (coefficientField (a .at)) Malformed (sym (c .enum-told .given .1) ∙ c .before .before .ranged-field .ensures))
 
--- src/parts.rt:44:1
 returns-3 : tie.Need-returns-3
 returns-3 c =
     let a = c .before .before .before .before .args in

@@ -1,27 +1,23 @@
+-- `shallows::parts::size` meets its contract. A number below 0 is turned round, any other is kept. Assumes nothing.
 use borrow.Author.Needs.{needs}
 use Rattle.shallows.proofs.parts.size.Statement.{statement}
 use Rattle.shallows.proofs.parts.size.Tie as tie
-use Rattle.shallows.proofs.parts.size.Reads as reads
-use Rattle.shallows.proofs.parts.size.Lts as lts
-use mathlib.Core.Path.{_≡_, refl, sym, ap, _∙_}
+use mathlib.Core.Path.{_≡_}
 use mathlib.Core.Bool.{true, false}
-use lib.IntN.{pos, negℤ, natAbs, +ℤ-idl}
+use lib.IntN.{pos, negℤ, +ℤ-idl}
 use lib.Signed.{ltZ}
 use mir.Syntax.{w64}
 use mir.Val.{SFits}
 use mir.ValLaws.{toZ-ofZ}
 use mir.Facts.{fits-natAbs}
-use native.Mathlib.Omega.{arith}
 use Rattle.shallows.proofs.Coefficients.{natAbs-neg, nonNeg-neg, nonNeg-else, fits-64}
 
--- src/parts.rt:22:17
 sub-result : tie.Need-sub-result
 sub-result c =
     let s = c .before in
     let z = s .args .z in
     rw (toZ-ofZ w64 z (s .fits .z), +ℤ-idl (negℤ z)) (fits-64 (negℤ z) (rw (natAbs-neg z) (s .pre)))
 
--- src/parts.rt:22:16
 cast-result : tie.Need-cast-result
 cast-result c =
     let s = c .before in
@@ -30,7 +26,6 @@ cast-result c =
     let t : ltZ z (pos 0) ≡ true = rw (toZ-ofZ w64 z (s .fits .z)) at (c .if1 .taken) in
     rw (toZ-ofZ w64 z (s .fits .z), +ℤ-idl (negℤ z), toZ-ofZ w64 (negℤ z) f) (nonNeg-neg z t, fits-natAbs tt f)
 
--- src/parts.rt:22:40
 cast-result-2 : tie.Need-cast-result-2
 cast-result-2 c =
     let s = c .before in
@@ -38,7 +33,6 @@ cast-result-2 c =
     let t : ltZ z (pos 0) ≡ false = rw (toZ-ofZ w64 z (s .fits .z)) at (c .if1 .left) in
     rw (toZ-ofZ w64 z (s .fits .z)) (nonNeg-else z t, fits-natAbs tt (s .fits .z))
 
--- src/parts.rt:18:1
 returns : tie.Need-returns
 returns c =
     let s = c .before in
@@ -46,7 +40,6 @@ returns c =
     let f : SFits w64 (negℤ z) = fits-64 (negℤ z) (rw (natAbs-neg z) (s .pre)) in
     rw (toZ-ofZ w64 z (s .fits .z), +ℤ-idl (negℤ z), toZ-ofZ w64 (negℤ z) f, natAbs-neg z)
 
--- src/parts.rt:18:1
 returns-2 : tie.Need-returns-2
 returns-2 c = search needs
 

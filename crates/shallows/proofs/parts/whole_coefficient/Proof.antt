@@ -1,11 +1,10 @@
+-- `shallows::parts::whole_coefficient` meets its contract. Its tests on the size are the definition's on the number: laws of `Coefficients`.
+-- Assumes nothing.
 use borrow.Author.Needs.{needs}
 use Rattle.shallows.proofs.parts.whole_coefficient.Statement.{statement}
 use Rattle.shallows.proofs.parts.whole_coefficient.Tie as tie
-use Rattle.shallows.proofs.parts.whole_coefficient.Reads as reads
-use Rattle.shallows.proofs.parts.whole_coefficient.Lts as lts
-use Rattle.shallows.proofs.parts.size.Reads as size-reads
-use mathlib.Core.Path.{_≡_, refl, sym, ap, _∙_}
-use Prim.Native.Nat.{_+_, _/_, _%_, _≤_, _<_}
+use mathlib.Core.Path.{_≡_, sym, ap, _∙_}
+use Prim.Native.Nat.{_/_, _%_, _≤_}
 use lib.IntN.{pos, natAbs}
 use lib.Signed.{quotZ}
 use mir.Syntax.{w8, w64}
@@ -14,18 +13,15 @@ use mir.ValLaws.{toZ-ofZ}
 use native.Mathlib.Omega.{arith}
 use Rattle.shallows.proofs.Coefficients.{quot-size, fits-64, fits-8, coefficient-zero, coefficient-broken, coefficient-large, coefficient-good}
 
--- src/parts.rt:30:9
 size-requires : tie.Need-size-requires
 size-requires c κs = search needs
 
--- src/parts.rt:32:9
 returns : tie.Need-returns
 returns c =
     let s = c .before .before in
     let e = c .before .size .ensures ∙ ap natAbs (toZ-ofZ w64 (s .args .hundredths) (s .fits .hundredths)) in
     sym (coefficient-zero (s .args .sizes) (s .args .hundredths) (sym e ∙ c .if1 .taken))
 
--- src/parts.rt:35:9
 returns-2 : tie.Need-returns-2
 returns-2 c =
     let s = c .before .before .before in
@@ -33,11 +29,9 @@ returns-2 c =
     let e = c .before .before .size .ensures ∙ ap natAbs (toZ-ofZ w64 h (s .fits .hundredths)) in
     sym (coefficient-broken (s .args .sizes) h (rw e at (c .before .if1 .left)) (rw e at (c .if2 .taken)))
 
--- src/parts.rt:37:13
 add-if3 : tie.Need-add-if3
 add-if3 c = search needs
 
--- src/parts.rt:38:9
 returns-3 : tie.Need-returns-3
 returns-3 c =
     let s = c .before .before .before .before in
@@ -46,7 +40,6 @@ returns-3 c =
     let whole : natAbs h % 100 ≡ 0 = rw (← e) (omega arith) in
     sym (coefficient-large (s .args .sizes) h (rw e at (c .before .before .if1 .left)) whole (rw e at (c .if3 .taken)))
 
--- src/parts.rt:40:19
 div-t10 : tie.Need-div-t10
 div-t10 c =
     let s = c .before .before .before .before in
@@ -54,7 +47,6 @@ div-t10 c =
     let e : natAbs h / 100 ≤ 9 = omega arith in
     (omega arith, rw (toZ-ofZ w64 h (s .fits .hundredths)) (fits-64 (quotZ h (pos 100)) (rw (quot-size h 100) (omega arith))))
 
--- src/parts.rt:40:18
 cast-t11 : tie.Need-cast-t11
 cast-t11 c =
     let s = c .before .before .before .before in
@@ -63,7 +55,6 @@ cast-t11 c =
     let f : SFits w64 (quotZ h (pos 100)) = fits-64 (quotZ h (pos 100)) (rw (quot-size h 100) (omega arith)) in
     rw (toZ-ofZ w64 h (s .fits .hundredths), toZ-ofZ w64 (quotZ h (pos 100)) f) (fits-8 (quotZ h (pos 100)) (rw (quot-size h 100) (omega arith)))
 
--- src/parts.rt:26:1
 returns-4 : tie.Need-returns-4
 returns-4 c =
     let s = c .before .before .before .before in

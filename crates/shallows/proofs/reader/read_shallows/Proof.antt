@@ -1,15 +1,11 @@
+-- `shallows::reader::read_shallows` meets its contract. The loop's invariant: the cards from this byte on, after the constituents in the rows,
+-- give what part 4 gives. The measure is the bytes left. Rests on the laws of `Rows`.
 use Rattle.shallows.proofs.reader.read_shallows.Statement.{statement}
 use Rattle.shallows.proofs.reader.read_shallows.Tie as tie
-use Rattle.shallows.proofs.reader.read_shallows.Reads as reads
-use Rattle.shallows.proofs.reader.read_shallows.Lts as lts
-use Rattle.cards.proofs.lines.line_at.Reads as line-at-reads
-use Rattle.cards.proofs.lines.next_line.Reads as next-line-reads
-use Rattle.shallows.proofs.card.next_shallow.Reads as next-shallow-reads
-use Rattle.shallows.proofs.reader.put_shallow.Reads as put-shallow-reads
 use borrow.Author.Needs.{needs}
-use mathlib.Core.Path.{_≡_, refl, sym, ap, _∙_}
-use mathlib.Core.List.{List, []}
-use Prim.Native.Nat.{ℕ, _+_, _-_, _*_, _≤_, _<_}
+use mathlib.Core.Path.{_≡_, refl, ap, _∙_}
+use mathlib.Core.List.{[]}
+use Prim.Native.Nat.{_+_, _-_, _*_, _≤_, _<_}
 use native.Mathlib.Omega.{arith}
 use lib.ListN.{length, drop}
 use lib.Seq.{sets, length-sets}
@@ -29,91 +25,83 @@ abbrev μ-loop : tie.MeasureT-loop
 μ-loop file at n names frequencies maincards mains cards₀ coefficients₀ count₀ here₀ line-number₀ cards coefficients count here line-number =
     length file - here
 
--- src/reader.rt:46:5
 loop-holds : tie.Need-loop-holds Inv-loop μ-loop
 unfolding listed
 loop-holds c = (omega arith, omega arith, omega arith, refl, refl, refl)
 
--- src/reader.rt:47:13
 next-line-requires : tie.Need-next-line-requires Inv-loop μ-loop
 next-line-requires c κs = search needs
 
--- src/reader.rt:48:33
 line-at-requires : tie.Need-line-at-requires Inv-loop μ-loop
 line-at-requires c κs = search needs
 
--- src/reader.rt:48:92
 slice-aggregate-next-shallow : tie.Need-slice-aggregate-next-shallow Inv-loop μ-loop
 slice-aggregate-next-shallow c = search needs
 
--- src/reader.rt:48:13
 next-shallow-requires : tie.Need-next-shallow-requires Inv-loop μ-loop
 next-shallow-requires c κs = search needs
 
--- src/reader.rt:54:69
 enum-told : tie.Need-enum-told Inv-loop μ-loop
 enum-told c = search needs
 
--- src/reader.rt:54:69
 add-t28 : tie.Need-add-t28 Inv-loop μ-loop
 add-t28 c = search needs
 
--- src/reader.rt:54:17
 returns : tie.Need-returns Inv-loop μ-loop
 returns c =
     let s = c .before .before .before .before .before .before .before .before .before .before .before in
     let a = s .before .before .args in
+    let names = namesFrom (a .names .now) 0 (a .frequencies) in
+    let mains = placesIn 3 (a .maincards .now) (a .mains) in
     let next = c .before .before .before .before .before .before .before .before .before .next-line in
     let read = c .before .before .before .before .next-shallow in
-    (rw (shallows-step (namesFrom (a .names .now) 0 (a .frequencies)) (placesIn 3 (a .maincards .now) (a .mains)) (a .file .now) (s .loop .here) (s .loop .line-number) (s .loop .cards) (s .loop .coefficients) (s .loop .count) (next .result) (c .before .before .before .before .before .before .before .before .line-at .result .now) (read .result) (c .before .before .before .before .before .before .before .before .before .before .loop-test .taken) (c .before .before .before .before .before .before .before .before .line-at .ensures) (next .ensures .2) (read .ensures), c .enum-told .given .1) at (s .loop .inv .5), s .loop .inv .2)
+    (rw (shallows-step names mains (a .file .now) (s .loop .here) (s .loop .line-number) (s .loop .cards) (s .loop .coefficients) (s .loop .count) (next .result) (c .before .before .before .before .before .before .before .before .line-at .result .now) (read .result) (c .before .before .before .before .before .before .before .before .before .before .loop-test .taken) (c .before .before .before .before .before .before .before .before .line-at .ensures) (next .ensures .2) (read .ensures), c .enum-told .given .1) at (s .loop .inv .5), s .loop .inv .2)
 
--- src/reader.rt:56:47
 enum-told-2 : tie.Need-enum-told-2 Inv-loop μ-loop
 enum-told-2 c = search needs
 
--- src/reader.rt:56:35
 put-shallow-requires : tie.Need-put-shallow-requires Inv-loop μ-loop
 put-shallow-requires c κs =
     let s = c .before .before .before .before .before .before .before .before .before .before .before .before .before in
     let a = s .before .before .args in
-    shallow-room (namesFrom (a .names .now) 0 (a .frequencies)) (placesIn 3 (a .maincards .now) (a .mains)) (s .loop .cards) (c .before .before .before .before .before .before .before .before .before .before .line-at .result .now) (s .loop .count) (c .before .before .before .before .before .before .next-shallow .result) (c .before .before .enum-told2 .given .1) (c .before .before .before .before .before .before .next-shallow .ensures)
+    let names = namesFrom (a .names .now) 0 (a .frequencies) in
+    let mains = placesIn 3 (a .maincards .now) (a .mains) in
+    shallow-room names mains (s .loop .cards) (c .before .before .before .before .before .before .before .before .before .before .line-at .result .now) (s .loop .count) (c .before .before .before .before .before .before .next-shallow .result) (c .before .before .enum-told2 .given .1) (c .before .before .before .before .before .before .next-shallow .ensures)
 
--- src/reader.rt:57:32
 enum-known-step : tie.Need-enum-known-step Inv-loop μ-loop
 enum-known-step c = search needs
 
--- src/reader.rt:58:17
 returns-2 : tie.Need-returns-2 Inv-loop μ-loop
 returns-2 c =
     let s = c .before .before .before .before .before .before .before .before .before .before .before .before in
     let a = s .before .before .args in
+    let names = namesFrom (a .names .now) 0 (a .frequencies) in
+    let mains = placesIn 3 (a .maincards .now) (a .mains) in
     let next = c .before .before .before .before .before .before .before .before .before .before .next-line in
     let read = c .before .before .before .before .before .next-shallow in
-    (rw (shallows-step (namesFrom (a .names .now) 0 (a .frequencies)) (placesIn 3 (a .maincards .now) (a .mains)) (a .file .now) (s .loop .here) (s .loop .line-number) (s .loop .cards) (s .loop .coefficients) (s .loop .count) (next .result) (c .before .before .before .before .before .before .before .before .before .line-at .result .now) (read .result) (c .before .before .before .before .before .before .before .before .before .before .before .loop-test .taken) (c .before .before .before .before .before .before .before .before .before .line-at .ensures) (next .ensures .2) (read .ensures), c .before .step .given .1) at (s .loop .inv .5), s .loop .inv .2)
+    (rw (shallows-step names mains (a .file .now) (s .loop .here) (s .loop .line-number) (s .loop .cards) (s .loop .coefficients) (s .loop .count) (next .result) (c .before .before .before .before .before .before .before .before .before .line-at .result .now) (read .result) (c .before .before .before .before .before .before .before .before .before .before .before .loop-test .taken) (c .before .before .before .before .before .before .before .before .before .line-at .ensures) (next .ensures .2) (read .ensures), c .before .step .given .1) at (s .loop .inv .5), s .loop .inv .2)
 
--- src/reader.rt:61:17
 add-count : tie.Need-add-count Inv-loop μ-loop
 add-count c = let s = c .before .before .before .before .before .before .before .before .before .before .before .before .before .before in omega (arith, s .loop .inv .2)
 
--- src/reader.rt:63:23
 add-line-number : tie.Need-add-line-number Inv-loop μ-loop
 add-line-number c = search needs
 
--- src/reader.rt:46:5
 loop-less : tie.Need-loop-less Inv-loop μ-loop
 loop-less c = search needs
 
--- src/reader.rt:46:5
 loop-again : tie.Need-loop-again Inv-loop μ-loop
 loop-again c =
     let s = c .before .before .before .before .before .before .before .before .before .before .before .before .before .before in
     let a = s .before .before .args in
+    let names = namesFrom (a .names .now) 0 (a .frequencies) in
+    let mains = placesIn 3 (a .maincards .now) (a .mains) in
     let next = c .before .before .before .before .before .before .before .before .before .before .before .before .next-line in
     let line = c .before .before .before .before .before .before .before .before .before .before .before .line-at .result .now in
     let read = c .before .before .before .before .before .before .before .next-shallow in
     let card = read .result .card in
     let row = read .result .coefficients in
-    let room : s .loop .count < 128 = shallow-room (namesFrom (a .names .now) 0 (a .frequencies)) (placesIn 3 (a .maincards .now) (a .mains)) (s .loop .cards) line (s .loop .count) (read .result) (c .before .before .before .enum-told2 .given .1) (read .ensures) in
+    let room : s .loop .count < 128 = shallow-room names mains (s .loop .cards) line (s .loop .count) (read .result) (c .before .before .before .enum-told2 .given .1) (read .ensures) in
     let put : c .put-shallow .last .0 ≡ sets (s .loop .cards) (6 * s .loop .count) card = c .put-shallow .ensures .0 in
     let put′ : c .put-shallow .last .1 .0 ≡ sets (s .loop .coefficients) (4 * s .loop .count) row = c .put-shallow .ensures .1 in
     let wide : length card ≡ 6 = search needs in
@@ -124,15 +112,16 @@ loop-again c =
       ap length put ∙ length-sets (s .loop .cards) (6 * s .loop .count) card ∙ s .loop .inv .3,
       ap length put′ ∙ length-sets (s .loop .coefficients) (4 * s .loop .count) row ∙ s .loop .inv .4,
       rw (put, put′, shallow-put (s .loop .cards) (s .loop .coefficients) card row (s .loop .count) wide wide′ (omega arith) (omega arith))
-          (rw (shallows-step (namesFrom (a .names .now) 0 (a .frequencies)) (placesIn 3 (a .maincards .now) (a .mains)) (a .file .now) (s .loop .here) (s .loop .line-number) (s .loop .cards) (s .loop .coefficients) (s .loop .count) (next .result) line (read .result) (c .before .before .before .before .before .before .before .before .before .before .before .before .before .loop-test .taken) (c .before .before .before .before .before .before .before .before .before .before .before .line-at .ensures) (next .ensures .2) (read .ensures), c .before .before .before .enum-told2 .given .1) at (s .loop .inv .5)),
+          (rw (shallows-step names mains (a .file .now) (s .loop .here) (s .loop .line-number) (s .loop .cards) (s .loop .coefficients) (s .loop .count) (next .result) line (read .result) (c .before .before .before .before .before .before .before .before .before .before .before .before .before .loop-test .taken) (c .before .before .before .before .before .before .before .before .before .before .before .line-at .ensures) (next .ensures .2) (read .ensures), c .before .before .before .enum-told2 .given .1) at (s .loop .inv .5)),
     )
 
--- src/reader.rt:36:1
 returns-3 : tie.Need-returns-3 Inv-loop μ-loop
 returns-3 c =
     let s = c .before in
     let a = s .before .before .args in
-    (rw (shallows-end (namesFrom (a .names .now) 0 (a .frequencies)) (placesIn 3 (a .maincards .now) (a .mains)) (a .file .now) (s .loop .here) (s .loop .line-number) (s .loop .cards) (s .loop .coefficients) (s .loop .count) (c .loop-test .left)) at (s .loop .inv .5), s .loop .inv .2)
+    let names = namesFrom (a .names .now) 0 (a .frequencies) in
+    let mains = placesIn 3 (a .maincards .now) (a .mains) in
+    (rw (shallows-end names mains (a .file .now) (s .loop .here) (s .loop .line-number) (s .loop .cards) (s .loop .coefficients) (s .loop .count) (c .loop-test .left)) at (s .loop .inv .5), s .loop .inv .2)
 
 pub read-shallows-spec : {M : Type 1} → statement M
 read-shallows-spec =
