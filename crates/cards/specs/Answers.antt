@@ -96,12 +96,11 @@ abbrev pub Within : List ℕ → Progress → Type 0
 Within file (Reached at n) = (at ≤ length file) × (n ≤ at + 1)
 Within file (Refused r n) = Unit
 
--- a constituent card: the main with a place, and a row of six Doodson numbers and the phase
-abbrev pub mainStepGives : MainStep → ℕ → List ℤ → Next MainCard
-mainStepGives main.Ends place angles = ends
-mainStepGives (main.Gives count) place angles =
-    gives (record { main = record { place = place; doodson = take 6 angles; phase = getD angles 6 (pos 0); satellites = [] }; count = count })
-mainStepGives (main.Fails r) place angles = fails (numberOf r)
+-- a constituent card: the main with a place, six Doodson numbers and the phase
+abbrev pub mainStepGives : MainStep → ℕ → List ℤ → ℤ → Next MainCard
+mainStepGives main.Ends place doodson phase = ends
+mainStepGives (main.Gives count) place doodson phase = gives (record { main = record { place = place; doodson = doodson; phase = phase; satellites = [] }; count = count })
+mainStepGives (main.Fails r) place doodson phase = fails (numberOf r)
 
 abbrev pub mainGives : MainRead → Next MainCard
-mainGives m = mainStepGives (m .step) (m .place) (m .angles)
+mainGives m = mainStepGives (m .step) (m .place) (m .doodson) (m .phase)
