@@ -6,6 +6,7 @@ mod mains;
 mod numbers;
 mod opening;
 mod places;
+mod satellites;
 
 // 01's refusals of a card file, in the order of its table.
 pub enum Refusal {
