@@ -1,4 +1,5 @@
 // The card file: its reader, with refusals 1 to 7.
+mod constituents;
 mod frequencies;
 mod lines;
 mod longitudes;
