@@ -25,7 +25,7 @@ satellites-on-requires c κs = search needs
 -- src/satellites.rt:106:9
 returns : tie.Need-returns
 unfolding satelliteCard dueCard
-returns c = ?
+returns c = (rw (← c .before .before .before .before .before .line-good .ensures, c .before .before .before .before .if1 .taken, ← c .before .before .before .at-most-three .ensures) (c .satellites-on .ensures .0), c .satellites-on .ensures .1)
 
 -- src/satellites.rt:100:1
 returns-2 : tie.Need-returns-2
