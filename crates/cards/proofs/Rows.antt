@@ -23,7 +23,7 @@ use Rattle.cards.specs.declared.numbers.Natural.{Natural}
 use Rattle.cards.specs.declared.numbers.Natural.the-variants as natural
 use Rattle.cards.specs.declared.frequencies.FrequencyStep.{FrequencyStep}
 use Rattle.cards.specs.Formats.{frequencyName}
-use Rattle.cards.specs.Card.{Card, good, bad, _>>=_, gives, opening, opened, blankEnds, readFields, failsFirst, given, refused, onwardOrEnd}
+use Rattle.cards.specs.Card.{Card, good, bad, _>>=_, gives, Opening, opening, opened, blankEnds, readFields, failsFirst, given, refused, onwardOrEnd}
 use Rattle.cards.specs.Frequencies.{namesOf, frequencyCard, nextFrequency, frequenciesFrom}
 use Rattle.cards.proofs.Defined.{names-count}
 use Rattle.cards.proofs.Walk.{lines-here, lines-end}
@@ -39,6 +39,13 @@ had-room most before line card a e = go (lineGood line) (blankCard line) (leb mo
     go true false true h q = let z : _≡_ {A = ℕ} 0 1 = cc in absurd (omega arith)
     go true false false h q = leb-false most before h
     go false t u h q = let z : _≡_ {A = ℕ} 0 1 = cc in absurd (omega arith)
+
+-- what it gives is what its fields give
+pub opened-good : {A : Type 0} (o : Opening) (card : Card A) (a : A) → opened o card ≡ gives a → card ≡ good a
+opened-good blankEnds card a e = let z : _≡_ {A = ℕ} 0 1 = cc in absurd (omega arith)
+opened-good readFields (good b) a e = let q : b ≡ a = cc in ap good q
+opened-good readFields (bad r) a e = let z : _≡_ {A = ℕ} 0 1 = cc in absurd (omega arith)
+opened-good (failsFirst r) card a e = let z : _≡_ {A = ℕ} 0 1 = cc in absurd (omega arith)
 
 pub frequency-room : (names line : List ℕ) (n : ℕ) (f : Frequency) → nextFrequency (namesFrom names 0 n) line ≡ gives f → n < 160
 unfolding nextFrequency

@@ -11,6 +11,9 @@ use lib.Seq.{take-all, drop-drop, drop-length}
 use native.Mathlib.Omega.{arith}
 use Rattle.columns.specs.Lines.{linesOf, firstLine, restLines}
 use Rattle.columns.proofs.Lines.{lines-next, lines-none}
+use Rattle.cards.specs.Formats.{Number}
+use Rattle.cards.specs.Card.{dueCard, given, refused, onward}
+use Rattle.cards.specs.Longitudes.{fiveCard, fiveFrom}
 
 -- the part of a slice from byte a on
 pub tail-is : (s : List ℕ) (a : ℕ) → take (length s - a) (drop a s) ≡ drop a s
@@ -42,3 +45,14 @@ lines-here file at next line h first rest = rw (rest, first) (lines-next (drop a
 
 pub lines-end : (file : List ℕ) (at : ℕ) → length file ≤ at → linesOf (drop at file) ≡ []
 lines-end file at h = lines-none (drop at file) (omega (arith, length-drop at file))
+
+-- a card of five numbers at byte `at`, or none left
+module _ (field : ℕ → Number) (file : List ℕ) (at n : ℕ) where
+  pub five-here : (line : List ℕ) → at < length file → line ≡ firstLine (drop at file)
+      → fiveFrom field (linesOf (drop at file)) n ≡ onward (dueCard line (fiveCard field line)) n (λ values. given values (linesOf (restLines (drop at file))) (n + 1))
+  unfolding fiveFrom
+  five-here line h first = rw (lines-next (drop at file) (omega (arith, length-drop at file)), first)
+
+  pub five-end : length file ≤ at → fiveFrom field (linesOf (drop at file)) n ≡ refused 7 n
+  unfolding fiveFrom
+  five-end h = rw (lines-end file at h)

@@ -1,12 +1,13 @@
 -- What the code's answers stand for in 01's terms.
-use Prim.Native.Nat.{ℕ, _+_, _*_, _≤_}
+use Prim.Native.Nat.{ℕ, _+_, _*_, _≤_, _<_}
+use mathlib.Core.Path.{_≡_}
 use mathlib.Core.List.{List, []}
 use lib.ListN.{length, getD, take, drop}
 use lib.IntN.{ℤ, pos}
-use Rattle.table.specs.View.{listed}
+use Rattle.table.specs.View.{listed, naturals, mainOf}
 use Rattle.columns.specs.Columns.{columns}
 use Rattle.columns.specs.Lines.{linesOf}
-use Rattle.table.specs.Table.{Frequency}
+use Rattle.table.specs.Table.{Frequency, markOf, Satellite, Main}
 use Rattle.cards.specs.Mains.{MainCard}
 use Rattle.cards.specs.Formats.{frequencyName}
 use Rattle.cards.specs.Card.{Card, good, bad, Next, ends, gives, fails, Reading, given, refused}
@@ -28,6 +29,7 @@ use Rattle.cards.specs.declared.frequencies.FrequencyStep.the-variants a
 use Rattle.cards.specs.declared.mains.MainStep.{MainStep}
 use Rattle.cards.specs.declared.mains.MainStep.the-variants as main
 use Rattle.cards.specs.declared.mains.MainRead.{MainRead}
+use Rattle.cards.specs.declared.satellites.SatelliteRead.{SatelliteRead}
 use Rattle.cards.specs.declared.places.Place.{Place}
 use Rattle.cards.specs.declared.places.Place.the-variants as place
 
@@ -96,12 +98,38 @@ abbrev pub Within : List ℕ → Progress → Type 0
 Within file (Reached at n) = (at ≤ length file) × (n ≤ at + 1)
 Within file (Refused r n) = Unit
 
--- a constituent card: the main with a place, and a row of six Doodson numbers and the phase
-abbrev pub mainStepGives : MainStep → ℕ → List ℤ → Next MainCard
-mainStepGives main.Ends place angles = ends
-mainStepGives (main.Gives count) place angles =
-    gives (record { main = record { place = place; doodson = take 6 angles; phase = getD angles 6 (pos 0); satellites = [] }; count = count })
-mainStepGives (main.Fails r) place angles = fails (numberOf r)
+-- a constituent card: the main with a place, six Doodson numbers and the phase
+abbrev pub mainStepGives : MainStep → ℕ → List ℤ → ℤ → Next MainCard
+mainStepGives main.Ends place doodson phase = ends
+mainStepGives (main.Gives count) place doodson phase = gives (record { main = record { place = place; doodson = doodson; phase = phase; satellites = [] }; count = count })
+mainStepGives (main.Fails r) place doodson phase = fails (numberOf r)
 
 abbrev pub mainGives : MainRead → Next MainCard
-mainGives m = mainStepGives (m .step) (m .place) (m .angles)
+mainGives m = mainStepGives (m .step) (m .place) (m .doodson) (m .phase)
+
+-- a satellite of a card
+abbrev pub satelliteGives : SatelliteRead → Card Satellite
+satelliteGives s = faultGives (s .fault) (record { differences = take 3 (s .differences); phase = s .phase; ratio = s .ratio; mark = markOf (s .mark) })
+
+-- the entries before one are as they were
+abbrev pub Kept : {A : Type 0} → (ℕ → A) → (ℕ → A) → ℕ → Type 0
+Kept now before n = (k : ℕ) → k < n → now k ≡ before k
+
+-- the arrays of mains and of satellites have all their rows
+abbrev pub MainRoom : List ℕ → List ℤ → Type 0
+MainRoom cards angles = (length cards ≡ 192) × (length angles ≡ 448)
+
+abbrev pub SatelliteRoom : List ℤ → List ℕ → Type 0
+SatelliteRoom angles ratios = (length angles ≡ 1024) × (length ratios ≡ 512)
+
+-- where the satellites of main k end: its row has its place, its first satellite, and their count
+abbrev pub satellitesEnd : List ℕ → ℕ → ℕ
+satellitesEnd cards k = getD (naturals 3 cards k) 1 0 + getD (naturals 3 cards k) 2 0
+
+-- no main has a satellite past those stored
+abbrev pub Stored : List ℕ → ℕ → ℕ → Type 0
+Stored cards mains satellites = (k : ℕ) → k < mains → satellitesEnd cards k ≤ satellites
+
+-- the mains of the table
+abbrev pub mainsIn : List ℕ → List ℤ → List ℤ → List ℕ → ℕ → List Main
+mainsIn cards angles satelliteangles satelliteratios count = listed (mainOf cards angles satelliteangles satelliteratios) 0 count

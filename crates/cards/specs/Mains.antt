@@ -82,5 +82,5 @@ unfoldable mutual
   satellitesFrom names (line ∷ lines) n mains satellites m count =
       onward (satelliteCard count line) n
       (λ more. cond (leb count 3)
-      (mainsFrom names lines (n + 1) (mains ++ (withMore m more ∷ [])) (satellites + min count 3))
+      (mainsFrom names lines (n + 1) (mains ++ (withMore m more ∷ [])) (satellites + count))
       (satellitesFrom names lines (n + 1) mains (satellites + 3) (withMore m more) (count - 3)))

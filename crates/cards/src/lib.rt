@@ -1,4 +1,5 @@
-// The card file: its reader, with refusals 1 to 7.
+// The card file: its definition, and the readers of parts 1, 2 and 3, with refusals 1 to 7.
+pub mod constituents;
 pub mod frequencies;
 pub mod lines;
 pub mod longitudes;
@@ -6,6 +7,7 @@ pub mod mains;
 pub mod numbers;
 pub mod opening;
 pub mod places;
+pub mod satellites;
 
 // 01's refusals of a card file, in the order of its table.
 pub enum Refusal {

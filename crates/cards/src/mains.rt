@@ -26,14 +26,15 @@ pub enum MainStep {
 pub struct MainRead {
     pub step: MainStep,
     pub place: u16,
-    pub angles: [i8; 7],
+    pub doodson: [i8; 6],
+    pub phase: i8,
 }
 
 // A card that earns a refusal.
 fn failed(r: Refusal) -> MainRead
     ensures { λ m. ⌜ mainGives m ≡ fails (numberOf r) ⌝ }
 {
-    MainRead { step: MainStep::Fails(r), place: 0, angles: [0i8; 7] }
+    MainRead { step: MainStep::Fails(r), place: 0, doodson: [0i8; 6], phase: 0 }
 }
 
 // A main from its numbers, unless its satellites are too many in all.
@@ -44,8 +45,7 @@ fn main_made(place: u16, doodson: [i8; 6], phase: i8, count: u64, satellites: us
     if 256 < satellites + (count as usize) {
         return failed(Refusal::Count);
     }
-    let angles = [doodson[0], doodson[1], doodson[2], doodson[3], doodson[4], doodson[5], phase];
-    MainRead { step: MainStep::Gives(count as u16), place: place, angles: angles }
+    MainRead { step: MainStep::Gives(count as u16), place: place, doodson: doodson, phase: phase }
 }
 
 // The numbers of a constituent card with a place.
@@ -90,7 +90,7 @@ pub fn next_main(line: &[u8], names: &[u8], frequencies: usize, cards: &[u16], m
     ensures { λ r. ⌜ mainGives r ≡ nextMain (namesFrom (now (names .entry)) 0 frequencies) (placesIn 3 (now (cards .entry)) mains) satellites (now (line .entry)) ⌝ }
 {
     match begins(line, mains, 64) {
-        Opening::Ends => MainRead { step: MainStep::Ends, place: 0, angles: [0i8; 7] },
+        Opening::Ends => MainRead { step: MainStep::Ends, place: 0, doodson: [0i8; 6], phase: 0 },
         Opening::Fields => match main_place(line, names, frequencies, cards, mains) {
             Place::At(place) => main_numbers(line, place, satellites),
             Place::Bad(r) => failed(r),
@@ -100,14 +100,15 @@ pub fn next_main(line: &[u8], names: &[u8], frequencies: usize, cards: &[u16], m
 }
 
 // Stores main m: its place, no satellite yet from `first` on, and its numbers.
-pub fn put_main(cards: &mut [u16; 192], angles: &mut [i8; 448], m: usize, place: u16, first: usize, row: [i8; 7])
+pub fn put_main(cards: &mut [u16; 192], angles: &mut [i8; 448], m: usize, place: u16, first: usize, doodson: [i8; 6], phase: i8)
     requires { ⌜ (m < 64) × (first ≤ 256) ⌝ }
     ensures { λ _. ⌜ now (cards .exit) ≡ sets (now (cards .entry)) (3 * m) (place ∷ first ∷ 0 ∷ []) ⌝ }
-    ensures { λ _. ⌜ now (angles .exit) ≡ sets (now (angles .entry)) (7 * m) row ⌝ }
+    ensures { λ _. ⌜ now (angles .exit) ≡ set (sets (now (angles .entry)) (7 * m) doodson) (7 * m + 6) phase ⌝ }
 {
     let card = [place, first as u16, 0];
     table::put_u16(cards, 3 * m, &card);
-    table::put_i8(angles, 7 * m, &row);
+    table::put_i8(angles, 7 * m, &doodson);
+    angles[7 * m + 6] = phase;
 }
 
 // Adds satellites to main m.

@@ -1,7 +1,7 @@
 // The number fields of a card, narrowed to the types that the table keeps.
 ghost use mathlib.Core.Path.{_≡_};
 ghost use Prim.Native.Nat.{_+_, _*_, _^_, _≤_, _<_};
-ghost use lib.ListN.{take};
+ghost use lib.ListN.{length, take};
 ghost use lib.IntN.{pos};
 ghost use Rattle.fields.specs.declared.Format.the-variants.{Whole, Fixed};
 ghost use Rattle.cards.specs.Formats.{field, upTo, within};
@@ -77,6 +77,7 @@ pub struct SmallRow {
 pub fn small_row(line: &[u8], from: usize, count: usize, most: u8) -> SmallRow
     requires { ⌜ (from ≤ 80) × (count ≤ 6) × (most ≤ 127) ⌝ }
     ensures { λ r. ⌜ faultGives (r .fault) (take count (r .values)) ≡ numbers (now (line .entry)) (λ k. within most (from + 3 * k) 3 Whole) count ⌝ }
+    ensures { λ r. ⌜ length (r .values) ≡ 6 ⌝ }
 {
     let mut values = [0i8; 6];
     let mut k = 0;

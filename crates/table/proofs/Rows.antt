@@ -69,6 +69,11 @@ module _ {A : Type 0} where
   pub copy-end : (xs row : List A) (a j : ℕ) → length row ≤ j → sets xs (a + j) (drop j row) ≡ xs
   copy-end xs row a j h = rw (drop-of-length-le row h)
 
+  -- a run of stores with one number more at its end
+  pub sets-one-more : (xs : List A) (i : ℕ) (vs : List A) (v : A) → sets xs i (vs ++ (v ∷ [])) ≡ set (sets xs i vs) (i + length vs) v
+  sets-one-more xs i [] v = rw (add-zero i)
+  sets-one-more xs i (a ∷ vs) v = let e : i + suc (length vs) ≡ suc i + length vs = omega arith in rw e (sets-one-more (set xs i a) (suc i) vs v)
+
   -- the first n numbers of a row, counted out
   pub take-listed : (xs : List A) (n : ℕ) (d : A) → n ≤ length xs → take n xs ≡ listed (λ i. getD xs i d) 0 n
   take-listed xs n d h =

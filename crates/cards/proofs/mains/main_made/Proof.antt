@@ -4,63 +4,33 @@ use Rattle.cards.proofs.mains.main_made.Tie as tie
 use Rattle.cards.proofs.mains.main_made.Reads as reads
 use Rattle.cards.proofs.mains.main_made.Lts as lts
 use Rattle.cards.proofs.mains.failed.Reads as failed-reads
+use mathlib.Core.Path.{_≡_, refl, sym, ap, _∙_}
+use borrow.Author.Tests.{lt-ltb, le-ltb}
+use mir.Syntax.{w8}
+use mir.ValLaws.{toZ-ofZ}
+use Rattle.cards.specs.Mains.{mainMade}
 
--- src/mains.rt:44:14
+-- src/mains.rt:45:14
 add-if1 : tie.Need-add-if1
 add-if1 c = search needs
 
--- src/mains.rt:45:9
+-- src/mains.rt:46:9
 failed-requires : tie.Need-failed-requires
 failed-requires c κs = search needs
 
--- src/mains.rt:45:9
+-- src/mains.rt:46:9
 returns : tie.Need-returns
-returns c = ?
-
--- src/mains.rt:47:19
-array-copy-out-t14 : tie.Need-array-copy-out-t14
-array-copy-out-t14 c = search needs
-
--- src/mains.rt:47:31
-array-copy-out-t17 : tie.Need-array-copy-out-t17
-array-copy-out-t17 c = search needs
-
--- src/mains.rt:47:43
-array-copy-out-t20 : tie.Need-array-copy-out-t20
-array-copy-out-t20 c = search needs
-
--- src/mains.rt:47:55
-array-copy-out-t23 : tie.Need-array-copy-out-t23
-array-copy-out-t23 c = search needs
-
--- src/mains.rt:47:67
-array-copy-out-t26 : tie.Need-array-copy-out-t26
-array-copy-out-t26 c = search needs
-
--- src/mains.rt:47:79
-array-copy-out-t29 : tie.Need-array-copy-out-t29
-array-copy-out-t29 c = search needs
+unfolding mainMade
+returns c = rw (lt-ltb _ _ (c .before .if1 .taken)) (c .failed .ensures)
 
 -- src/mains.rt:48:38
-cast-t30 : tie.Need-cast-t30
-cast-t30 c = search needs
+cast-t10 : tie.Need-cast-t10
+cast-t10 c = search needs
 
--- src/mains.rt:40:1
+-- src/mains.rt:41:1
 returns-2 : tie.Need-returns-2
-returns-2 c = ?
+unfolding mainMade
+returns-2 c = rw (le-ltb _ _ (c .if1 .left), toZ-ofZ w8 (c .before .args .phase) (c .before .fits .phase))
 
 pub main-made-spec : {M : Type 1} → statement M
-main-made-spec =
-    tie.close
-    (tie.spec
-    add-if1
-    failed-requires
-    returns
-    array-copy-out-t14
-    array-copy-out-t17
-    array-copy-out-t20
-    array-copy-out-t23
-    array-copy-out-t26
-    array-copy-out-t29
-    cast-t30
-    returns-2)
+main-made-spec = tie.close (tie.spec add-if1 failed-requires returns cast-t10 returns-2)

@@ -8,6 +8,15 @@ use Rattle.cards.proofs.mains.main_made.Reads as main-made-reads
 use Rattle.cards.proofs.numbers.natural_field.Reads as natural-field-reads
 use Rattle.cards.proofs.numbers.small_field.Reads as small-field-reads
 use Rattle.cards.proofs.numbers.small_row.Reads as small-row-reads
+use mathlib.Core.Path.{_≡_, refl, sym, ap, _∙_}
+use native.Mathlib.Omega.{arith}
+use Prim.Native.Nat.{_≤_}
+use Rattle.cards.specs.Mains.{mainNumbers}
+use lib.ListN.{length}
+use lib.Seq.{take-all}
+use mir.Syntax.{w8}
+use mir.Val.{SFits}
+use mir.ValLaws.{toZ-ofZ}
 
 -- src/mains.rt:56:9
 small-row-requires : tie.Need-small-row-requires
@@ -35,7 +44,7 @@ enum-known-count c = search needs
 
 -- src/mains.rt:62:42
 main-made-requires : tie.Need-main-made-requires
-main-made-requires c κs = ?
+main-made-requires c κs = (rw (c .before .count .given .1) at (c .before .before .before .natural-field .ensures .1), c .before .before .before .before .before .before .before .before .before .before .before .before .before .pre)
 
 -- src/mains.rt:63:30
 enum-known-r : tie.Need-enum-known-r
@@ -63,19 +72,28 @@ failed-requires-3 c κs = search needs
 
 -- src/mains.rt:52:1
 returns : tie.Need-returns
-returns c = ?
+unfolding mainNumbers
+returns c =
+    let values = c .before .before .before .before .before .before .before .before .before .before .before .before .small-row .result .values in
+    let phase = c .before .before .before .before .before .before .phase .given .0 .0 in
+    let len : length values ≡ 6 = c .before .before .before .before .before .before .before .before .before .before .before .before .small-row .ensures .1 in
+    let fits : SFits w8 phase = search needs in
+    rw (← c .before .before .before .before .before .before .before .before .before .before .before .before .small-row .ensures .0, c .before .before .before .before .before .before .before .before .before .enum-told .given .1, ← c .before .before .before .before .before .before .before .before .small-field .ensures, c .before .before .before .before .before .before .phase .given .1, ← c .before .before .before .before .natural-field .ensures .0, c .before .before .count .given .1, take-all 6 values (omega arith)) (rw (toZ-ofZ w8 phase fits) at (c .main-made .ensures))
 
 -- src/mains.rt:52:1
 returns-2 : tie.Need-returns-2
-returns-2 c = ?
+unfolding mainNumbers
+returns-2 c = rw (← c .before .before .before .before .before .before .before .before .before .before .before .before .small-row .ensures .0, c .before .before .before .before .before .before .before .before .before .enum-told .given .1, ← c .before .before .before .before .before .before .before .before .small-field .ensures, c .before .before .before .before .before .before .phase .given .1, ← c .before .before .before .before .natural-field .ensures .0, c .before .before .r .given .1) (c .failed .ensures)
 
 -- src/mains.rt:52:1
 returns-3 : tie.Need-returns-3
-returns-3 c = ?
+unfolding mainNumbers
+returns-3 c = rw (← c .before .before .before .before .before .before .before .before .small-row .ensures .0, c .before .before .before .before .before .enum-told .given .1, ← c .before .before .before .before .small-field .ensures, c .before .before .r2 .given .1) (c .failed2 .ensures)
 
 -- src/mains.rt:52:1
 returns-4 : tie.Need-returns-4
-returns-4 c = ?
+unfolding mainNumbers
+returns-4 c = rw (← c .before .before .before .before .before .small-row .ensures .0, c .before .before .fault .given .1) (c .failed3 .ensures)
 
 pub main-numbers-spec : {M : Type 1} → statement M
 main-numbers-spec =

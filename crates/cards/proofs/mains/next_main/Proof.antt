@@ -7,6 +7,11 @@ use Rattle.cards.proofs.mains.failed.Reads as failed-reads
 use Rattle.cards.proofs.mains.main_numbers.Reads as main-numbers-reads
 use Rattle.cards.proofs.mains.main_place.Reads as main-place-reads
 use Rattle.cards.proofs.opening.begins.Reads as begins-reads
+use mathlib.Core.Path.{_≡_, refl, sym, ap, _∙_}
+use lib.ListN.{getD}
+use Prim.Native.Nat.{_*_}
+use Rattle.table.proofs.Rows.{listed-length}
+use Rattle.cards.specs.Mains.{nextMain, mainCard}
 
 -- src/mains.rt:92:11
 begins-requires : tie.Need-begins-requires
@@ -50,19 +55,23 @@ failed-requires-2 c κs = search needs
 
 -- src/mains.rt:88:1
 returns : tie.Need-returns
-returns c = ?
+unfolding nextMain
+returns c = let a = c .before .before .before .before .before .before .args in rw (listed-length (λ k. getD (a .cards .now) (3 * k) 0) 0 (a .mains), ← c .before .before .begins .ensures, c .enum-told .given .1)
 
 -- src/mains.rt:88:1
 returns-2 : tie.Need-returns-2
-returns-2 c = ?
+unfolding nextMain mainCard
+returns-2 c = let a = c .before .before .before .before .before .before .before .before .before .before .before .args in rw (listed-length (λ k. getD (a .cards .now) (3 * k) 0) 0 (a .mains), ← c .before .before .before .before .before .before .before .begins .ensures, c .before .before .before .before .before .enum-told2 .given .1, ← c .before .before .before .before .main-place .ensures, c .before .before .place .given .1) (c .main-numbers .ensures)
 
 -- src/mains.rt:88:1
 returns-3 : tie.Need-returns-3
-returns-3 c = ?
+unfolding nextMain mainCard
+returns-3 c = let a = c .before .before .before .before .before .before .before .before .before .before .before .args in rw (listed-length (λ k. getD (a .cards .now) (3 * k) 0) 0 (a .mains), ← c .before .before .before .before .before .before .before .begins .ensures, c .before .before .before .before .before .enum-told2 .given .1, ← c .before .before .before .before .main-place .ensures, c .before .before .r .given .1) (c .failed .ensures)
 
 -- src/mains.rt:88:1
 returns-4 : tie.Need-returns-4
-returns-4 c = ?
+unfolding nextMain
+returns-4 c = let a = c .before .before .before .before .before .before .before .before .args in rw (listed-length (λ k. getD (a .cards .now) (3 * k) 0) 0 (a .mains), ← c .before .before .before .before .begins .ensures, c .before .before .r2 .given .1) (c .failed2 .ensures)
 
 pub next-main-spec : {M : Type 1} → statement M
 next-main-spec =

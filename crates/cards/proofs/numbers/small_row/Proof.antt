@@ -75,7 +75,7 @@ returns : tie.Need-returns Inv-loop μ-loop
 returns c =
     let s = c .before .before .before .before .before in
     let a = s .before .before .args in
-    rw (numbers-more (a .line .now) (λ i. within (a .most) (a .from + 3 * i) 3 Whole) (take (s .loop .k) (s .loop .values)) (s .loop .k) (a .count) (c .before .before .before .before .loop-test .taken), ← c .before .before .before .small-field .ensures, c .before .r .given .1) at (s .loop .inv .2)
+    (rw (numbers-more (a .line .now) (λ i. within (a .most) (a .from + 3 * i) 3 Whole) (take (s .loop .k) (s .loop .values)) (s .loop .k) (a .count) (c .before .before .before .before .loop-test .taken), ← c .before .before .before .small-field .ensures, c .before .r .given .1) at (s .loop .inv .2), s .loop .inv .1)
 
 -- src/numbers.rt:64:1
 returns-2 : tie.Need-returns-2 Inv-loop μ-loop
@@ -83,7 +83,7 @@ returns-2 c =
     let s = c .before in
     let a = s .before .before .args in
     let e : a .count ≡ s .loop .k = omega arith in
-    rw (ap (λ (k : ℕ). take k (s .loop .values)) e) (rw (numbers-none (a .line .now) (λ i. within (a .most) (a .from + 3 * i) 3 Whole) (take (s .loop .k) (s .loop .values)) (s .loop .k) (a .count) (c .loop-test .left)) at (s .loop .inv .2))
+    (rw (ap (λ (k : ℕ). take k (s .loop .values)) e) (rw (numbers-none (a .line .now) (λ i. within (a .most) (a .from + 3 * i) 3 Whole) (take (s .loop .k) (s .loop .values)) (s .loop .k) (a .count) (c .loop-test .left)) at (s .loop .inv .2)), s .loop .inv .1)
 
 pub small-row-spec : {M : Type 1} → statement M
 small-row-spec =
