@@ -37,8 +37,13 @@ module _ (angles : List ℤ) (ratios : List ℕ) (k : ℕ) (ds : List ℤ) (p : 
   unfolding satelliteOf
   satellite-put a b =
       let four : length (ds ++ (p ∷ [])) ≡ 4 = rw (length-append ds (p ∷ []), three) in
-      rw (ends-with angles (4 * k) ds p 3 three, row-put (pos 0) 4 angles k (ds ++ (p ∷ [])) four a, row-put 0 2 ratios k (ratio ∷ mark ∷ []) refl b,
-        take-at ds (p ∷ []) 3 three, getD-at ds p [] (pos 0) 3 three)
+      rw (
+        ends-with angles (4 * k) ds p 3 three,
+        row-put (pos 0) 4 angles k (ds ++ (p ∷ [])) four a,
+        row-put 0 2 ratios k (ratio ∷ mark ∷ []) refl b,
+        take-at ds (p ∷ []) 3 three,
+        getD-at ds p [] (pos 0) 3 three,
+      )
 
   pub satellite-kept : Kept (satelliteOf (set (sets angles (4 * k) ds) (4 * k + 3) p) (sets ratios (2 * k) (ratio ∷ mark ∷ []))) (satelliteOf angles ratios) k
   unfolding satelliteOf
@@ -83,8 +88,13 @@ module _ (cards : List ℕ) (angles : List ℤ) (m place first : ℕ) (doodson :
   unfolding mainOf listed
   main-begun sat ratios =
       let seven : length (doodson ++ (phase ∷ [])) ≡ 7 = rw (length-append doodson (phase ∷ []), six) in
-      rw (ends-with angles (7 * m) doodson phase 6 six, begun-row, row-put (pos 0) 7 angles m (doodson ++ (phase ∷ [])) seven room,
-        take-at doodson (phase ∷ []) 6 six, getD-at doodson phase [] (pos 0) 6 six)
+      rw (
+        ends-with angles (7 * m) doodson phase 6 six,
+        begun-row,
+        row-put (pos 0) 7 angles m (doodson ++ (phase ∷ [])) seven room,
+        take-at doodson (phase ∷ []) 6 six,
+        getD-at doodson phase [] (pos 0) 6 six,
+      )
 
   pub begun-stored : (s : ℕ) → Stored cards m s → Stored begun-cards m s
   begun-stored s stored k h = rw (row-kept 0 3 cards m (place ∷ first ∷ 0 ∷ []) refl k h) (stored k h)
@@ -96,7 +106,7 @@ module _ (cards : List ℕ) (angles : List ℤ) (m place first : ℕ) (doodson :
       (λ k a b.
       let h : k < m = omega arith in
       main-same cards begun-cards ratios ratios angles begun-angles sat sat k (satellitesEnd cards k) (row-kept 0 3 cards m (place ∷ first ∷ 0 ∷ []) refl k h)
-        (rw (ends-with angles (7 * m) doodson phase 6 six) (row-kept (pos 0) 7 angles m (doodson ++ (phase ∷ [])) seven k h)) (omega arith) (λ i x. refl))
+      (rw (ends-with angles (7 * m) doodson phase 6 six) (row-kept (pos 0) 7 angles m (doodson ++ (phase ∷ [])) seven k h)) (omega arith) (λ i x. refl))
 
   -- the mains with the one begun behind them
   pub mains-begun : (sat : List ℤ) (ratios : List ℕ) → mainsIn begun-cards begun-angles sat ratios (m + 1) ≡ mainsIn cards angles sat ratios m ++ (record { place = place; doodson = doodson; phase = phase; satellites = [] } ∷ [])
@@ -110,9 +120,11 @@ module _ (cards : List ℕ) (m t s : ℕ) (roomy : 3 * m + 3 ≤ length cards) w
   grown-row : naturals 3 grown-cards m ≡ getD (naturals 3 cards m) 0 0 ∷ getD (naturals 3 cards m) 1 0 ∷ (getD (naturals 3 cards m) 2 0 + t) ∷ []
   unfolding rowOf listed
   grown-row =
-      rw (getD-set-other cards (3 * m + 2) (3 * m + 0) (getD cards (3 * m + 2) 0 + t) 0 (λ e. omega arith),
+      rw (
+        getD-set-other cards (3 * m + 2) (3 * m + 0) (getD cards (3 * m + 2) 0 + t) 0 (λ e. omega arith),
         getD-set-other cards (3 * m + 2) (3 * m + 1) (getD cards (3 * m + 2) 0 + t) 0 (λ e. omega arith),
-        getD-set-same cards (3 * m + 2) (getD cards (3 * m + 2) 0 + t) 0 (omega arith))
+        getD-set-same cards (3 * m + 2) (getD cards (3 * m + 2) 0 + t) 0 (omega arith),
+      )
 
   grown-row-kept : (k : ℕ) → k < m → naturals 3 grown-cards k ≡ naturals 3 cards k
   unfolding rowOf
@@ -175,14 +187,15 @@ made-fits place doodson phase count s c e = go (ltb 256 (s + natAbs count)) refl
 
 pub main-room : (names : List (List ℕ)) (places : List ℕ) (s : ℕ) (line : List ℕ) (c : MainCard) → nextMain names places s line ≡ gives c → (length places < 64) × (s + c .count ≤ 256)
 unfolding nextMain mainCard mainNumbers
-main-room names places s line c e =
-    (had-room 64 (length places) line (mainCard names places s line) c e,
-    bind-good (λ (c : MainCard). s + c .count ≤ 256) (newPlace names places (columns line mainName 5)) _ c
+main-room names places s line c e = (
+  had-room 64 (length places) line (mainCard names places s line) c e,
+  bind-good (λ (c : MainCard). s + c .count ≤ 256) (newPlace names places (columns line mainName 5)) _ c
       (λ place. bind-good (λ (c : MainCard). s + c .count ≤ 256) (numbers line doodsonField 6) _ c
       (λ doodson. bind-good (λ (c : MainCard). s + c .count ≤ 256) (number line mainPhaseField) _ c
       (λ phase. bind-good (λ (c : MainCard). s + c .count ≤ 256) (number line satelliteCountField) _ c
       (λ count. made-fits place doodson phase count s c))))
-      (opened-good (opening 64 (length places) line) (mainCard names places s line) c e))
+      (opened-good (opening 64 (length places) line) (mainCard names places s line) c e),
+)
 
 -- the mains, and the satellites of main m, from byte `at` on, as the code reads the line there and steps to the next; or none left
 module _ (names : List (List ℕ)) (file : List ℕ) (at n : ℕ) (cards : List ℕ) (angles sat : List ℤ) (ratios : List ℕ) (m s : ℕ) where
@@ -190,9 +203,9 @@ module _ (names : List (List ℕ)) (file : List ℕ) (at n : ℕ) (cards : List 
       → mainGives r ≡ nextMain names (placesIn 3 cards m) s line
       → mainsFrom names (linesOf (drop at file)) n (mainsIn cards angles sat ratios m) s
       ≡ onwardOrEnd (mainGives r) n (given (mainsIn cards angles sat ratios m) (linesOf (drop next file)) (n + 1))
-        (λ c. cond (eqb (c .count) 0)
-          (mainsFrom names (linesOf (drop next file)) (n + 1) (mainsIn cards angles sat ratios m ++ (c .main ∷ [])) s)
-          (satellitesFrom names (linesOf (drop next file)) (n + 1) (mainsIn cards angles sat ratios m) s (c .main) (c .count)))
+      (λ c. cond (eqb (c .count) 0)
+      (mainsFrom names (linesOf (drop next file)) (n + 1) (mainsIn cards angles sat ratios m ++ (c .main ∷ [])) s)
+      (satellitesFrom names (linesOf (drop next file)) (n + 1) (mainsIn cards angles sat ratios m) s (c .main) (c .count)))
   unfolding mainsFrom satellitesFrom
   mains-step next line r h first rest card = rw (lines-here file at next line h first rest, places-of cards angles sat ratios 0 m, ← card)
 
@@ -204,9 +217,9 @@ module _ (names : List (List ℕ)) (file : List ℕ) (at n : ℕ) (cards : List 
     pub satellites-step : (next : ℕ) (line : List ℕ) → at < length file → line ≡ firstLine (drop at file) → drop next file ≡ restLines (drop at file)
         → satellitesFrom names (linesOf (drop at file)) n (mainsIn cards angles sat ratios m) s main count
         ≡ onward (satelliteCard count line) n
-          (λ more. cond (leb count 3)
-            (mainsFrom names (linesOf (drop next file)) (n + 1) (mainsIn cards angles sat ratios m ++ (withMore main more ∷ [])) (s + count))
-            (satellitesFrom names (linesOf (drop next file)) (n + 1) (mainsIn cards angles sat ratios m) (s + 3) (withMore main more) (count - 3)))
+        (λ more. cond (leb count 3)
+        (mainsFrom names (linesOf (drop next file)) (n + 1) (mainsIn cards angles sat ratios m ++ (withMore main more ∷ [])) (s + count))
+        (satellitesFrom names (linesOf (drop next file)) (n + 1) (mainsIn cards angles sat ratios m) (s + 3) (withMore main more) (count - 3)))
     unfolding mainsFrom satellitesFrom
     satellites-step next line h first rest = rw (lines-here file at next line h first rest)
 

@@ -23,7 +23,7 @@ pub record MainCard : Type 0 where
 unfoldable pub mainMade : ℕ → List ℤ → ℤ → ℤ → ℕ → Card MainCard
 mainMade place doodson phase count satellites =
     cond (ltb 256 (satellites + natAbs count)) (bad 6)
-      (good (record { main = record { place = place; doodson = doodson; phase = phase; satellites = [] }; count = natAbs count }))
+    (good (record { main = record { place = place; doodson = doodson; phase = phase; satellites = [] }; count = natAbs count }))
 
 -- the numbers of a constituent card: six Doodson numbers; phase; satellite count
 unfoldable pub mainNumbers : ℕ → ℕ → List ℕ → Card MainCard

@@ -8,8 +8,11 @@ ghost use Rattle.cards.specs.Formats.{upTo};
 ghost use Rattle.cards.specs.Longitudes.{fiveFrom};
 ghost use Rattle.cards.specs.Answers.{readingGives, Within};
 use crate::Refusal;
-use crate::lines::{Progress, line_at, next_line};
-use crate::numbers::{Fault, five_card};
+use crate::lines::Progress;
+use crate::lines::line_at;
+use crate::lines::next_line;
+use crate::numbers::Fault;
+use crate::numbers::five_card;
 
 // What a card of five numbers gives, and where it ends.
 pub struct FiveRead {
@@ -24,7 +27,10 @@ pub fn read_five(file: &[u8], at: usize, n: usize, most: u64) -> FiveRead
     ensures { λ r. ⌜ Within (now (file .entry)) (r .progress) ⌝ }
 {
     if file.len() <= at {
-        return FiveRead { progress: Progress::Refused(Refusal::Ended, n), values: [0u64; 5] };
+        return FiveRead {
+            progress: Progress::Refused(Refusal::Ended, n),
+            values: [0u64; 5],
+        };
     }
     let line = line_at(file, at);
     if columns::line_good(line) {
@@ -33,9 +39,18 @@ pub fn read_five(file: &[u8], at: usize, n: usize, most: u64) -> FiveRead
         let fault = five.fault;
         let values = five.values;
         return match fault {
-            Fault::Clear => FiveRead { progress: Progress::Reached(next, n + 1), values: values },
-            Fault::Bad(r) => FiveRead { progress: Progress::Refused(r, n), values: values },
+            Fault::Clear => FiveRead {
+                progress: Progress::Reached(next, n + 1),
+                values: values,
+            },
+            Fault::Bad(r) => FiveRead {
+                progress: Progress::Refused(r, n),
+                values: values,
+            },
         };
     }
-    FiveRead { progress: Progress::Refused(Refusal::Line, n), values: [0u64; 5] }
+    FiveRead {
+        progress: Progress::Refused(Refusal::Line, n),
+        values: [0u64; 5],
+    }
 }

@@ -11,9 +11,17 @@ ghost use Rattle.cards.specs.Mains.{mainMade, mainNumbers, mainCard, nex
 ghost use Rattle.cards.specs.Answers.{numberOf, placeGives, placesIn, mainGives};
 ghost use lib.IntN.{pos};
 use crate::Refusal;
-use crate::numbers::{Fault, Natural, Small, natural_field, small_field, small_row};
-use crate::opening::{Opening, begins};
-use crate::places::{Place, is_among, place_named};
+use crate::numbers::Fault;
+use crate::numbers::Natural;
+use crate::numbers::Small;
+use crate::numbers::natural_field;
+use crate::numbers::small_field;
+use crate::numbers::small_row;
+use crate::opening::Opening;
+use crate::opening::begins;
+use crate::places::Place;
+use crate::places::is_among;
+use crate::places::place_named;
 
 // What the next constituent card comes to: the part's end, a main with so many satellites, or a refusal.
 pub enum MainStep {
@@ -34,7 +42,12 @@ pub struct MainRead {
 fn failed(r: Refusal) -> MainRead
     ensures { λ m. ⌜ mainGives m ≡ fails (numberOf r) ⌝ }
 {
-    MainRead { step: MainStep::Fails(r), place: 0, doodson: [0i8; 6], phase: 0 }
+    MainRead {
+        step: MainStep::Fails(r),
+        place: 0,
+        doodson: [0i8; 6],
+        phase: 0,
+    }
 }
 
 // A main from its numbers, unless its satellites are too many in all.
@@ -45,7 +58,12 @@ fn main_made(place: u16, doodson: [i8; 6], phase: i8, count: u64, satellites: us
     if 256 < satellites + (count as usize) {
         return failed(Refusal::Count);
     }
-    MainRead { step: MainStep::Gives(count as u16), place: place, doodson: doodson, phase: phase }
+    MainRead {
+        step: MainStep::Gives(count as u16),
+        place: place,
+        doodson: doodson,
+        phase: phase,
+    }
 }
 
 // The numbers of a constituent card with a place.
@@ -85,12 +103,24 @@ fn main_place(line: &[u8], names: &[u8], frequencies: usize, cards: &[u16], main
 }
 
 // The next constituent card.
-pub fn next_main(line: &[u8], names: &[u8], frequencies: usize, cards: &[u16], mains: usize, satellites: usize) -> MainRead
+pub fn next_main(
+    line: &[u8],
+    names: &[u8],
+    frequencies: usize,
+    cards: &[u16],
+    mains: usize,
+    satellites: usize,
+) -> MainRead
     requires { ⌜ (frequencies ≤ 160) × (mains ≤ 64) × (satellites ≤ 256) ⌝ }
     ensures { λ r. ⌜ mainGives r ≡ nextMain (namesFrom (now (names .entry)) 0 frequencies) (placesIn 3 (now (cards .entry)) mains) satellites (now (line .entry)) ⌝ }
 {
     match begins(line, mains, 64) {
-        Opening::Ends => MainRead { step: MainStep::Ends, place: 0, doodson: [0i8; 6], phase: 0 },
+        Opening::Ends => MainRead {
+            step: MainStep::Ends,
+            place: 0,
+            doodson: [0i8; 6],
+            phase: 0,
+        },
         Opening::Fields => match main_place(line, names, frequencies, cards, mains) {
             Place::At(place) => main_numbers(line, place, satellites),
             Place::Bad(r) => failed(r),
@@ -100,7 +130,15 @@ pub fn next_main(line: &[u8], names: &[u8], frequencies: usize, cards: &[u16], m
 }
 
 // Stores main m: its place, no satellite yet from `first` on, and its numbers.
-pub fn put_main(cards: &mut [u16; 192], angles: &mut [i8; 448], m: usize, place: u16, first: usize, doodson: [i8; 6], phase: i8)
+pub fn put_main(
+    cards: &mut [u16; 192],
+    angles: &mut [i8; 448],
+    m: usize,
+    place: u16,
+    first: usize,
+    doodson: [i8; 6],
+    phase: i8,
+)
     requires { ⌜ (m < 64) × (first ≤ 256) ⌝ }
     ensures { λ _. ⌜ now (cards .exit) ≡ sets (now (cards .entry)) (3 * m) (place ∷ first ∷ 0 ∷ []) ⌝ }
     ensures { λ _. ⌜ now (angles .exit) ≡ set (sets (now (angles .entry)) (7 * m) doodson) (7 * m + 6) phase ⌝ }

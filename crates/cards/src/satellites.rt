@@ -11,7 +11,12 @@ ghost use Rattle.cards.specs.Card.{bad};
 ghost use Rattle.cards.specs.Mains.{satellite, satellitesOn, satelliteCard};
 ghost use Rattle.cards.specs.Answers.{numberOf, faultGives, satelliteGives, Kept, SatelliteRoom};
 use crate::Refusal;
-use crate::numbers::{Fault, Natural, Small, natural_field, small_field, small_row};
+use crate::numbers::Fault;
+use crate::numbers::Natural;
+use crate::numbers::Small;
+use crate::numbers::natural_field;
+use crate::numbers::small_field;
+use crate::numbers::small_row;
 
 // What a satellite's fields hold, or the refusal that they earn.
 pub struct SatelliteRead {
@@ -26,7 +31,13 @@ pub struct SatelliteRead {
 fn failed(r: Refusal) -> SatelliteRead
     ensures { λ s. ⌜ (satelliteGives s ≡ bad (numberOf r)) × (length (s .differences) ≡ 6) ⌝ }
 {
-    SatelliteRead { fault: Fault::Bad(r), differences: [0i8; 6], phase: 0, ratio: 0, mark: 0 }
+    SatelliteRead {
+        fault: Fault::Bad(r),
+        differences: [0i8; 6],
+        phase: 0,
+        ratio: 0,
+        mark: 0,
+    }
 }
 
 // The satellite from column `at` of the line on.
@@ -39,10 +50,23 @@ fn satellite_fields(line: &[u8], at: usize) -> SatelliteRead
     let differences = row.values;
     match fault {
         Fault::Clear => match small_field(line, at + 9, 4, fields::Format::Fixed(2), 100) {
-            Small::Value(phase) => match natural_field(line, at + 13, 7, fields::Format::Fixed(4), 0, 20000) {
+            Small::Value(phase) => match natural_field(
+                line,
+                at + 13,
+                7,
+                fields::Format::Fixed(4),
+                0,
+                20000,
+            ) {
                 Natural::Value(ratio) => {
                     let mark = columns::column(line, at + 21);
-                    SatelliteRead { fault: Fault::Clear, differences: differences, phase: phase, ratio: ratio as u32, mark: mark }
+                    SatelliteRead {
+                        fault: Fault::Clear,
+                        differences: differences,
+                        phase: phase,
+                        ratio: ratio as u32,
+                        mark: mark,
+                    }
                 }
                 Natural::Bad(r) => failed(r),
             },
@@ -67,7 +91,13 @@ fn put_satellite(angles: &mut [i8; 1024], ratios: &mut [u32; 512], k: usize, s: 
 }
 
 // The first `count` satellites of the line, stored from satellite `first` on.
-fn satellites_on(line: &[u8], first: usize, count: usize, angles: &mut [i8; 1024], ratios: &mut [u32; 512]) -> Fault
+fn satellites_on(
+    line: &[u8],
+    first: usize,
+    count: usize,
+    angles: &mut [i8; 1024],
+    ratios: &mut [u32; 512],
+) -> Fault
     requires { ⌜ (first + count ≤ 256) × (count ≤ 3) × SatelliteRoom (now angles) (now ratios) ⌝ }
     ensures { λ r. ⌜ faultGives r (listed (satelliteOf (now (angles .exit)) (now (ratios .exit))) first count) ≡ satellitesOn (now (line .entry)) [] 0 count ⌝ }
     ensures { λ _. ⌜ Kept (satelliteOf (now (angles .exit)) (now (ratios .exit))) (satelliteOf (now (angles .entry)) (now (ratios .entry))) first × SatelliteRoom (now (angles .exit)) (now (ratios .exit)) ⌝ }
@@ -97,7 +127,13 @@ pub fn at_most_three(count: usize) -> usize
 }
 
 // The satellite card where `count` are still to come, stored from satellite `first` on.
-pub fn satellite_card(line: &[u8], first: usize, count: usize, angles: &mut [i8; 1024], ratios: &mut [u32; 512]) -> Fault
+pub fn satellite_card(
+    line: &[u8],
+    first: usize,
+    count: usize,
+    angles: &mut [i8; 1024],
+    ratios: &mut [u32; 512],
+) -> Fault
     requires { ⌜ (first + count ≤ 256) × SatelliteRoom (now angles) (now ratios) ⌝ }
     ensures { λ r. ⌜ faultGives r (listed (satelliteOf (now (angles .exit)) (now (ratios .exit))) first (min count 3)) ≡ satelliteCard count (now (line .entry)) ⌝ }
     ensures { λ _. ⌜ Kept (satelliteOf (now (angles .exit)) (now (ratios .exit))) (satelliteOf (now (angles .entry)) (now (ratios .entry))) first × SatelliteRoom (now (angles .exit)) (now (ratios .exit)) ⌝ }

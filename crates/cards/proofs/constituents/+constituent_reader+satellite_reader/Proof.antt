@@ -1,5 +1,4 @@
 use borrow.Author.Needs.{needs}
-
 use borrow.Fn.Kinds.{In}
 use borrow.Fn.PlainCycle.{Measures, is, falls, and}
 use Rattle.cards.proofs.constituents.constituent_reader.Reads as constituent-reader
@@ -116,9 +115,10 @@ begun-room : (t : ℕ) (c : constituent-reader-lts.After-put-main (constituent-r
 begun-room t c =
     let a = c .before .before .before .before .before .before .before .before .before .before .before .before .before .before .before .before .args in
     let r = c .before .before .before .before .before .before .before .before .next-main .result in
-    let e = begun t c in
-    (ap length (e .0) ∙ length-sets (a .cards .now) (3 * a .mains) (r .place ∷ a .satellites ∷ 0 ∷ []) ∙ c .before .before .before .before .before .before .before .before .before .before .before .before .before .before .before .before .pre .1 .6 .0,
-    ap length (e .1) ∙ length-set (sets (a .angles .now) (7 * a .mains) (r .doodson)) (7 * a .mains + 6) (r .phase) ∙ length-sets (a .angles .now) (7 * a .mains) (r .doodson) ∙ c .before .before .before .before .before .before .before .before .before .before .before .before .before .before .before .before .pre .1 .6 .1)
+    let e = begun t c in (
+      ap length (e .0) ∙ length-sets (a .cards .now) (3 * a .mains) (r .place ∷ a .satellites ∷ 0 ∷ []) ∙ c .before .before .before .before .before .before .before .before .before .before .before .before .before .before .before .before .pre .1 .6 .0,
+      ap length (e .1) ∙ length-set (sets (a .angles .now) (7 * a .mains) (r .doodson)) (7 * a .mains + 6) (r .phase) ∙ length-sets (a .angles .now) (7 * a .mains) (r .doodson) ∙ c .before .before .before .before .before .before .before .before .before .before .before .before .before .before .before .before .pre .1 .6 .1,
+    )
 
 begun-satellites : (t : ℕ) (c : constituent-reader-lts.After-put-main (constituent-reader-claims t) (constituent-reader-at t) constituent-reader.Post) → Stored (c .put-main .last .0) (c .before .before .before .before .before .before .before .before .before .before .before .before .before .before .before .before .args .mains) (c .before .before .before .before .before .before .before .before .before .before .before .before .before .before .before .before .args .satellites) × (satellitesEnd (c .put-main .last .0) (c .before .before .before .before .before .before .before .before .before .before .before .before .before .before .before .before .args .mains) ≡ c .before .before .before .before .before .before .before .before .before .before .before .before .before .before .before .before .args .satellites)
 begun-satellites t c =
@@ -128,20 +128,21 @@ begun-satellites t c =
     let m : a .mains < 64 = room t (c .before .before .before) .0 in
     let h : 3 * a .mains + 3 ≤ length (a .cards .now) = omega (arith, m, p .6 .0) in
     let g : 7 * a .mains + 7 ≤ length (a .angles .now) = omega (arith, m, p .6 .1) in
-    rw (begun t c .0)
-    (begun-stored (a .cards .now) (a .angles .now) (a .mains) (r .place) (a .satellites) (r .doodson) (r .phase) (six t (c .before .before .before .before .before .before .before .before)) h g (a .satellites) (p .5),
-    rw (begun-row (a .cards .now) (a .angles .now) (a .mains) (r .place) (a .satellites) (r .doodson) (r .phase) (six t (c .before .before .before .before .before .before .before .before)) h g) (add-zero (a .satellites)))
+    rw (begun t c .0) (
+      begun-stored (a .cards .now) (a .angles .now) (a .mains) (r .place) (a .satellites) (r .doodson) (r .phase) (six t (c .before .before .before .before .before .before .before .before)) h g (a .satellites) (p .5),
+      rw (begun-row (a .cards .now) (a .angles .now) (a .mains) (r .place) (a .satellites) (r .doodson) (r .phase) (six t (c .before .before .before .before .before .before .before .before)) h g) (add-zero (a .satellites)),
+    )
 
 -- and what is left to read
 begun-step : (t : ℕ) (c : constituent-reader-lts.After-put-main (constituent-reader-claims t) (constituent-reader-at t) constituent-reader.Post)
     → mainsFrom (namesFrom (c .before .before .before .before .before .before .before .before .before .before .before .before .before .before .before .before .args .names .now) 0 (c .before .before .before .before .before .before .before .before .before .before .before .before .before .before .before .before .args .frequencies)) (linesOf (drop (c .before .before .before .before .before .before .before .before .before .before .before .before .before .before .before .before .args .at) (c .before .before .before .before .before .before .before .before .before .before .before .before .before .before .before .before .args .file .now))) (c .before .before .before .before .before .before .before .before .before .before .before .before .before .before .before .before .args .n)
-        (mainsIn (c .before .before .before .before .before .before .before .before .before .before .before .before .before .before .before .before .args .cards .now) (c .before .before .before .before .before .before .before .before .before .before .before .before .before .before .before .before .args .angles .now) (c .before .before .before .before .before .before .before .before .before .before .before .before .before .before .before .before .args .sat .now) (c .before .before .before .before .before .before .before .before .before .before .before .before .before .before .before .before .args .ratios .now) (c .before .before .before .before .before .before .before .before .before .before .before .before .before .before .before .before .args .mains)) (c .before .before .before .before .before .before .before .before .before .before .before .before .before .before .before .before .args .satellites)
+    (mainsIn (c .before .before .before .before .before .before .before .before .before .before .before .before .before .before .before .before .args .cards .now) (c .before .before .before .before .before .before .before .before .before .before .before .before .before .before .before .before .args .angles .now) (c .before .before .before .before .before .before .before .before .before .before .before .before .before .before .before .before .args .sat .now) (c .before .before .before .before .before .before .before .before .before .before .before .before .before .before .before .before .args .ratios .now) (c .before .before .before .before .before .before .before .before .before .before .before .before .before .before .before .before .args .mains)) (c .before .before .before .before .before .before .before .before .before .before .before .before .before .before .before .before .args .satellites)
     ≡ cond (eqb (c .before .before .before .before .step .given .0 .0) 0)
-      (mainsFrom (namesFrom (c .before .before .before .before .before .before .before .before .before .before .before .before .before .before .before .before .args .names .now) 0 (c .before .before .before .before .before .before .before .before .before .before .before .before .before .before .before .before .args .frequencies)) (linesOf (drop (c .before .before .before .before .before .before .before .before .before .before .before .before .next-line .result) (c .before .before .before .before .before .before .before .before .before .before .before .before .before .before .before .before .args .file .now))) (c .before .before .before .before .before .before .before .before .before .before .before .before .before .before .before .before .args .n + 1)
-        (mainsIn (c .put-main .last .0) (c .put-main .last .1 .0) (c .before .before .before .before .before .before .before .before .before .before .before .before .before .before .before .before .args .sat .now) (c .before .before .before .before .before .before .before .before .before .before .before .before .before .before .before .before .args .ratios .now) (c .before .before .before .before .before .before .before .before .before .before .before .before .before .before .before .before .args .mains + 1)) (c .before .before .before .before .before .before .before .before .before .before .before .before .before .before .before .before .args .satellites))
-      (satellitesFrom (namesFrom (c .before .before .before .before .before .before .before .before .before .before .before .before .before .before .before .before .args .names .now) 0 (c .before .before .before .before .before .before .before .before .before .before .before .before .before .before .before .before .args .frequencies)) (linesOf (drop (c .before .before .before .before .before .before .before .before .before .before .before .before .next-line .result) (c .before .before .before .before .before .before .before .before .before .before .before .before .before .before .before .before .args .file .now))) (c .before .before .before .before .before .before .before .before .before .before .before .before .before .before .before .before .args .n + 1)
-        (mainsIn (c .put-main .last .0) (c .put-main .last .1 .0) (c .before .before .before .before .before .before .before .before .before .before .before .before .before .before .before .before .args .sat .now) (c .before .before .before .before .before .before .before .before .before .before .before .before .before .before .before .before .args .ratios .now) (c .before .before .before .before .before .before .before .before .before .before .before .before .before .before .before .before .args .mains)) (c .before .before .before .before .before .before .before .before .before .before .before .before .before .before .before .before .args .satellites)
-        (mainOf (c .put-main .last .0) (c .put-main .last .1 .0) (c .before .before .before .before .before .before .before .before .before .before .before .before .before .before .before .before .args .sat .now) (c .before .before .before .before .before .before .before .before .before .before .before .before .before .before .before .before .args .ratios .now) (c .before .before .before .before .before .before .before .before .before .before .before .before .before .before .before .before .args .mains)) (c .before .before .before .before .step .given .0 .0))
+    (mainsFrom (namesFrom (c .before .before .before .before .before .before .before .before .before .before .before .before .before .before .before .before .args .names .now) 0 (c .before .before .before .before .before .before .before .before .before .before .before .before .before .before .before .before .args .frequencies)) (linesOf (drop (c .before .before .before .before .before .before .before .before .before .before .before .before .next-line .result) (c .before .before .before .before .before .before .before .before .before .before .before .before .before .before .before .before .args .file .now))) (c .before .before .before .before .before .before .before .before .before .before .before .before .before .before .before .before .args .n + 1)
+    (mainsIn (c .put-main .last .0) (c .put-main .last .1 .0) (c .before .before .before .before .before .before .before .before .before .before .before .before .before .before .before .before .args .sat .now) (c .before .before .before .before .before .before .before .before .before .before .before .before .before .before .before .before .args .ratios .now) (c .before .before .before .before .before .before .before .before .before .before .before .before .before .before .before .before .args .mains + 1)) (c .before .before .before .before .before .before .before .before .before .before .before .before .before .before .before .before .args .satellites))
+    (satellitesFrom (namesFrom (c .before .before .before .before .before .before .before .before .before .before .before .before .before .before .before .before .args .names .now) 0 (c .before .before .before .before .before .before .before .before .before .before .before .before .before .before .before .before .args .frequencies)) (linesOf (drop (c .before .before .before .before .before .before .before .before .before .before .before .before .next-line .result) (c .before .before .before .before .before .before .before .before .before .before .before .before .before .before .before .before .args .file .now))) (c .before .before .before .before .before .before .before .before .before .before .before .before .before .before .before .before .args .n + 1)
+    (mainsIn (c .put-main .last .0) (c .put-main .last .1 .0) (c .before .before .before .before .before .before .before .before .before .before .before .before .before .before .before .before .args .sat .now) (c .before .before .before .before .before .before .before .before .before .before .before .before .before .before .before .before .args .ratios .now) (c .before .before .before .before .before .before .before .before .before .before .before .before .before .before .before .before .args .mains)) (c .before .before .before .before .before .before .before .before .before .before .before .before .before .before .before .before .args .satellites)
+    (mainOf (c .put-main .last .0) (c .put-main .last .1 .0) (c .before .before .before .before .before .before .before .before .before .before .before .before .before .before .before .before .args .sat .now) (c .before .before .before .before .before .before .before .before .before .before .before .before .before .before .before .before .args .ratios .now) (c .before .before .before .before .before .before .before .before .before .before .before .before .before .before .before .before .args .mains)) (c .before .before .before .before .step .given .0 .0))
 begun-step t c =
     let a = c .before .before .before .before .before .before .before .before .before .before .before .before .before .before .before .before .args in
     let r = c .before .before .before .before .before .before .before .before .next-main .result in
@@ -150,12 +151,15 @@ begun-step t c =
     let m : a .mains < 64 = room t (c .before .before .before) .0 in
     let h : 3 * a .mains + 3 ≤ length (a .cards .now) = omega (arith, m, p .6 .0) in
     let g : 7 * a .mains + 7 ≤ length (a .angles .now) = omega (arith, m, p .6 .1) in
-    rw (begun t c .0, begun t c .1,
+    rw (
+      begun t c .0,
+      begun t c .1,
       mains-begun (a .cards .now) (a .angles .now) (a .mains) (r .place) (a .satellites) (r .doodson) (r .phase) (six t (c .before .before .before .before .before .before .before .before)) h g (a .sat .now) (a .ratios .now),
       mains-kept-begun (a .cards .now) (a .angles .now) (a .mains) (r .place) (a .satellites) (r .doodson) (r .phase) (six t (c .before .before .before .before .before .before .before .before)) h g (a .sat .now) (a .ratios .now),
-      main-begun (a .cards .now) (a .angles .now) (a .mains) (r .place) (a .satellites) (r .doodson) (r .phase) (six t (c .before .before .before .before .before .before .before .before)) h g (a .sat .now) (a .ratios .now))
+      main-begun (a .cards .now) (a .angles .now) (a .mains) (r .place) (a .satellites) (r .doodson) (r .phase) (six t (c .before .before .before .before .before .before .before .before)) h g (a .sat .now) (a .ratios .now),
+    )
     (rw (c .before .before .before .before .step .given .1) at (mains-step names (a .file .now) (a .at) (a .n) (a .cards .now) (a .angles .now) (a .sat .now) (a .ratios .now) (a .mains) (a .satellites) (c .before .before .before .before .before .before .before .before .before .before .before .before .next-line .result) (c .before .before .before .before .before .before .before .before .before .before .before .line-at .result .now) r
-      (c .before .before .before .before .before .before .before .before .before .before .before .before .before .if1 .left) (c .before .before .before .before .before .before .before .before .before .before .before .line-at .ensures) (c .before .before .before .before .before .before .before .before .before .before .before .before .next-line .ensures .2) (c .before .before .before .before .before .before .before .before .next-main .ensures)))
+    (c .before .before .before .before .before .before .before .before .before .before .before .before .before .if1 .left) (c .before .before .before .before .before .before .before .before .before .before .before .line-at .ensures) (c .before .before .before .before .before .before .before .before .before .before .before .before .next-line .ensures .2) (c .before .before .before .before .before .before .before .before .next-main .ensures)))
 
 -- src/constituents.rt:31:9
 constituent-reader-returns : (t : ℕ) → constituent-reader-lts.Need-returns (constituent-reader-claims t) (constituent-reader-at t) constituent-reader.Post
@@ -205,10 +209,19 @@ constituent-reader-constituent-reader-requires t c κs =
     let p = c .before .before .before .before .before .before .before .before .before .before .before .before .before .before .before .before .before .before .before .before .before .pre .1 in
     let a = c .before .before .before .before .before .before .before .before .before .before .before .before .before .before .before .before .before .before .before .before .before .args in
     let next = c .before .before .before .before .before .before .before .before .before .before .before .before .before .before .before .before .before .next-line .ensures in
-    let s = begun-satellites t (c .before .before .before .before .before) in
-    (omega (arith, c .before .before .before .before .before .before .before .before .before .before .before .before .before .before .before .before .before .before .before .before .before .pre .0, next .0, next .1),
-    (next .1, omega (arith, p .1, next .0), p .2, add-one-le (room t (c .before .before .before .before .before .before .before .before) .0), p .4,
-    stored-one-more (c .before .before .before .before .before .put-main .last .0) (a .mains) (a .satellites) (s .0) (omega (arith, s .1)), begun-room t (c .before .before .before .before .before), p .7))
+    let s = begun-satellites t (c .before .before .before .before .before) in (
+      omega (arith, c .before .before .before .before .before .before .before .before .before .before .before .before .before .before .before .before .before .before .before .before .before .pre .0, next .0, next .1),
+      (
+        next .1,
+        omega (arith, p .1, next .0),
+        p .2,
+        add-one-le (room t (c .before .before .before .before .before .before .before .before) .0),
+        p .4,
+        stored-one-more (c .before .before .before .before .before .put-main .last .0) (a .mains) (a .satellites) (s .0) (omega (arith, s .1)),
+        begun-room t (c .before .before .before .before .before),
+        p .7,
+      ),
+    )
 
 -- src/constituents.rt:43:17
 constituent-reader-returns-2 : (t : ℕ) → constituent-reader-lts.Need-returns-2 (constituent-reader-claims t) (constituent-reader-at t) constituent-reader.Post
@@ -228,9 +241,10 @@ constituent-reader-satellite-reader-requires : (t : ℕ) → constituent-reader-
 constituent-reader-satellite-reader-requires t c κs =
     let p = c .before .before .before .before .before .before .before .before .before .before .before .before .before .before .before .before .before .before .before .before .before .pre .1 in
     let next = c .before .before .before .before .before .before .before .before .before .before .before .before .before .before .before .before .before .next-line .ensures in
-    let s = begun-satellites t (c .before .before .before .before .before) in
-    (omega (arith, c .before .before .before .before .before .before .before .before .before .before .before .before .before .before .before .before .before .before .before .before .before .pre .0, next .0, next .1),
-    (next .1, omega (arith, p .1, next .0), p .2, room t (c .before .before .before .before .before .before .before .before) .0, room t (c .before .before .before .before .before .before .before .before) .1, s .1, s .0, begun-room t (c .before .before .before .before .before), p .7))
+    let s = begun-satellites t (c .before .before .before .before .before) in (
+      omega (arith, c .before .before .before .before .before .before .before .before .before .before .before .before .before .before .before .before .before .before .before .before .before .pre .0, next .0, next .1),
+      (next .1, omega (arith, p .1, next .0), p .2, room t (c .before .before .before .before .before .before .before .before) .0, room t (c .before .before .before .before .before .before .before .before) .1, s .1, s .0, begun-room t (c .before .before .before .before .before), p .7),
+    )
 
 -- src/constituents.rt:47:25
 constituent-reader-enum-known-step-2 : (t : ℕ) → constituent-reader-lts.Need-enum-known-step-2 (constituent-reader-claims t) (constituent-reader-at t) constituent-reader.Post
@@ -240,10 +254,14 @@ constituent-reader-enum-known-step-2 t c = search needs
 constituent-reader-returns-3 : (t : ℕ) → constituent-reader-lts.Need-returns-3 (constituent-reader-claims t) (constituent-reader-at t) constituent-reader.Post
 constituent-reader-returns-3 t c =
     let a = c .before .before .before .before .before .before .before .before .before .before .before .before .args in
-    let next = c .before .before .before .before .before .before .before .before .next-line in
-    (rw (mains-step (namesFrom (a .names .now) 0 (a .frequencies)) (a .file .now) (a .at) (a .n) (a .cards .now) (a .angles .now) (a .sat .now) (a .ratios .now) (a .mains) (a .satellites) (next .result) (c .before .before .before .before .before .before .before .line-at .result .now) (c .before .before .before .before .next-main .result)
-      (c .before .before .before .before .before .before .before .before .before .if1 .left) (c .before .before .before .before .before .before .before .line-at .ensures) (next .ensures .2) (c .before .before .before .before .next-main .ensures), c .enum-told .given .1),
-    ((next .ensures .1, omega (arith, c .before .before .before .before .before .before .before .before .before .before .before .before .pre .1 .1, next .ensures .0)), c .before .before .before .before .before .before .before .before .before .before .before .before .pre .1 .3))
+    let next = c .before .before .before .before .before .before .before .before .next-line in (
+      rw (
+        mains-step (namesFrom (a .names .now) 0 (a .frequencies)) (a .file .now) (a .at) (a .n) (a .cards .now) (a .angles .now) (a .sat .now) (a .ratios .now) (a .mains) (a .satellites) (next .result) (c .before .before .before .before .before .before .before .line-at .result .now) (c .before .before .before .before .next-main .result)
+            (c .before .before .before .before .before .before .before .before .before .if1 .left) (c .before .before .before .before .before .before .before .line-at .ensures) (next .ensures .2) (c .before .before .before .before .next-main .ensures),
+        c .enum-told .given .1,
+      ),
+      ((next .ensures .1, omega (arith, c .before .before .before .before .before .before .before .before .before .before .before .before .pre .1 .1, next .ensures .0)), c .before .before .before .before .before .before .before .before .before .before .before .before .pre .1 .3),
+    )
 
 -- src/constituents.rt:25:1
 constituent-reader-returns-4 : (t : ℕ) → constituent-reader-lts.Need-returns-4 (constituent-reader-claims t) (constituent-reader-at t) constituent-reader.Post
@@ -254,10 +272,14 @@ constituent-reader-returns-4 t c =
 constituent-reader-returns-5 : (t : ℕ) → constituent-reader-lts.Need-returns-5 (constituent-reader-claims t) (constituent-reader-at t) constituent-reader.Post
 constituent-reader-returns-5 t c =
     let a = c .before .before .before .before .before .before .before .before .before .before .before .before .before .args in
-    let next = c .before .before .before .before .before .before .before .before .before .next-line in
-    (rw (mains-step (namesFrom (a .names .now) 0 (a .frequencies)) (a .file .now) (a .at) (a .n) (a .cards .now) (a .angles .now) (a .sat .now) (a .ratios .now) (a .mains) (a .satellites) (next .result) (c .before .before .before .before .before .before .before .before .line-at .result .now) (c .before .before .before .before .before .next-main .result)
-      (c .before .before .before .before .before .before .before .before .before .before .if1 .left) (c .before .before .before .before .before .before .before .before .line-at .ensures) (next .ensures .2) (c .before .before .before .before .before .next-main .ensures), c .before .step2 .given .1),
-    (tt, c .before .before .before .before .before .before .before .before .before .before .before .before .before .pre .1 .3))
+    let next = c .before .before .before .before .before .before .before .before .before .next-line in (
+      rw (
+        mains-step (namesFrom (a .names .now) 0 (a .frequencies)) (a .file .now) (a .at) (a .n) (a .cards .now) (a .angles .now) (a .sat .now) (a .ratios .now) (a .mains) (a .satellites) (next .result) (c .before .before .before .before .before .before .before .before .line-at .result .now) (c .before .before .before .before .before .next-main .result)
+            (c .before .before .before .before .before .before .before .before .before .before .if1 .left) (c .before .before .before .before .before .before .before .before .line-at .ensures) (next .ensures .2) (c .before .before .before .before .before .next-main .ensures),
+        c .before .step2 .given .1,
+      ),
+      (tt, c .before .before .before .before .before .before .before .before .before .before .before .before .before .pre .1 .3),
+    )
 
 -- main m has the satellites of a card more: its row
 grown : (t : ℕ) (c : satellite-reader-lts.After-add-satellites (satellite-reader-claims t) (satellite-reader-at t) satellite-reader.Post) → c .add-satellites .last .0 ≡ set (c .before .before .before .before .before .before .before .before .before .before .before .before .before .args .cards .now) (3 * c .before .before .before .before .before .before .before .before .before .before .before .before .before .args .mains + 2) (getD (c .before .before .before .before .before .before .before .before .before .before .before .before .before .args .cards .now) (3 * c .before .before .before .before .before .before .before .before .before .before .before .before .before .args .mains + 2) 0 + min (c .before .before .before .before .before .before .before .before .before .before .before .before .before .args .count) 3)
@@ -274,21 +296,22 @@ grown-satellites t c s h =
     let a = c .before .before .before .before .before .before .before .before .before .before .before .before .before .args in
     let p = c .before .before .before .before .before .before .before .before .before .before .before .before .before .pre .1 in
     let fits : 3 * a .mains + 3 ≤ length (a .cards .now) = omega (arith, p .3, p .7 .0) in
-    rw (grown t c)
-    (grown-stored (a .cards .now) (a .mains) (min (a .count) 3) (a .satellites) fits s h (p .6),
-    grown-end (a .cards .now) (a .mains) (min (a .count) 3) (a .satellites) fits (p .5))
+    rw (grown t c) (
+      grown-stored (a .cards .now) (a .mains) (min (a .count) 3) (a .satellites) fits s h (p .6),
+      grown-end (a .cards .now) (a .mains) (min (a .count) 3) (a .satellites) fits (p .5),
+    )
 
 -- and what is left to read
 grown-step : (t : ℕ) (c : satellite-reader-lts.After-add-satellites (satellite-reader-claims t) (satellite-reader-at t) satellite-reader.Post)
     → satellitesFrom (namesFrom (c .before .before .before .before .before .before .before .before .before .before .before .before .before .args .names .now) 0 (c .before .before .before .before .before .before .before .before .before .before .before .before .before .args .frequencies)) (linesOf (drop (c .before .before .before .before .before .before .before .before .before .before .before .before .before .args .at) (c .before .before .before .before .before .before .before .before .before .before .before .before .before .args .file .now))) (c .before .before .before .before .before .before .before .before .before .before .before .before .before .args .n)
-        (mainsIn (c .before .before .before .before .before .before .before .before .before .before .before .before .before .args .cards .now) (c .before .before .before .before .before .before .before .before .before .before .before .before .before .args .angles .now) (c .before .before .before .before .before .before .before .before .before .before .before .before .before .args .sat .now) (c .before .before .before .before .before .before .before .before .before .before .before .before .before .args .ratios .now) (c .before .before .before .before .before .before .before .before .before .before .before .before .before .args .mains)) (c .before .before .before .before .before .before .before .before .before .before .before .before .before .args .satellites)
-        (mainOf (c .before .before .before .before .before .before .before .before .before .before .before .before .before .args .cards .now) (c .before .before .before .before .before .before .before .before .before .before .before .before .before .args .angles .now) (c .before .before .before .before .before .before .before .before .before .before .before .before .before .args .sat .now) (c .before .before .before .before .before .before .before .before .before .before .before .before .before .args .ratios .now) (c .before .before .before .before .before .before .before .before .before .before .before .before .before .args .mains)) (c .before .before .before .before .before .before .before .before .before .before .before .before .before .args .count)
+    (mainsIn (c .before .before .before .before .before .before .before .before .before .before .before .before .before .args .cards .now) (c .before .before .before .before .before .before .before .before .before .before .before .before .before .args .angles .now) (c .before .before .before .before .before .before .before .before .before .before .before .before .before .args .sat .now) (c .before .before .before .before .before .before .before .before .before .before .before .before .before .args .ratios .now) (c .before .before .before .before .before .before .before .before .before .before .before .before .before .args .mains)) (c .before .before .before .before .before .before .before .before .before .before .before .before .before .args .satellites)
+    (mainOf (c .before .before .before .before .before .before .before .before .before .before .before .before .before .args .cards .now) (c .before .before .before .before .before .before .before .before .before .before .before .before .before .args .angles .now) (c .before .before .before .before .before .before .before .before .before .before .before .before .before .args .sat .now) (c .before .before .before .before .before .before .before .before .before .before .before .before .before .args .ratios .now) (c .before .before .before .before .before .before .before .before .before .before .before .before .before .args .mains)) (c .before .before .before .before .before .before .before .before .before .before .before .before .before .args .count)
     ≡ cond (leb (c .before .before .before .before .before .before .before .before .before .before .before .before .before .args .count) 3)
-      (mainsFrom (namesFrom (c .before .before .before .before .before .before .before .before .before .before .before .before .before .args .names .now) 0 (c .before .before .before .before .before .before .before .before .before .before .before .before .before .args .frequencies)) (linesOf (drop (c .before .before .before .before .before .before .before .before .before .next-line .result) (c .before .before .before .before .before .before .before .before .before .before .before .before .before .args .file .now))) (c .before .before .before .before .before .before .before .before .before .before .before .before .before .args .n + 1)
-        (mainsIn (c .add-satellites .last .0) (c .before .before .before .before .before .before .before .before .before .before .before .before .before .args .angles .now) (c .before .before .before .before .before .satellite-card .last .1 .1 .1 .0) (c .before .before .before .before .before .satellite-card .last .1 .1 .1 .1 .0) (c .before .before .before .before .before .before .before .before .before .before .before .before .before .args .mains + 1)) (c .before .before .before .before .before .before .before .before .before .before .before .before .before .args .satellites + c .before .before .before .before .before .before .before .before .before .before .before .before .before .args .count))
-      (satellitesFrom (namesFrom (c .before .before .before .before .before .before .before .before .before .before .before .before .before .args .names .now) 0 (c .before .before .before .before .before .before .before .before .before .before .before .before .before .args .frequencies)) (linesOf (drop (c .before .before .before .before .before .before .before .before .before .next-line .result) (c .before .before .before .before .before .before .before .before .before .before .before .before .before .args .file .now))) (c .before .before .before .before .before .before .before .before .before .before .before .before .before .args .n + 1)
-        (mainsIn (c .add-satellites .last .0) (c .before .before .before .before .before .before .before .before .before .before .before .before .before .args .angles .now) (c .before .before .before .before .before .satellite-card .last .1 .1 .1 .0) (c .before .before .before .before .before .satellite-card .last .1 .1 .1 .1 .0) (c .before .before .before .before .before .before .before .before .before .before .before .before .before .args .mains)) (c .before .before .before .before .before .before .before .before .before .before .before .before .before .args .satellites + 3)
-        (mainOf (c .add-satellites .last .0) (c .before .before .before .before .before .before .before .before .before .before .before .before .before .args .angles .now) (c .before .before .before .before .before .satellite-card .last .1 .1 .1 .0) (c .before .before .before .before .before .satellite-card .last .1 .1 .1 .1 .0) (c .before .before .before .before .before .before .before .before .before .before .before .before .before .args .mains)) (c .before .before .before .before .before .before .before .before .before .before .before .before .before .args .count - 3))
+    (mainsFrom (namesFrom (c .before .before .before .before .before .before .before .before .before .before .before .before .before .args .names .now) 0 (c .before .before .before .before .before .before .before .before .before .before .before .before .before .args .frequencies)) (linesOf (drop (c .before .before .before .before .before .before .before .before .before .next-line .result) (c .before .before .before .before .before .before .before .before .before .before .before .before .before .args .file .now))) (c .before .before .before .before .before .before .before .before .before .before .before .before .before .args .n + 1)
+    (mainsIn (c .add-satellites .last .0) (c .before .before .before .before .before .before .before .before .before .before .before .before .before .args .angles .now) (c .before .before .before .before .before .satellite-card .last .1 .1 .1 .0) (c .before .before .before .before .before .satellite-card .last .1 .1 .1 .1 .0) (c .before .before .before .before .before .before .before .before .before .before .before .before .before .args .mains + 1)) (c .before .before .before .before .before .before .before .before .before .before .before .before .before .args .satellites + c .before .before .before .before .before .before .before .before .before .before .before .before .before .args .count))
+    (satellitesFrom (namesFrom (c .before .before .before .before .before .before .before .before .before .before .before .before .before .args .names .now) 0 (c .before .before .before .before .before .before .before .before .before .before .before .before .before .args .frequencies)) (linesOf (drop (c .before .before .before .before .before .before .before .before .before .next-line .result) (c .before .before .before .before .before .before .before .before .before .before .before .before .before .args .file .now))) (c .before .before .before .before .before .before .before .before .before .before .before .before .before .args .n + 1)
+    (mainsIn (c .add-satellites .last .0) (c .before .before .before .before .before .before .before .before .before .before .before .before .before .args .angles .now) (c .before .before .before .before .before .satellite-card .last .1 .1 .1 .0) (c .before .before .before .before .before .satellite-card .last .1 .1 .1 .1 .0) (c .before .before .before .before .before .before .before .before .before .before .before .before .before .args .mains)) (c .before .before .before .before .before .before .before .before .before .before .before .before .before .args .satellites + 3)
+    (mainOf (c .add-satellites .last .0) (c .before .before .before .before .before .before .before .before .before .before .before .before .before .args .angles .now) (c .before .before .before .before .before .satellite-card .last .1 .1 .1 .0) (c .before .before .before .before .before .satellite-card .last .1 .1 .1 .1 .0) (c .before .before .before .before .before .before .before .before .before .before .before .before .before .args .mains)) (c .before .before .before .before .before .before .before .before .before .before .before .before .before .args .count - 3))
 grown-step t c =
     let a = c .before .before .before .before .before .before .before .before .before .before .before .before .before .args in
     let p = c .before .before .before .before .before .before .before .before .before .before .before .before .before .pre .1 in
@@ -299,21 +322,25 @@ grown-step t c =
     let kept = c .before .before .before .before .before .satellite-card .ensures .1 .0 in
     let fits : 3 * a .mains + 3 ≤ length (a .cards .now) = omega (arith, p .3, p .7 .0) in
     let card : good (listed (satelliteOf sat ratios) (a .satellites) k) ≡ satelliteCard (a .count) (c .before .before .before .before .before .before .before .before .line-at .result .now) =
-        ap (λ f. faultGives f (listed (satelliteOf sat ratios) (a .satellites) k)) (sym (c .before .before .before .enum-told .given .1)) ∙ c .before .before .before .before .before .satellite-card .ensures .0 in
-    rw (grown t c,
+    ap (λ f. faultGives f (listed (satelliteOf sat ratios) (a .satellites) k)) (sym (c .before .before .before .enum-told .given .1)) ∙ c .before .before .before .before .before .satellite-card .ensures .0 in
+    rw (
+      grown t c,
       mains-grown (a .cards .now) (a .mains) k (a .satellites) fits (a .angles .now) (a .sat .now) sat (a .ratios .now) ratios kept (p .5) (p .6),
       mains-kept-grown (a .cards .now) (a .mains) k (a .satellites) fits (a .angles .now) (a .sat .now) sat (a .ratios .now) ratios kept (p .6),
-      main-grown (a .cards .now) (a .mains) k (a .satellites) fits (a .angles .now) (a .sat .now) sat (a .ratios .now) ratios kept (p .5))
+      main-grown (a .cards .now) (a .mains) k (a .satellites) fits (a .angles .now) (a .sat .now) sat (a .ratios .now) ratios kept (p .5),
+    )
     (rw (← card) at (satellites-step names (a .file .now) (a .at) (a .n) (a .cards .now) (a .angles .now) (a .sat .now) (a .ratios .now) (a .mains) (a .satellites)
-      (mainOf (a .cards .now) (a .angles .now) (a .sat .now) (a .ratios .now) (a .mains)) (a .count) (c .before .before .before .before .before .before .before .before .before .next-line .result) (c .before .before .before .before .before .before .before .before .line-at .result .now)
-      (c .before .before .before .before .before .before .before .before .before .before .if1 .left) (c .before .before .before .before .before .before .before .before .line-at .ensures) (c .before .before .before .before .before .before .before .before .before .next-line .ensures .2)))
+    (mainOf (a .cards .now) (a .angles .now) (a .sat .now) (a .ratios .now) (a .mains)) (a .count) (c .before .before .before .before .before .before .before .before .before .next-line .result) (c .before .before .before .before .before .before .before .before .line-at .result .now)
+    (c .before .before .before .before .before .before .before .before .before .before .if1 .left) (c .before .before .before .before .before .before .before .before .line-at .ensures) (c .before .before .before .before .before .before .before .before .before .next-line .ensures .2)))
 
 -- src/constituents.rt:58:9
 satellite-reader-returns : (t : ℕ) → satellite-reader-lts.Need-returns (satellite-reader-claims t) (satellite-reader-at t) satellite-reader.Post
 satellite-reader-returns t c =
-    let a = c .before .before .before .args in
-    (rw (satellites-end (namesFrom (a .names .now) 0 (a .frequencies)) (a .file .now) (a .at) (a .n) (a .cards .now) (a .angles .now) (a .sat .now) (a .ratios .now) (a .mains) (a .satellites)
-      (mainOf (a .cards .now) (a .angles .now) (a .sat .now) (a .ratios .now) (a .mains)) (a .count) (c .if1 .taken)), (tt, omega (arith, c .before .before .before .pre .1 .3)))
+    let a = c .before .before .before .args in (
+      rw (satellites-end (namesFrom (a .names .now) 0 (a .frequencies)) (a .file .now) (a .at) (a .n) (a .cards .now) (a .angles .now) (a .sat .now) (a .ratios .now) (a .mains) (a .satellites)
+          (mainOf (a .cards .now) (a .angles .now) (a .sat .now) (a .ratios .now) (a .mains)) (a .count) (c .if1 .taken)),
+      (tt, omega (arith, c .before .before .before .pre .1 .3)),
+    )
 
 -- src/constituents.rt:60:9
 satellite-reader-next-line-requires : (t : ℕ) → satellite-reader-lts.Need-next-line-requires (satellite-reader-claims t) (satellite-reader-at t) satellite-reader.Post
@@ -364,10 +391,19 @@ satellite-reader-constituent-reader-requires t c κs =
     let a = c .before .before .before .before .before .before .before .before .before .before .before .before .before .before .before .before .before .before .args in
     let p = c .before .before .before .before .before .before .before .before .before .before .before .before .before .before .before .before .before .before .pre .1 in
     let next = c .before .before .before .before .before .before .before .before .before .before .before .before .before .before .next-line .ensures in
-    let s = grown-satellites t (c .before .before .before .before .before) (a .satellites + a .count) (omega arith) in
-    (omega (arith, c .before .before .before .before .before .before .before .before .before .before .before .before .before .before .before .before .before .before .pre .0, next .0, next .1),
-    (next .1, omega (arith, p .1, next .0), p .2, add-one-le (p .3), p .4,
-    stored-one-more (c .before .before .before .before .before .add-satellites .last .0) (a .mains) (a .satellites + a .count) (s .0) (omega (arith, s .1)), grown-room t (c .before .before .before .before .before), c .before .before .before .before .before .before .before .before .before .before .satellite-card .ensures .1 .1))
+    let s = grown-satellites t (c .before .before .before .before .before) (a .satellites + a .count) (omega arith) in (
+      omega (arith, c .before .before .before .before .before .before .before .before .before .before .before .before .before .before .before .before .before .before .pre .0, next .0, next .1),
+      (
+        next .1,
+        omega (arith, p .1, next .0),
+        p .2,
+        add-one-le (p .3),
+        p .4,
+        stored-one-more (c .before .before .before .before .before .add-satellites .last .0) (a .mains) (a .satellites + a .count) (s .0) (omega (arith, s .1)),
+        grown-room t (c .before .before .before .before .before),
+        c .before .before .before .before .before .before .before .before .before .before .satellite-card .ensures .1 .1,
+      ),
+    )
 
 -- src/constituents.rt:65:17
 satellite-reader-returns-2 : (t : ℕ) → satellite-reader-lts.Need-returns-2 (satellite-reader-claims t) (satellite-reader-at t) satellite-reader.Post
@@ -392,9 +428,10 @@ satellite-reader-satellite-reader-requires t c κs =
     let a = c .before .before .before .before .before .before .before .before .before .before .before .before .before .before .before .before .before .before .args in
     let p = c .before .before .before .before .before .before .before .before .before .before .before .before .before .before .before .before .before .before .pre .1 in
     let next = c .before .before .before .before .before .before .before .before .before .before .before .before .before .before .next-line .ensures in
-    let s = grown-satellites t (c .before .before .before .before .before) (a .satellites + 3) (omega arith) in
-    (omega (arith, c .before .before .before .before .before .before .before .before .before .before .before .before .before .before .before .before .before .before .pre .0, next .0, next .1),
-    (next .1, omega (arith, p .1, next .0), p .2, p .3, omega (arith, p .4, c .before .before .before .before .if2 .left), omega (arith, s .1, c .before .before .before .before .if2 .left), s .0, grown-room t (c .before .before .before .before .before), c .before .before .before .before .before .before .before .before .before .before .satellite-card .ensures .1 .1))
+    let s = grown-satellites t (c .before .before .before .before .before) (a .satellites + 3) (omega arith) in (
+      omega (arith, c .before .before .before .before .before .before .before .before .before .before .before .before .before .before .before .before .before .before .pre .0, next .0, next .1),
+      (next .1, omega (arith, p .1, next .0), p .2, p .3, omega (arith, p .4, c .before .before .before .before .if2 .left), omega (arith, s .1, c .before .before .before .before .if2 .left), s .0, grown-room t (c .before .before .before .before .before), c .before .before .before .before .before .before .before .before .before .before .satellite-card .ensures .1 .1),
+    )
 
 -- src/constituents.rt:69:20
 satellite-reader-enum-known-r : (t : ℕ) → satellite-reader-lts.Need-enum-known-r (satellite-reader-claims t) (satellite-reader-at t) satellite-reader.Post
@@ -408,10 +445,16 @@ satellite-reader-returns-3 t c =
 -- src/constituents.rt:52:1
 satellite-reader-returns-4 : (t : ℕ) → satellite-reader-lts.Need-returns-4 (satellite-reader-claims t) (satellite-reader-at t) satellite-reader.Post
 satellite-reader-returns-4 t c =
-    let a = c .before .before .before .before .before .before .before .before .before .before .before .args in
-    (rw (satellites-step (namesFrom (a .names .now) 0 (a .frequencies)) (a .file .now) (a .at) (a .n) (a .cards .now) (a .angles .now) (a .sat .now) (a .ratios .now) (a .mains) (a .satellites)
-      (mainOf (a .cards .now) (a .angles .now) (a .sat .now) (a .ratios .now) (a .mains)) (a .count) (c .before .before .before .before .before .before .before .next-line .result) (c .before .before .before .before .before .before .line-at .result .now)
-      (c .before .before .before .before .before .before .before .before .if1 .left) (c .before .before .before .before .before .before .line-at .ensures) (c .before .before .before .before .before .before .before .next-line .ensures .2), ← c .before .before .before .satellite-card .ensures .0, c .before .r .given .1), (tt, omega (arith, c .before .before .before .before .before .before .before .before .before .before .before .pre .1 .3)))
+    let a = c .before .before .before .before .before .before .before .before .before .before .before .args in (
+      rw (
+        satellites-step (namesFrom (a .names .now) 0 (a .frequencies)) (a .file .now) (a .at) (a .n) (a .cards .now) (a .angles .now) (a .sat .now) (a .ratios .now) (a .mains) (a .satellites)
+            (mainOf (a .cards .now) (a .angles .now) (a .sat .now) (a .ratios .now) (a .mains)) (a .count) (c .before .before .before .before .before .before .before .next-line .result) (c .before .before .before .before .before .before .line-at .result .now)
+            (c .before .before .before .before .before .before .before .before .if1 .left) (c .before .before .before .before .before .before .line-at .ensures) (c .before .before .before .before .before .before .before .next-line .ensures .2),
+        ← c .before .before .before .satellite-card .ensures .0,
+        c .before .r .given .1,
+      ),
+      (tt, omega (arith, c .before .before .before .before .before .before .before .before .before .before .before .pre .1 .3)),
+    )
 
 pub +constituent-reader+satellite-reader-spec : {M : Type 1} → statement M
 +constituent-reader+satellite-reader-spec =

@@ -77,13 +77,16 @@ loop-again c =
     let R : c .put-satellite .last .1 .0 ≡ sets (s .loop .ratios) (2 * k) (f .result .ratio ∷ f .result .mark ∷ []) = c .put-satellite .ensures .1 in
     let kept = satellite-kept (s .loop .angles) (s .loop .ratios) k ds (f .result .phase) (f .result .ratio) (f .result .mark) three in
     let new = satellite-put (s .loop .angles) (s .loop .ratios) k ds (f .result .phase) (f .result .ratio) (f .result .mark) three (omega (arith, s .loop .inv .3 .0)) (omega (arith, s .loop .inv .3 .1)) in
-    rw (A, R)
-    (omega arith,
-    rw (satellites-grow _ (satelliteOf (s .loop .angles) (s .loop .ratios)) (a .first) (s .loop .j) _ kept new)
-    (rw (satellites-more (a .line .now) (listed (satelliteOf (s .loop .angles) (s .loop .ratios)) (a .first) (s .loop .j)) (s .loop .j) (a .count) (c .before .before .before .before .before .before .loop-test .taken), ← f .ensures .0, c .before .before .before .enum-told .given .1) at (s .loop .inv .1)),
-    (λ i h. kept i (omega arith) ∙ s .loop .inv .2 i h),
-    (length-set (sets (s .loop .angles) (4 * k) ds) (4 * k + 3) (f .result .phase) ∙ length-sets (s .loop .angles) (4 * k) ds ∙ s .loop .inv .3 .0,
-    length-sets (s .loop .ratios) (2 * k) (f .result .ratio ∷ f .result .mark ∷ []) ∙ s .loop .inv .3 .1))
+    rw (A, R) (
+      omega arith,
+      rw (satellites-grow _ (satelliteOf (s .loop .angles) (s .loop .ratios)) (a .first) (s .loop .j) _ kept new)
+          (rw (satellites-more (a .line .now) (listed (satelliteOf (s .loop .angles) (s .loop .ratios)) (a .first) (s .loop .j)) (s .loop .j) (a .count) (c .before .before .before .before .before .before .loop-test .taken), ← f .ensures .0, c .before .before .before .enum-told .given .1) at (s .loop .inv .1)),
+      (λ i h. kept i (omega arith) ∙ s .loop .inv .2 i h),
+      (
+        length-set (sets (s .loop .angles) (4 * k) ds) (4 * k + 3) (f .result .phase) ∙ length-sets (s .loop .angles) (4 * k) ds ∙ s .loop .inv .3 .0,
+        length-sets (s .loop .ratios) (2 * k) (f .result .ratio ∷ f .result .mark ∷ []) ∙ s .loop .inv .3 .1,
+      ),
+    )
 
 -- src/satellites.rt:84:24
 enum-known-fault : tie.Need-enum-known-fault Inv-loop μ-loop
