@@ -1,6 +1,6 @@
 """Document 01, "Heights and turns"."""
 
-from cosine import fixed_cosine, fixed_sine
+from cosine import cosine_fraction, fixed_cosine, fixed_sine, sine_fraction
 
 # The month's instant, 00:00 on the 16th, is 15 days after minute 0.
 INSTANT = 21_600
@@ -20,6 +20,16 @@ def height(month, minute):
         total += (constituent.P * fixed_cosine(angle) - constituent.Q * fixed_sine(angle)) // 2**30
     # "the height is floor((sum of shares + 2,048)/4,096)"
     return (total + 2_048) // 4_096
+
+
+def exact_sum(month, minute):
+    """ "the sum of P x cosine fraction - Q x sine fraction, each at its constituent's angle, over 4,096":
+    here times 4,096 x cosine.DENOMINATOR."""
+    total = 0
+    for constituent in month.constituents:
+        angle = angle_at(constituent, minute)
+        total += constituent.P * cosine_fraction(angle) - constituent.Q * sine_fraction(angle)
+    return total
 
 
 def slope(month, minute):

@@ -10,7 +10,7 @@ import sys
 import heights
 from cards import Main, Shallow, read_card_file
 from clock import Clock
-from cosine import COSINES, QUARTER, STEP, TURN, base_fraction, fixed_cosine, fixed_sine
+from cosine import COSINES, DENOMINATOR, QUARTER, STEP, base_fraction, fixed_cosine, fixed_sine
 from month import argument, day_count, latitude_factors, longitudes_at
 from refusal import Refusal
 from replay import replay
@@ -74,8 +74,7 @@ def check_cosine():
     ticks += [QUARTER - 1, 1, STEP - 1, QUARTER - STEP + 1]
     near = True
     for at in ticks:
-        numerator, denominator = base_fraction(at)
-        near = near and abs(fixed_cosine(at) * denominator - 2**30 * numerator) <= 1_024 * denominator
+        near = near and abs(fixed_cosine(at) * DENOMINATOR - 2**30 * base_fraction(at)) <= 1_024 * DENOMINATOR
     check("within 1,024", near, True)
 
 
@@ -109,6 +108,18 @@ def check_heights():
             last = 31 * 1_440
             check("Z0 %d at %d" % (A, lag), {clock.height(m) for m in (0, 1, 21_600, last)}, {wanted})
             check("Z0 turns", clock.turns(0, last, 0, 0), ([], False))
+    # Heights stay near the exact sum: half a unit for rounding, 1/4,096 for each share's floor, and
+    # the sizes of all P and Q over 2^32 for the fixed cosines.
+    records = [(b"Z0", 60_670, 0), (b"O1", 12_110, 12_340), (b"K1", 20_700, 14_000), (b"M2", 65_535, 31_000), (b"M4", 900, 5)]
+    for latitude in (2_905, -60, -5_400):
+        clock = clock_with(latitude, records, 2049, 2)
+        sizes = sum(abs(c.P) + abs(c.Q) for c in clock.month.constituents)
+        reach = 2**19 * 4_096 + len(records) * 2**20 + sizes
+        near = True
+        for minute in range(0, 28 * 1_440 + 1, 97):
+            gap = clock.height(minute) * 4_096 * DENOMINATOR - heights.exact_sum(clock.month, minute)
+            near = near and abs(gap) * 2**20 <= reach * DENOMINATOR
+        check("near the exact sum", near, True)
     clock = clock_with(0, [])
     check("empty station", clock.series(0, 1_440, 32), [0] * 32)
     check("no place lent", clock.series(0, 1, 0), [])
