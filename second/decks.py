@@ -435,6 +435,12 @@ def base_data(rng, standard):
     return standard if rng.random() < 0.3 else random_deck(rng).data()
 
 
+def cut(data, kept):
+    """The first lines of a file; the number to keep starts anew past the last."""
+    lines = data.split(b"\n")[:-1]
+    return b"".join(line + b"\n" for line in lines[: kept % (len(lines) + 1)])
+
+
 def truncated(rng, standard):
     """Cut at a line, with or without a part of the next one."""
     lines = base_data(rng, standard).split(b"\n")[:-1]
@@ -533,13 +539,13 @@ def valid_file(rng, standard):
 def card_file(rng, standard):
     """One card file of the mix."""
     roll = rng.random()
-    if roll < 0.18:
+    if roll < 0.19:
         return valid_file(rng, standard)
-    if roll < 0.28:
+    if roll < 0.30:
         return limit_file(rng)
-    if roll < 0.53:
+    if roll < 0.56:
         return number_damage(rng)
-    if roll < 0.68:
+    if roll < 0.71:
         return name_damage(rng)
     if roll < 0.74:
         return truncated(rng, standard)

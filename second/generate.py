@@ -274,7 +274,7 @@ class ScriptWriter:
             b"height\n", b"height  1\n", b"height 1 \n", b" height 1\n", b"height -1\n", b"height 4294967296\n",
             b"heights 1\n", b"\n", b"date 1976\n", b"series 1 2\n", b"series 1 2 3 4\n", b"turns 1 2 3\n", b"height 1",
             b"station 0 1\n256 0 0\n", b"station 0 2\n0 0 0\n", b"station 0 1\n0 0\n", b"station 2147483648 0\n",
-            b"station -2147483649 0\n", b"station 0 1\n-1 0 0\n", b"cards\n", b"cards -1\n", b"cards 1\n\nx", b"height 1\r\n",
+            b"station -2147483649 0\n", b"station 0 1\n-1 0 0\n", b"cards\n", b"cards -1\n", b"height 1\r\n",
             b"\xff\xfe\n", b"height 0x1\n", b"height +1\n", b"date 1976 7 1\n", b"station 0 1\n0 0 0 0\n",
         ]))
 
@@ -298,7 +298,11 @@ def write_file(folder, name, data):
 def write_cards(seed, count, folder, standard):
     everything = []
     for index in range(count):
-        data = decks.card_file(random.Random("cards %d %d" % (seed, index)), standard)
+        if index % 14 == 13:
+            # The standard file cut at every line in turn.
+            data = decks.cut(standard, index // 14)
+        else:
+            data = decks.card_file(random.Random("cards %d %d" % (seed, index)), standard)
         write_file(folder, "%05d.cards" % index, data)
         write_file(folder, "%05d.replay" % index, cards_call(data))
         everything.append(cards_call(data))
