@@ -1,0 +1,113 @@
+-- The day count in closed form: the days of whole years are 365 a year and one for each fourth year, (year + 3) / 4 of them before a year.
+-- By induction on the years. Rests on Months.
+use mathlib.Core.Path.{_≡_, refl, sym, _∙_, ap, ap₂}
+use mathlib.Core.Bool.{Bool, true, false, cond}
+use Prim.Native.Nat.{ℕ, zero, suc, _+_, _-_, _*_, _/_, _%_, _^_, _≤_, _<_}
+use native.Mathlib.Nat.{div-add-mod', mod-lt, div-le-self}
+use native.Mathlib.Omega.{arith}
+use borrow.Author.Tests.{eqb-true, eqb-false, ltb-true, ltb-false, le-ltb}
+use lib.Dec.{ltb, eqb, lit<}
+use lib.IntN.{ℤ, pos, negsuc, natAbs, subℕ, _-ℤ_}
+use mir.Syntax.{w64}
+use mir.Val.{SFits, toZ}
+use Rattle.angles.proofs.Ints.{by-order, triangle-sub}
+use Rattle.angles.proofs.Machine.{fits-below, fits-as, signed-is}
+use Rattle.calendar.specs.Calendar.{isFourth, monthDays, monthsDays, yearsDays, dayCount}
+use Rattle.calendar.proofs.Months.{months-short}
+
+-- the days of the whole years before a year, from a year 0 on
+abbrev pub daysTo : ℕ → ℕ
+daysTo year = 365 * year + (year + 3) / 4
+
+year-days : (year : ℕ) (fourth : Bool) → isFourth year ≡ fourth → monthsDays year 12 ≡ 365 + cond fourth 1 0
+unfolding monthsDays monthDays
+year-days year true e = rw e
+year-days year false e = rw e
+
+rest-small : (n : ℕ) → n % 4 < 4
+rest-small n = mod-lt n (lit< tt)
+
+fourth-years : (year : ℕ) (fourth : Bool) → isFourth year ≡ fourth → (suc year + 3) / 4 ≡ (year + 3) / 4 + cond fourth 1 0
+unfolding isFourth
+fourth-years year true e =
+    omega
+    (arith, eqb-true (year % 4) 0 e, div-add-mod' year 4, div-add-mod' (year + 3) 4, rest-small (year + 3), div-add-mod' (suc year + 3) 4, rest-small (suc year + 3))
+fourth-years year false e =
+    omega
+    (arith, eqb-false (year % 4) 0 e, div-add-mod' year 4, rest-small year, div-add-mod' (year + 3) 4, rest-small (year + 3), div-add-mod' (suc year + 3) 4, rest-small (suc year + 3))
+
+year-more : (year : ℕ) → daysTo (suc year) ≡ daysTo year + monthsDays year 12
+year-more year = omega (arith, year-days year (isFourth year) refl, fourth-years year (isFourth year) refl)
+
+pub years-closed : (year years : ℕ) → yearsDays year years + daysTo year ≡ daysTo (year + years)
+unfolding yearsDays
+years-closed year zero = omega arith
+years-closed year (suc years) = omega (arith, years-closed year years, year-more (year + years))
+
+-- forward from 1976 or back to it
+pub years-balance : (year : ℕ) → yearsDays 1976 (year - 1976) + daysTo 1976 ≡ daysTo year + yearsDays year (1976 - year)
+unfolding yearsDays
+years-balance year = by-order (ltb year 1976) refl
+  where
+    by-order : (early : Bool) → ltb year 1976 ≡ early → yearsDays 1976 (year - 1976) + daysTo 1976 ≡ daysTo year + yearsDays year (1976 - year)
+    by-order true e =
+        let l = ltb-true year 1976 e in
+        let none : year - 1976 ≡ 0 = omega arith in
+        let all : year + (1976 - year) ≡ 1976 = omega arith in
+        rw none (omega (arith, rw all at (years-closed year (1976 - year))))
+    by-order false e =
+        let l = ltb-false year 1976 e in
+        let none : 1976 - year ≡ 0 = omega arith in
+        let all : 1976 + (year - 1976) ≡ year = omega arith in
+        rw none (omega (arith, rw all at (years-closed 1976 (year - 1976))))
+
+minus-is : (a b : ℕ) → pos a -ℤ pos b ≡ subℕ a b
+minus-is a zero = rw (le-ltb a 0 (omega arith)) (ap pos (omega arith))
+minus-is a (suc b) = refl
+
+-- two naturals are no further apart than the larger may exceed the smaller
+apart : (a b most : ℕ) → a ≤ b + most → b ≤ a + most → natAbs (pos a -ℤ pos b) ≤ most
+apart a b most h k = rw (minus-is a b) (by-order (λ z. natAbs z ≤ most) a b (λ l. omega arith) (λ l. omega arith))
+
+-- two differences of naturals are equal where the sums across are
+same-difference : (a b c d : ℕ) → a + d ≡ c + b → pos a -ℤ pos b ≡ pos c -ℤ pos d
+same-difference a b c d e =
+    minus-is a b ∙
+    by-order (λ z. z ≡ subℕ c d) a b
+    (λ h. by-order (λ z. negsuc (b - suc a) ≡ z) c d (λ k. ap negsuc (omega arith)) (λ k. absurd (omega arith)))
+    (λ h. by-order (λ z. pos (a - b) ≡ z) c d (λ k. absurd (omega arith)) (λ k. ap pos (omega arith))) ∙
+    sym (minus-is c d)
+
+pub count-closed : (year month day : ℕ) → dayCount year month day ≡ pos (daysTo year + monthsDays year (month - 1) + day) -ℤ pos (daysTo 1976 + 1)
+unfolding dayCount
+count-closed year month day =
+    same-difference
+    (yearsDays 1976 (year - 1976) + monthsDays year (month - 1) + day)
+    (yearsDays year (1976 - year) + 1)
+    (daysTo year + monthsDays year (month - 1) + day)
+    (daysTo 1976 + 1)
+    (omega (arith, years-balance year))
+
+-- ---- the closed form in 64 bits
+
+pub days-small : (year month day : ℕ) → year < 2 ^ 32 → month < 2 ^ 32 → day < 2 ^ 32 → daysTo year + monthsDays year (month - 1) + day < 2 ^ 62
+days-small year month day y m d = omega (arith, div-le-self (year + 3) 4, months-short year (month - 1))
+
+signed-difference : (a b : ℕ) → a < 2 ^ 62 → b < 2 ^ 62 → toZ w64 a -ℤ toZ w64 b ≡ pos a -ℤ pos b
+signed-difference a b h k = ap₂ _-ℤ_ (signed-is a (omega arith)) (signed-is b (omega arith))
+
+pub difference-fits : (a b : ℕ) → a < 2 ^ 62 → b < 2 ^ 62 → SFits w64 (toZ w64 a -ℤ toZ w64 b)
+difference-fits a b h k = fits-as (signed-difference a b h k) (fits-below (pos a -ℤ pos b) (omega (arith, triangle-sub (pos a) (pos b))))
+
+pub count-signed : (year month day days origin : ℕ) → days ≡ daysTo year + monthsDays year (month - 1) + day → origin ≡ daysTo 1976 + 1 → days < 2 ^ 62 → toZ w64 days -ℤ toZ w64 origin ≡ dayCount year month day
+count-signed year month day days origin p q h =
+    signed-difference days origin h (omega arith) ∙ ap₂ (λ (m n : ℕ). pos m -ℤ pos n) p q ∙ sym (count-closed year month day)
+
+-- ---- the size of the day count
+
+-- every date in range is within 2^15 days of 1976
+pub count-small : (year month day : ℕ) → 1950 ≤ year → year ≤ 2049 → month ≤ 12 → day ≤ 31 → natAbs (dayCount year month day) ≤ 2 ^ 15
+count-small year month day low high m d = rw (count-closed year month day) (apart (daysTo year + monthsDays year (month - 1) + day) (daysTo 1976 + 1) (2 ^ 15) (omega (arith, later)) (omega (arith, later)))
+  where
+    later : (488 ≤ (year + 3) / 4) × ((year + 3) / 4 ≤ 513) × (monthsDays year (month - 1) ≤ 31 * 11)
+    later = omega (arith, div-add-mod' (year + 3) 4, rest-small (year + 3), months-short year (month - 1))

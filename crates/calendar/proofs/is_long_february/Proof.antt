@@ -1,0 +1,19 @@
+use Rattle.calendar.proofs.is_long_february.Statement.{statement}
+use Rattle.calendar.proofs.is_long_february.Tie as tie
+use Rattle.calendar.proofs.is_long_february.Reads as reads
+use Rattle.calendar.proofs.is_long_february.Lts as lts
+use Rattle.calendar.specs.Calendar.{isFourth}
+use borrow.Author.Tests.{eq-eqb, ne-eqb}
+
+-- src/lib.rt:26:1
+returns : tie.Need-returns
+unfolding isFourth
+returns c = simp (eq-eqb _ _ (c .if1 .taken))
+
+-- src/lib.rt:26:1
+returns-2 : tie.Need-returns-2
+unfolding isFourth
+returns-2 c = simp (ne-eqb _ _ (c .if1 .left))
+
+pub is-long-february-spec : {M : Type 1} → statement M
+is-long-february-spec = tie.close (tie.spec returns returns-2)
