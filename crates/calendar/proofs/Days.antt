@@ -3,7 +3,7 @@
 use mathlib.Core.Path.{_≡_, refl, sym, _∙_, ap, ap₂}
 use mathlib.Core.Bool.{Bool, true, false, cond}
 use Prim.Native.Nat.{ℕ, zero, suc, _+_, _-_, _*_, _/_, _%_, _^_, _≤_, _<_}
-use native.Mathlib.Nat.{div-add-mod', mod-lt, div-le-self}
+use native.Mathlib.Nat.{div-add-mod', mod-lt}
 use native.Mathlib.Omega.{arith}
 use borrow.Author.Tests.{eqb-true, eqb-false, ltb-true, ltb-false, le-ltb}
 use lib.Dec.{ltb, eqb, lit<}
@@ -12,12 +12,16 @@ use mir.Syntax.{w64}
 use mir.Val.{SFits, toZ}
 use Rattle.angles.proofs.Ints.{by-order, triangle-sub}
 use Rattle.angles.proofs.Machine.{fits-below, fits-as, signed-is}
-use Rattle.calendar.specs.Calendar.{isFourth, monthDays, monthsDays, yearsDays, dayCount}
-use Rattle.calendar.proofs.Months.{months-short}
+use Rattle.calendar.specs.Calendar.{isFourth, monthDays, monthsDays, yearsDays, dayCount, inRange}
+use Rattle.calendar.proofs.Months.{months-short, in-range}
 
 -- the days of the whole years before a year, from a year 0 on
 abbrev pub daysTo : ℕ → ℕ
 daysTo year = 365 * year + (year + 3) / 4
+
+-- a date's number in days, from a year 0 on
+abbrev pub dayNumber : ℕ → ℕ → ℕ → ℕ
+dayNumber year month day = daysTo year + monthsDays year (month - 1) + day
 
 year-days : (year : ℕ) (fourth : Bool) → isFourth year ≡ fourth → monthsDays year 12 ≡ 365 + cond fourth 1 0
 unfolding monthsDays monthDays
@@ -78,20 +82,27 @@ same-difference a b c d e =
     (λ h. by-order (λ z. pos (a - b) ≡ z) c d (λ k. absurd (omega arith)) (λ k. ap pos (omega arith))) ∙
     sym (minus-is c d)
 
-pub count-closed : (year month day : ℕ) → dayCount year month day ≡ pos (daysTo year + monthsDays year (month - 1) + day) -ℤ pos (daysTo 1976 + 1)
-unfolding dayCount
+pub count-closed : (year month day : ℕ) → dayCount year month day ≡ pos (dayNumber year month day) -ℤ pos (dayNumber 1976 1 1)
+unfolding dayCount monthsDays
 count-closed year month day =
     same-difference
     (yearsDays 1976 (year - 1976) + monthsDays year (month - 1) + day)
     (yearsDays year (1976 - year) + 1)
-    (daysTo year + monthsDays year (month - 1) + day)
-    (daysTo 1976 + 1)
+    (dayNumber year month day)
+    (dayNumber 1976 1 1)
     (omega (arith, years-balance year))
 
--- ---- the closed form in 64 bits
+-- every date in range is within 2^15 days of 1976
+pub count-small : (year month day : ℕ) → inRange year month ≡ true → day ≤ 31 → natAbs (dayCount year month day) ≤ 2 ^ 15
+unfolding monthsDays
+count-small year month day e d =
+    rw (count-closed year month day)
+    (apart (dayNumber year month day) (dayNumber 1976 1 1) (2 ^ 15) (omega (arith, sizes)) (omega (arith, sizes)))
+  where
+    sizes : (1950 ≤ year) × (year ≤ 2049) × (488 ≤ (year + 3) / 4) × ((year + 3) / 4 ≤ 513) × (monthsDays year (month - 1) ≤ 31 * 11)
+    sizes = omega (arith, in-range year month e, div-add-mod' (year + 3) 4, rest-small (year + 3), months-short year (month - 1))
 
-pub days-small : (year month day : ℕ) → year < 2 ^ 32 → month < 2 ^ 32 → day < 2 ^ 32 → daysTo year + monthsDays year (month - 1) + day < 2 ^ 62
-days-small year month day y m d = omega (arith, div-le-self (year + 3) 4, months-short year (month - 1))
+-- ---- the closed form in 64 bits
 
 signed-difference : (a b : ℕ) → a < 2 ^ 62 → b < 2 ^ 62 → toZ w64 a -ℤ toZ w64 b ≡ pos a -ℤ pos b
 signed-difference a b h k = ap₂ _-ℤ_ (signed-is a (omega arith)) (signed-is b (omega arith))
@@ -99,15 +110,6 @@ signed-difference a b h k = ap₂ _-ℤ_ (signed-is a (omega arith)) (signed-is 
 pub difference-fits : (a b : ℕ) → a < 2 ^ 62 → b < 2 ^ 62 → SFits w64 (toZ w64 a -ℤ toZ w64 b)
 difference-fits a b h k = fits-as (signed-difference a b h k) (fits-below (pos a -ℤ pos b) (omega (arith, triangle-sub (pos a) (pos b))))
 
-pub count-signed : (year month day days origin : ℕ) → days ≡ daysTo year + monthsDays year (month - 1) + day → origin ≡ daysTo 1976 + 1 → days < 2 ^ 62 → toZ w64 days -ℤ toZ w64 origin ≡ dayCount year month day
-count-signed year month day days origin p q h =
-    signed-difference days origin h (omega arith) ∙ ap₂ (λ (m n : ℕ). pos m -ℤ pos n) p q ∙ sym (count-closed year month day)
-
--- ---- the size of the day count
-
--- every date in range is within 2^15 days of 1976
-pub count-small : (year month day : ℕ) → 1950 ≤ year → year ≤ 2049 → month ≤ 12 → day ≤ 31 → natAbs (dayCount year month day) ≤ 2 ^ 15
-count-small year month day low high m d = rw (count-closed year month day) (apart (daysTo year + monthsDays year (month - 1) + day) (daysTo 1976 + 1) (2 ^ 15) (omega (arith, later)) (omega (arith, later)))
-  where
-    later : (488 ≤ (year + 3) / 4) × ((year + 3) / 4 ≤ 513) × (monthsDays year (month - 1) ≤ 31 * 11)
-    later = omega (arith, div-add-mod' (year + 3) 4, rest-small (year + 3), months-short year (month - 1))
+pub count-signed : (year month day a b : ℕ) → a ≡ dayNumber year month day → b ≡ dayNumber 1976 1 1 → a < 2 ^ 62 → b < 2 ^ 62 → toZ w64 a -ℤ toZ w64 b ≡ dayCount year month day
+count-signed year month day a b p q h k =
+    signed-difference a b h k ∙ ap₂ (λ (m n : ℕ). pos m -ℤ pos n) p q ∙ sym (count-closed year month day)

@@ -1,32 +1,28 @@
--- How long months are: none is over 31 days, and there is none past the twelfth.
+-- How long months are: none is over 31 days, and there is none past the twelfth. What it is to be in range.
 -- The bound is one test over the table of lengths, which antt computes. Rests on the definitions only.
-use mathlib.Core.Path.{_≡_, refl, _∙_, ap}
-use mathlib.Core.Bool.{Bool, true, false, _&&_, cond}
+use mathlib.Core.Path.{_≡_, refl}
+use mathlib.Core.Bool.{Bool, true, false, _&&_, cond, false≢true}
 use mathlib.Core.List.{List, [], _∷_}
 use Prim.Native.Nat.{ℕ, zero, suc, _+_, _-_, _*_, _≤_, _<_}
 use native.Mathlib.Omega.{arith}
 use borrow.Author.Tests.{leb-true, ne-eqb}
-use lib.Dec.{T, leb, eqb, leb→le, lit≤}
+use lib.Dec.{leb, eqb, lit≤}
 use lib.ListN.{getD, length, List·getD-eq-default}
-use Rattle.calendar.specs.Calendar.{monthLengths, isFourth, monthDays, monthsDays}
+use Rattle.calendar.specs.Calendar.{monthLengths, isFourth, monthDays, monthMinutes, monthsDays, between, inRange}
 
 -- each number of a list is at most `most`
 abbrev noneOver : ℕ → List ℕ → Bool
 noneOver most [] = true
 noneOver most (x ∷ xs) = leb x most && noneOver most xs
 
-first-of : (a b : Bool) → T (a && b) → T a
-first-of true b t = tt
-first-of false b t = t
+pub both : (a b : Bool) → (a && b) ≡ true → (a ≡ true) × (b ≡ true)
+both true b e = (refl, e)
+both false b e = absurd (false≢true e)
 
-rest-of : (a b : Bool) → T (a && b) → T b
-rest-of true b t = t
-rest-of false b t = absurd t
-
-none-over : (most : ℕ) (l : List ℕ) (i : ℕ) → T (noneOver most l) → getD l i 0 ≤ most
-none-over most [] i t = omega arith
-none-over most (x ∷ xs) zero t = leb→le x most (first-of (leb x most) (noneOver most xs) t)
-none-over most (x ∷ xs) (suc i) t = none-over most xs i (rest-of (leb x most) (noneOver most xs) t)
+none-over : (most : ℕ) (l : List ℕ) (i : ℕ) → noneOver most l ≡ true → getD l i 0 ≤ most
+none-over most [] i e = omega arith
+none-over most (x ∷ xs) zero e = leb-true x most (both (leb x most) (noneOver most xs) e .0)
+none-over most (x ∷ xs) (suc i) e = none-over most xs i (both (leb x most) (noneOver most xs) e .1)
 
 pub month-short : (year month : ℕ) → monthDays year month ≤ 31
 unfolding monthDays
@@ -34,7 +30,11 @@ month-short year month = by-february (eqb month 2 && isFourth year)
   where
     by-february : (long : Bool) → cond long 29 (getD (0 ∷ monthLengths) month 0) ≤ 31
     by-february true = lit≤ tt
-    by-february false = none-over 31 (0 ∷ monthLengths) month tt
+    by-february false = none-over 31 (0 ∷ monthLengths) month refl
+
+pub minutes-short : (year month : ℕ) → monthMinutes year month ≤ 44_640
+unfolding monthMinutes
+minutes-short year month = omega (arith, month-short year month)
 
 pub months-short : (year months : ℕ) → monthsDays year months ≤ 31 * months
 unfolding monthsDays
@@ -65,3 +65,14 @@ whole-year year months h = let e : 12 + (months - 12) ≡ months = omega arith i
 pub length-at : (lengths : List ℕ) (month : ℕ) → 0 < month → getD lengths (month - 1) 0 ≡ getD (0 ∷ lengths) month 0
 length-at lengths zero h = omega arith
 length-at lengths (suc month) h = let e : suc month - 1 ≡ month = omega arith in rw e
+
+-- ---- in range
+
+pub within : (low high number : ℕ) → between low high number ≡ true → (low ≤ number) × (number ≤ high)
+unfolding between
+within low high number e = let t = both (leb low number) (leb number high) e in (leb-true low number (t .0), leb-true number high (t .1))
+
+pub in-range : (year month : ℕ) → inRange year month ≡ true → ((1950 ≤ year) × (year ≤ 2049)) × ((1 ≤ month) × (month ≤ 12))
+unfolding inRange
+in-range year month e =
+    let t = both (between 1950 2049 year) (between 1 12 month) e in (within 1950 2049 year (t .0), within 1 12 month (t .1))

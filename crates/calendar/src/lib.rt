@@ -1,7 +1,7 @@
 // The calendar: months, minutes of a month, the day count from 1 January 1976, and the dates in range.
 ghost use mathlib.Core.Path.{_≡_};
 ghost use mathlib.Core.Bool.{_&&_};
-ghost use Prim.Native.Nat.{_+_, _*_, _/_, _<_, _-_};
+ghost use Prim.Native.Nat.{_+_, _*_, _/_, _^_, _≤_, _<_, _-_};
 ghost use lib.Dec.{eqb};
 ghost use Rattle.calendar.specs.Calendar.{between, dayCount, inRange, isFourth, monthDays, monthMinutes, monthsDays};
 
@@ -54,7 +54,8 @@ pub fn month_minutes(year: u32, month: u32) -> u32
 
 // The days of the months before a month.
 fn days_before(year: u32, month: u32) -> u64
-    ensures { λ r. ⌜ r ≡ monthsDays year (month - 1) ⌝ }
+    ensures is { λ r. ⌜ r ≡ monthsDays year (month - 1) ⌝ }
+    ensures small { λ r. ⌜ r ≤ 12 * 31 ⌝ }
 {
     let mut days: u64 = 0;
     let mut passed: u32 = 0;
@@ -65,18 +66,18 @@ fn days_before(year: u32, month: u32) -> u64
     days
 }
 
-// The days of the whole years before a year, counted from a year 0.
-fn days_to(year: u64) -> u64
-    requires { ⌜ year < 4294967296 ⌝ }
-    ensures { λ r. ⌜ r ≡ 365 * year + (year + 3) / 4 ⌝ }
+// A date's number in days, counted from 1 January of a year 0.
+fn day_number(year: u32, month: u32, day: u32) -> u64
+    ensures is { λ r. ⌜ r ≡ 365 * year + (year + 3) / 4 + monthsDays year (month - 1) + day ⌝ }
+    ensures small { λ r. ⌜ r < 2 ^ 62 ⌝ }
 {
-    365 * year + (year + 3) / 4
+    let years = year as u64;
+    365 * years + (years + 3) / 4 + days_before(year, month) + day as u64
 }
 
 // The day count of a date from 1 January 1976, negative before it.
 pub fn day_count(year: u32, month: u32, day: u32) -> i64
     ensures { λ r. ⌜ r ≡ dayCount year month day ⌝ }
 {
-    let days = days_to(year as u64) + days_before(year, month) + day as u64;
-    days as i64 - (days_to(1976) + 1) as i64
+    day_number(year, month, day) as i64 - day_number(1976, 1, 1) as i64
 }

@@ -1,16 +1,13 @@
+-- `calendar::is_long_february` meets its contract: the month's test decides, and then the year's.
+use borrow.Author.Tests.{eq-eqb, ne-eqb}
+use Rattle.calendar.specs.Calendar.{isFourth}
 use Rattle.calendar.proofs.is_long_february.Statement.{statement}
 use Rattle.calendar.proofs.is_long_february.Tie as tie
-use Rattle.calendar.proofs.is_long_february.Reads as reads
-use Rattle.calendar.proofs.is_long_february.Lts as lts
-use Rattle.calendar.specs.Calendar.{isFourth}
-use borrow.Author.Tests.{eq-eqb, ne-eqb}
 
--- src/lib.rt:26:1
 returns : tie.Need-returns
 unfolding isFourth
 returns c = simp (eq-eqb _ _ (c .if1 .taken))
 
--- src/lib.rt:26:1
 returns-2 : tie.Need-returns-2
 unfolding isFourth
 returns-2 c = simp (ne-eqb _ _ (c .if1 .left))
