@@ -1,19 +1,18 @@
--- The day count in closed form: the days of whole years are 365 a year and one for each fourth year, (year + 3) / 4 of them before a year.
--- By induction on the years. Rests on Months.
-use mathlib.Core.Path.{_≡_, refl, sym, _∙_, ap, ap₂}
+-- The day count in closed form: the difference of two day numbers, in which the days of whole years are 365 a year and one for each
+-- fourth year, (year + 3) / 4 of them before a year. By induction on the years. Rests on Months and Differences.
+use mathlib.Core.Path.{_≡_, refl, sym, _∙_, ap₂}
 use mathlib.Core.Bool.{Bool, true, false, cond}
 use Prim.Native.Nat.{ℕ, zero, suc, _+_, _-_, _*_, _/_, _%_, _^_, _≤_, _<_}
 use native.Mathlib.Nat.{div-add-mod', mod-lt}
 use native.Mathlib.Omega.{arith}
-use borrow.Author.Tests.{eqb-true, eqb-false, ltb-true, ltb-false, le-ltb}
-use lib.Dec.{ltb, eqb, lit<}
-use lib.IntN.{ℤ, pos, negsuc, natAbs, subℕ, _-ℤ_}
+use borrow.Author.Tests.{eqb-true, eqb-false, ltb-true, ltb-false}
+use lib.Dec.{ltb, lit<}
+use lib.IntN.{pos, natAbs, _-ℤ_}
 use mir.Syntax.{w64}
-use mir.Val.{SFits, toZ}
-use Rattle.angles.proofs.Ints.{by-order, triangle-sub}
-use Rattle.angles.proofs.Machine.{fits-below, fits-as, signed-is}
+use mir.Val.{toZ}
 use Rattle.calendar.specs.Calendar.{isFourth, monthDays, monthsDays, yearsDays, dayCount, inRange}
 use Rattle.calendar.proofs.Months.{months-short, in-range}
+use Rattle.calendar.proofs.Differences.{apart, same-difference, signed-difference}
 
 -- the days of the whole years before a year, from a year 0 on
 abbrev pub daysTo : ℕ → ℕ
@@ -28,17 +27,13 @@ unfolding monthsDays monthDays
 year-days year true e = rw e
 year-days year false e = rw e
 
-rest-small : (n : ℕ) → n % 4 < 4
-rest-small n = mod-lt n (lit< tt)
+quarters : (n : ℕ) → (n / 4 * 4 + n % 4 ≡ n) × (n % 4 < 4)
+quarters n = (div-add-mod' n 4, mod-lt n (lit< tt))
 
 fourth-years : (year : ℕ) (fourth : Bool) → isFourth year ≡ fourth → (suc year + 3) / 4 ≡ (year + 3) / 4 + cond fourth 1 0
 unfolding isFourth
-fourth-years year true e =
-    omega
-    (arith, eqb-true (year % 4) 0 e, div-add-mod' year 4, div-add-mod' (year + 3) 4, rest-small (year + 3), div-add-mod' (suc year + 3) 4, rest-small (suc year + 3))
-fourth-years year false e =
-    omega
-    (arith, eqb-false (year % 4) 0 e, div-add-mod' year 4, rest-small year, div-add-mod' (year + 3) 4, rest-small (year + 3), div-add-mod' (suc year + 3) 4, rest-small (suc year + 3))
+fourth-years year true e = omega (arith, eqb-true (year % 4) 0 e, quarters year, quarters (year + 3), quarters (suc year + 3))
+fourth-years year false e = omega (arith, eqb-false (year % 4) 0 e, quarters year, quarters (year + 3), quarters (suc year + 3))
 
 year-more : (year : ℕ) → daysTo (suc year) ≡ daysTo year + monthsDays year 12
 year-more year = omega (arith, year-days year (isFourth year) refl, fourth-years year (isFourth year) refl)
@@ -51,36 +46,19 @@ years-closed year (suc years) = omega (arith, years-closed year years, year-more
 -- forward from 1976 or back to it
 pub years-balance : (year : ℕ) → yearsDays 1976 (year - 1976) + daysTo 1976 ≡ daysTo year + yearsDays year (1976 - year)
 unfolding yearsDays
-years-balance year = by-order (ltb year 1976) refl
+years-balance year = by-time (ltb year 1976) refl
   where
-    by-order : (early : Bool) → ltb year 1976 ≡ early → yearsDays 1976 (year - 1976) + daysTo 1976 ≡ daysTo year + yearsDays year (1976 - year)
-    by-order true e =
+    by-time : (early : Bool) → ltb year 1976 ≡ early → yearsDays 1976 (year - 1976) + daysTo 1976 ≡ daysTo year + yearsDays year (1976 - year)
+    by-time true e =
         let l = ltb-true year 1976 e in
         let none : year - 1976 ≡ 0 = omega arith in
         let all : year + (1976 - year) ≡ 1976 = omega arith in
         rw none (omega (arith, rw all at (years-closed year (1976 - year))))
-    by-order false e =
+    by-time false e =
         let l = ltb-false year 1976 e in
         let none : 1976 - year ≡ 0 = omega arith in
         let all : 1976 + (year - 1976) ≡ year = omega arith in
         rw none (omega (arith, rw all at (years-closed 1976 (year - 1976))))
-
-minus-is : (a b : ℕ) → pos a -ℤ pos b ≡ subℕ a b
-minus-is a zero = rw (le-ltb a 0 (omega arith)) (ap pos (omega arith))
-minus-is a (suc b) = refl
-
--- two naturals are no further apart than the larger may exceed the smaller
-apart : (a b most : ℕ) → a ≤ b + most → b ≤ a + most → natAbs (pos a -ℤ pos b) ≤ most
-apart a b most h k = rw (minus-is a b) (by-order (λ z. natAbs z ≤ most) a b (λ l. omega arith) (λ l. omega arith))
-
--- two differences of naturals are equal where the sums across are
-same-difference : (a b c d : ℕ) → a + d ≡ c + b → pos a -ℤ pos b ≡ pos c -ℤ pos d
-same-difference a b c d e =
-    minus-is a b ∙
-    by-order (λ z. z ≡ subℕ c d) a b
-    (λ h. by-order (λ z. negsuc (b - suc a) ≡ z) c d (λ k. ap negsuc (omega arith)) (λ k. absurd (omega arith)))
-    (λ h. by-order (λ z. pos (a - b) ≡ z) c d (λ k. absurd (omega arith)) (λ k. ap pos (omega arith))) ∙
-    sym (minus-is c d)
 
 pub count-closed : (year month day : ℕ) → dayCount year month day ≡ pos (dayNumber year month day) -ℤ pos (dayNumber 1976 1 1)
 unfolding dayCount monthsDays
@@ -100,16 +78,11 @@ count-small year month day e d =
     (apart (dayNumber year month day) (dayNumber 1976 1 1) (2 ^ 15) (omega (arith, sizes)) (omega (arith, sizes)))
   where
     sizes : (1950 ≤ year) × (year ≤ 2049) × (488 ≤ (year + 3) / 4) × ((year + 3) / 4 ≤ 513) × (monthsDays year (month - 1) ≤ 31 * 11)
-    sizes = omega (arith, in-range year month e, div-add-mod' (year + 3) 4, rest-small (year + 3), months-short year (month - 1))
+    sizes = omega (arith, in-range year month e, quarters (year + 3), months-short year (month - 1))
 
--- ---- the closed form in 64 bits
-
-signed-difference : (a b : ℕ) → a < 2 ^ 62 → b < 2 ^ 62 → toZ w64 a -ℤ toZ w64 b ≡ pos a -ℤ pos b
-signed-difference a b h k = ap₂ _-ℤ_ (signed-is a (omega arith)) (signed-is b (omega arith))
-
-pub difference-fits : (a b : ℕ) → a < 2 ^ 62 → b < 2 ^ 62 → SFits w64 (toZ w64 a -ℤ toZ w64 b)
-difference-fits a b h k = fits-as (signed-difference a b h k) (fits-below (pos a -ℤ pos b) (omega (arith, triangle-sub (pos a) (pos b))))
-
-pub count-signed : (year month day a b : ℕ) → a ≡ dayNumber year month day → b ≡ dayNumber 1976 1 1 → a < 2 ^ 62 → b < 2 ^ 62 → toZ w64 a -ℤ toZ w64 b ≡ dayCount year month day
+-- the closed form in 64 bits
+pub count-signed :
+    (year month day a b : ℕ) → a ≡ dayNumber year month day → b ≡ dayNumber 1976 1 1 → a < 2 ^ 62 → b < 2 ^ 62 →
+    toZ w64 a -ℤ toZ w64 b ≡ dayCount year month day
 count-signed year month day a b p q h k =
     signed-difference a b h k ∙ ap₂ (λ (m n : ℕ). pos m -ℤ pos n) p q ∙ sym (count-closed year month day)

@@ -3,7 +3,8 @@ use mathlib.Core.Path.{_∙_}
 use borrow.Author.Needs.{needs}
 use mir.Syntax.{w64}
 use mir.ValLaws.{toZ-ofZ}
-use Rattle.calendar.proofs.Days.{difference-fits, count-signed}
+use Rattle.calendar.proofs.Differences.{difference-fits}
+use Rattle.calendar.proofs.Days.{count-signed}
 use Rattle.calendar.proofs.day_count.Statement.{statement}
 use Rattle.calendar.proofs.day_count.Tie as tie
 
@@ -20,10 +21,18 @@ cast-result-2 : tie.Need-cast-result-2
 cast-result-2 c = search needs
 
 sub-result : tie.Need-sub-result
-sub-result c = let n = c .before .day-number in let o = c .day-number2 in difference-fits (n .result) (o .result) (n .ensures .1) (o .ensures .1)
+sub-result c =
+    let n = c .before .day-number in
+    let o = c .day-number2 in
+    difference-fits (n .result) (o .result) (n .ensures .1) (o .ensures .1)
 
 returns : tie.Need-returns
-returns c = let a = c .before .before .args in let n = c .before .day-number in let o = c .day-number2 in toZ-ofZ w64 _ (sub-result c) ∙ count-signed (a .year) (a .month) (a .day) (n .result) (o .result) (n .ensures .0) (o .ensures .0) (n .ensures .1) (o .ensures .1)
+returns c =
+    let a = c .before .before .args in
+    let n = c .before .day-number in
+    let o = c .day-number2 in
+    toZ-ofZ w64 _ (sub-result c) ∙
+    count-signed (a .year) (a .month) (a .day) (n .result) (o .result) (n .ensures .0) (o .ensures .0) (n .ensures .1) (o .ensures .1)
 
 pub day-count-spec : {M : Type 1} → statement M
 day-count-spec =

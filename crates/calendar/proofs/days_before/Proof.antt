@@ -32,7 +32,9 @@ cast-days : tie.Need-cast-days Inv-loop μ-loop
 cast-days c = search needs
 
 add-days : tie.Need-add-days Inv-loop μ-loop
-add-days c = let s = c .before .before .before in omega (arith, months-short (s .before .args .year) (s .loop .passed), month-short (s .before .args .year) (s .loop .passed + 1))
+add-days c =
+    let s = c .before .before .before in
+    omega (arith, months-short (s .before .args .year) (s .loop .passed), month-short (s .before .args .year) (s .loop .passed + 1))
 
 add-passed : tie.Need-add-passed Inv-loop μ-loop
 add-passed c = omega arith
@@ -41,13 +43,22 @@ loop-less : tie.Need-loop-less Inv-loop μ-loop
 loop-less c = omega arith
 
 loop-again : tie.Need-loop-again Inv-loop μ-loop
-loop-again c = let s = c .before .before .before in (omega (arith, months-more (s .before .args .year) (s .loop .passed)), omega arith, omega (arith, ltb-true))
+loop-again c =
+    let s = c .before .before .before in
+    (omega (arith, months-more (s .before .args .year) (s .loop .passed)), omega arith, omega (arith, ltb-true))
 
 returns : tie.Need-returns Inv-loop μ-loop
-returns c = let s = c .before .before in let all : s .before .args .month - 1 ≡ s .loop .passed = omega (arith, ltb-false) in (rw all (s .loop .inv .0), omega (arith, months-short (s .before .args .year) (s .loop .passed)))
+returns c =
+    let s = c .before .before in
+    let all : s .before .args .month - 1 ≡ s .loop .passed = omega (arith, ltb-false) in
+    (rw all (s .loop .inv .0), omega (arith, months-short (s .before .args .year) (s .loop .passed)))
 
 returns-2 : tie.Need-returns-2 Inv-loop μ-loop
-returns-2 c = let s = c .before in let a = s .before .args in let all : s .loop .passed ≡ 12 = omega arith in (rw (whole-year (a .year) (a .month - 1) (omega arith)) (rw all at (s .loop .inv .0)), omega (arith, months-short (a .year) (s .loop .passed)))
+returns-2 c =
+    let s = c .before in
+    let a = s .before .args in
+    let all : s .loop .passed ≡ 12 = omega arith in
+    (rw (whole-year (a .year) (a .month - 1) (omega arith)) (rw all at (s .loop .inv .0)), omega (arith, months-short (a .year) (s .loop .passed)))
 
 pub days-before-spec : {M : Type 1} → statement M
 days-before-spec =

@@ -19,7 +19,7 @@ unfolding monthDays
 returns-2 c = let none : c .before .before .before .args .month ≡ 0 = omega arith in rw none
 
 returns-3 : tie.Need-returns-3
-returns-3 c = sym (no-month (c .before .before .before .before .args .year) (c .before .before .before .before .args .month) (c .if3 .taken))
+returns-3 c = let a = c .before .before .before .before .args in sym (no-month (a .year) (a .month) (c .if3 .taken))
 
 cast-result : tie.Need-cast-result
 cast-result c = search needs
@@ -32,7 +32,9 @@ array-read-result c = search needs
 
 returns-4 : tie.Need-returns-4
 unfolding monthDays
-returns-4 c = rw (← c .before .before .before .is-long-february .ensures, c .before .before .if1 .left) (length-at monthLengths (c .before .before .before .before .args .month) (omega arith))
+returns-4 c =
+    rw (← c .before .before .before .is-long-february .ensures, c .before .before .if1 .left)
+    (length-at monthLengths (c .before .before .before .before .args .month) (omega arith))
 
 pub month-days-spec : {M : Type 1} → statement M
 month-days-spec =
