@@ -9,13 +9,13 @@ use mathlib.Core.Path.{_≡_, refl, sym, _∙_, ap, ap₂, subst}
 use Prim.Native.Nat.{ℕ, zero, _+_, _*_, _^_, _≤_, _<_}
 use native.Mathlib.Nat.{le-trans, le-of-eq, mul-le-mul, lt-of-le-of-lt, add-le-add}
 use native.Mathlib.Omega.{arith}
-use lib.IntN.{ℤ, pos, natAbs, _+ℤ_, _-ℤ_, _*ℤ_}
+use lib.IntN.{ℤ, pos, negℤ, natAbs, _+ℤ_, _-ℤ_, _*ℤ_, +ℤ-idl}
 use lib.Signed.{shrZ, natAbs-le}
 use mir.Syntax.{Width, w64}
 use mir.Val.{hbits, SFits, toZ, ofZ}
 use mir.ValLaws.{toZ-ofZ}
 use Rattle.angles.specs.Floor.{floorDiv}
-use Rattle.angles.proofs.Ints.{triangle, triangle-sub, natAbs-mul}
+use Rattle.angles.proofs.Ints.{triangle, triangle-sub, natAbs-mul, natAbs-neg}
 use Rattle.angles.proofs.Floors.{shift-is-floor, floor-size}
 use Rattle.angles.proofs.Machine.{held, fits-below, fits-as, through, signed-is}
 
@@ -49,6 +49,18 @@ fits {x} {a} k l = fits-as (k .is) (fits-below a (lt-of-le-of-lt (k .size) l))
 -- written to a register and read back
 pub kept : {x a : ℤ} {A : ℕ} → Known x a A → A < 2 ^ 63 → Known (held x) a A
 kept {x} {a} k l = record { is = through (k .is) (fits-below a (lt-of-le-of-lt (k .size) l)); size = k .size }
+
+-- from what is known of x itself, as a callee's promises, and back
+pub known : {x a : ℤ} {A : ℕ} → x ≡ a → natAbs x ≤ A → Known x a A
+known {x} {a} {A} e h = record { is = e; size = subst (λ (z : ℤ). natAbs z ≤ A) e h }
+
+pub says : {x a : ℤ} {A : ℕ} → Known x a A → (x ≡ a) × (natAbs x ≤ A)
+says {x} {a} {A} k = (k .is, subst (λ (z : ℤ). natAbs z ≤ A) (sym (k .is)) (k .size))
+
+-- -x
+pub negated : {x a : ℤ} {A : ℕ} → Known x a A → Known (pos 0 -ℤ x) (negℤ a) A
+negated {x} {a} k =
+    record { is = ap (λ (z : ℤ). pos 0 -ℤ z) (k .is) ∙ +ℤ-idl (negℤ a); size = le-trans (le-of-eq (natAbs-neg a)) (k .size) }
 
 module _ {x y a b : ℤ} {A B : ℕ} (p : Known x a A) (q : Known y b B) where
   pub plus : Known (x +ℤ y) (a +ℤ b) (A + B)
