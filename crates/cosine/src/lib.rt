@@ -9,11 +9,9 @@ ghost use Rattle.cosine.specs.Fixed.{one, entries, step, entry, fixedCos
 mod table;
 
 use table::COSINES;
-
-const STEP: u64 = 192_480_468_750;
-
-// Steps in a quarter turn.
-const STEPS: u64 = 1_024;
+pub use table::ENTRIES;
+use table::STEP;
+use table::STEPS;
 
 pub struct CosineAndSine {
     pub cosine: i64,
@@ -21,14 +19,14 @@ pub struct CosineAndSine {
 }
 
 // The table, to be made once and lent.
-pub fn cosines() -> [u32; 1025]
+pub fn cosines() -> [u32; ENTRIES]
     ensures { λ r. ⌜ IsTable r ⌝ }
 {
     COSINES
 }
 
 // On the line from entry i to the next, r ticks past entry i, rounded.
-fn on_line(table: &[u32; 1025], i: usize, r: u64) -> u64
+fn on_line(table: &[u32; ENTRIES], i: usize, r: u64) -> u64
     requires { ⌜ IsTable (now table) ⌝ }
     requires { ⌜ (i + 1 < entries) × (r ≤ step) ⌝ }
     ensures { λ v. ⌜ v ≡ entry step i - (entry step i - entry step (i + 1)) * r / step ⌝ }
@@ -68,7 +66,7 @@ fn in_quadrant(q: u64, near: u64, far: u64) -> i64
 }
 
 // The fixed cosine and the fixed sine of an angle.
-pub fn wave(table: &[u32; 1025], ticks: u64) -> CosineAndSine
+pub fn wave(table: &[u32; ENTRIES], ticks: u64) -> CosineAndSine
     requires { ⌜ IsTable (now table) ⌝ }
     ensures { λ w. ⌜ w .cosine ≡ fixedCosine ticks ⌝ }
     ensures { λ w. ⌜ w .sine ≡ fixedSine ticks ⌝ }
