@@ -12,10 +12,6 @@ use Rattle.cosine.specs.Fixed.{one}
 use borrow.Author.Needs.{needs}
 use Rattle.cosine.proofs.in_quadrant.Statement.{statement}
 use Rattle.cosine.proofs.in_quadrant.Tie as tie
-use Rattle.cosine.proofs.in_quadrant.Reads as reads
-use Rattle.cosine.proofs.in_quadrant.Lts as lts
-use Rattle.cosine.proofs.either.Reads as either-reads
-use Rattle.cosine.proofs.with_sign.Reads as with-sign-reads
 
 either-small : (t : Bool) (a b : ℕ) → a ≤ one → b ≤ one → cond t a b ≤ one
 either-small true a b h k = h
