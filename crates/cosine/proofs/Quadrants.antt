@@ -1,7 +1,7 @@
 -- One division of an angle by the step gives its quadrant, the entry before it and the one before its mirror image in the quarter:
 -- for any step h and any count N of steps in a quarter turn, the lines from those two entries give the fixed cosine and sine.
 -- Rests on the entries' fall (`Rule`). Assumes nothing.
-use mathlib.Core.Path.{_≡_, refl, sym, _∙_, ap, ap₂, subst}
+use mathlib.Core.Path.{_≡_, refl, sym, _∙_, ap}
 use mathlib.Core.Bool.{Bool, true, false, cond}
 use mathlib.Core.Logic.{⊎-elim}
 use Prim.Native.Nat.{ℕ, zero, suc, _+_, _-_, _*_, _/_, _%_, _^_, _≤_, _<_}
@@ -10,7 +10,7 @@ use native.Mathlib.Omega.{arith}
 use borrow.Author.Tests.{eqb-true}
 use lib.Dec.{eqb}
 use lib.Arith.{mod-mul}
-use lib.IntN.{ℤ, pos}
+use lib.IntN.{pos}
 use mir.Syntax.{w64}
 use mir.Val.{Fits}
 use Rattle.cosine.specs.Fraction.{quarter, inQuadrant, around}
