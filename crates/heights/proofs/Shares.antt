@@ -2,10 +2,12 @@
 -- Assumes nothing.
 use Prim.Native.Nat.{ℕ, zero, suc, _+_, _-_, _*_, _≤_, _<_}
 use native.Mathlib.Omega.{arith}
-use mathlib.Core.Path.{_≡_, refl, ap}
-use mathlib.Core.List.{List, [], _∷_}
+use native.Mathlib.Numerals.{add-one}
+use mathlib.Core.Path.{_≡_, refl, ap, _∙_}
+use mathlib.Core.List.{List, [], _∷_, _++_, append-nil}
 use lib.IntN.{ℤ, pos, _+ℤ_}
-use lib.ListN.{length, getD}
+use lib.ListN.{length, getD, set, drop, drop-of-length-le}
+use lib.Seq.{sets, sets-eq}
 use Rattle.prepared.specs.Prepared.{Constituent}
 use Rattle.prepared.specs.View.{constituentsAfter}
 use Rattle.prepared.proofs.Places.{constituents-more, constituents-none}
@@ -43,6 +45,22 @@ module _ (cs : List Constituent) (start step : ℕ) where
 
   pub series-height : (places n : ℕ) → n < places → getD (seriesOf cs start step places) n (pos 0) ≡ heightAt cs (start + n * step)
   series-height places n h = let e : 0 + n ≡ n = omega arith in rw e at (series-from 0 places n h)
+
+-- the heights written at the front of a list, and those that are left
+module _ (cs : List Constituent) (start step : ℕ) (out : List ℤ) where
+  pub written-more : (n places : ℕ) (height : ℤ) → n < places → height ≡ heightAt cs (start + n * step) → sets (set out n height) (n + 1) (seriesFrom cs start step (n + 1) (places - (n + 1))) ≡ sets out n (seriesFrom cs start step n (places - n))
+  written-more n places height h e =
+      rw (series-more cs start step n places h, e)
+      (ap (λ (k : ℕ). sets (set out n (heightAt cs (start + n * step))) k (seriesFrom cs start step (n + 1) (places - (n + 1)))) (add-one n))
+
+  pub written-none : (n places : ℕ) → places ≤ n → sets out n (seriesFrom cs start step n (places - n)) ≡ out
+  written-none n places h = rw (series-none cs start step n places h)
+
+  pub written-all : sets out 0 (seriesOf cs start step (length out)) ≡ seriesOf cs start step (length out)
+  written-all =
+      let xs = seriesOf cs start step (length out) in
+      let l : length xs ≡ length out = series-length cs start step 0 (length out) in
+      sets-eq xs out 0 (omega arith) ∙ (ap (λ (d : List ℤ). xs ++ d) (drop-of-length-le out (omega arith)) ∙ append-nil xs)
 
 pub empty-height : (minute : ℕ) → heightAt [] minute ≡ pos 0
 unfolding heightAt sharesAt

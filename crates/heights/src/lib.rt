@@ -94,7 +94,8 @@ fn sum_of(angle: u64, ticks: u64) -> u64
 
 // Moves the first `count` angles on, each by its own advance.
 pub fn move_on(angles: &mut [u64; 146], ticks: &[u64; 146], count: usize)
-    requires { ⌜ (count ≤ 146) × (Below count (now angles) × Below count (now ticks)) ⌝ }
+    requires { ⌜ (length (now angles) ≡ 146) × ((count ≤ 146) × (Below count (now angles) × Below count (now ticks))) ⌝ }
+    ensures { λ r. ⌜ length (now (angles .exit)) ≡ 146 ⌝ }
     ensures { λ r. ⌜ ((k : ℕ) → k < count → getD (now (angles .exit)) k 0 ≡ (getD (now (angles .entry)) k 0 + getD (now (ticks .entry)) k 0) % turn) ⌝ }
 {
     let mut k: usize = 0;
@@ -124,7 +125,13 @@ pub fn share_at(table: &[u32; 1025], angle: u64, p: i32, q: i32) -> i64
 }
 
 // The height of the first `count` constituents at the minute that the angles are for.
-pub fn height_of<'a>(table: &'a [u32; 1025], angles: &'a [u64; 146], ps: &'a [i32; 146], qs: &'a [i32; 146], count: usize) -> i64
+pub fn height_of<'a>(
+    table: &'a [u32; 1025],
+    angles: &'a [u64; 146],
+    ps: &'a [i32; 146],
+    qs: &'a [i32; 146],
+    count: usize,
+) -> i64
     requires { ⌜ IsTable (now table) × (count ≤ 146) ⌝ }
     ensures { λ r. ⌜ ((arguments lags frequencies : List ℕ) (minute : ℕ) → Angles arguments lags frequencies count minute (now (angles .entry)) → r ≡ heightAt (constituentsFrom arguments lags frequencies (now (ps .entry)) (now (qs .entry)) count) minute) ⌝ }
 {

@@ -72,10 +72,13 @@ loop-again : tie.Need-loop-again Inv-loop μ-loop
 loop-again c = let s = c .before .before .before .before .before .loop in let a = c .before .before .before .before .before .before .args in let r = c .share-at in let z = toZ w64 (s .sum) in let hk : s .k < 146 = omega arith in
     let e : toZ w64 (ofZ w64 (z +ℤ toZ w64 (ofZ w64 (r .result)))) ≡ z +ℤ r .result = through (sum-is z (r .result) (s .k) hk (s .inv .1 .0) (r .ensures .1)) (sum-fits z (r .result) (s .k) hk (s .inv .1 .0) (r .ensures .1)) in
     let p : SFits w32 (getD (a .ps .now) (s .k) (pos 0)) = search needs in
-    let q : SFits w32 (getD (a .qs .now) (s .k) (pos 0)) = search needs in
-    (omega arith,
-    (subst (λ (y : ℤ). natAbs y ≤ (s .k + 1) * 2 ^ 32) (sym e) (sum-size z (r .result) (s .k) hk (s .inv .1 .0) (r .ensures .1)),
-    λ vs ls fs m h. ap (λ (y : ℤ). y +ℤ sharesAt (constituentsAfter vs ls fs (a .ps .now) (a .qs .now) (s .k + 1) (a .count - (s .k + 1))) m) e ∙ (+ℤ-assoc z (r .result) _ ∙ (ap (λ (y : ℤ). z +ℤ (y +ℤ sharesAt (constituentsAfter vs ls fs (a .ps .now) (a .qs .now) (s .k + 1) (a .count - (s .k + 1))) m)) (r .ensures .0 ∙ (ap₂ (λ (x y : ℤ). share x y (getD (a .angles .now) (s .k) 0)) (toZ-ofZ w32 (getD (a .ps .now) (s .k) (pos 0)) p) (toZ-ofZ w32 (getD (a .qs .now) (s .k) (pos 0)) q) ∙ ap (λ (t : ℕ). share (getD (a .ps .now) (s .k) (pos 0)) (getD (a .qs .now) (s .k) (pos 0)) t) (h (s .k) (omega arith)))) ∙ (ap (λ (y : ℤ). z +ℤ y) (sym (shares-more vs ls fs (a .ps .now) (a .qs .now) m (s .k) (a .count) (omega arith))) ∙ s .inv .1 .1 vs ls fs m h)))))
+    let q : SFits w32 (getD (a .qs .now) (s .k) (pos 0)) = search needs in (
+      omega arith,
+      (
+        subst (λ (y : ℤ). natAbs y ≤ (s .k + 1) * 2 ^ 32) (sym e) (sum-size z (r .result) (s .k) hk (s .inv .1 .0) (r .ensures .1)),
+        λ vs ls fs m h. ap (λ (y : ℤ). y +ℤ sharesAt (constituentsAfter vs ls fs (a .ps .now) (a .qs .now) (s .k + 1) (a .count - (s .k + 1))) m) e ∙ (+ℤ-assoc z (r .result) _ ∙ (ap (λ (y : ℤ). z +ℤ (y +ℤ sharesAt (constituentsAfter vs ls fs (a .ps .now) (a .qs .now) (s .k + 1) (a .count - (s .k + 1))) m)) (r .ensures .0 ∙ (ap₂ (λ (x y : ℤ). share x y (getD (a .angles .now) (s .k) 0)) (toZ-ofZ w32 (getD (a .ps .now) (s .k) (pos 0)) p) (toZ-ofZ w32 (getD (a .qs .now) (s .k) (pos 0)) q) ∙ ap (λ (t : ℕ). share (getD (a .ps .now) (s .k) (pos 0)) (getD (a .qs .now) (s .k) (pos 0)) t) (h (s .k) (omega arith)))) ∙ (ap (λ (y : ℤ). z +ℤ y) (sym (shares-more vs ls fs (a .ps .now) (a .qs .now) m (s .k) (a .count) (omega arith))) ∙ s .inv .1 .1 vs ls fs m h))),
+      ),
+    )
 
 add-result : tie.Need-add-result Inv-loop μ-loop
 add-result c = let s = c .before .loop in fits-below (toZ w64 (s .sum) +ℤ pos 2_048) (omega (arith, triangle (toZ w64 (s .sum)) (pos 2_048)))

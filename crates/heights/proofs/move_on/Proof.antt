@@ -24,7 +24,7 @@ abbrev μ-loop : tie.MeasureT-loop
 μ-loop angles₀ ticks count k₀ angles k = count - k
 
 loop-holds : tie.Need-loop-holds Inv-loop μ-loop
-loop-holds c = let g = c .good .0 in (omega arith, (?, (below-none _, λ j h. refl)))
+loop-holds c = (omega arith, (c .pre .0, (below-none _, λ j h. refl)))
 
 mul-sum-of : tie.Need-mul-sum-of Inv-loop μ-loop
 mul-sum-of c = search needs
@@ -40,7 +40,7 @@ element-copy-out-sum-of-2 c = search needs
 
 sum-of-requires : tie.Need-sum-of-requires Inv-loop μ-loop
 sum-of-requires c κs = let s = c .before .before .before .loop in let p = c .before .before .before .before .pre in
-    (omega (arith, s .inv .1 .1 .1 (s .k) (omega arith), p .1 .0 (s .k) (omega arith)), p .1 .1 (s .k) (omega arith))
+    (omega (arith, s .inv .1 .1 .1 (s .k) (omega arith), p .1 .1 .0 (s .k) (omega arith)), p .1 .1 .1 (s .k) (omega arith))
 
 mul-angles : tie.Need-mul-angles Inv-loop μ-loop
 mul-angles c = search needs
@@ -56,13 +56,16 @@ loop-less c = search needs
 
 loop-again : tie.Need-loop-again Inv-loop μ-loop
 loop-again c = let s = c .before .before .before .before .loop in let a = c .before .before .before .before .before .args in let l : s .k < length (s .angles) = omega arith in
-    let e : c .sum-of .result ≡ (getD (a .angles .now) (s .k) 0 + getD (a .ticks .now) (s .k) 0) % turn = c .sum-of .ensures ∙ ap (λ (n : ℕ). (n + getD (a .ticks .now) (s .k) 0) % turn) (s .inv .1 .1 .1 (s .k) (omega arith)) in
-    (omega arith,
-    (length-set (s .angles) (s .k) (c .sum-of .result) ∙ s .inv .1 .0,
-    (filled-more (s .angles) (s .k) (c .sum-of .result) (λ j. (getD (a .angles .now) j 0 + getD (a .ticks .now) j 0) % turn) l (s .inv .1 .1 .0) e, unreached (s .angles) (s .k) (c .sum-of .result) (λ j. getD (a .angles .now) j 0) (s .inv .1 .1 .1))))
+    let e : c .sum-of .result ≡ (getD (a .angles .now) (s .k) 0 + getD (a .ticks .now) (s .k) 0) % turn = c .sum-of .ensures ∙ ap (λ (n : ℕ). (n + getD (a .ticks .now) (s .k) 0) % turn) (s .inv .1 .1 .1 (s .k) (omega arith)) in (
+      omega arith,
+      (
+        length-set (s .angles) (s .k) (c .sum-of .result) ∙ s .inv .1 .0,
+        (filled-more (s .angles) (s .k) (c .sum-of .result) (λ j. (getD (a .angles .now) j 0 + getD (a .ticks .now) j 0) % turn) l (s .inv .1 .1 .0) e, unreached (s .angles) (s .k) (c .sum-of .result) (λ j. getD (a .angles .now) j 0) (s .inv .1 .1 .1)),
+      ),
+    )
 
 returns : tie.Need-returns Inv-loop μ-loop
-returns c = λ k h. c .before .loop .inv .1 .1 .0 k (omega arith)
+returns c = (c .before .loop .inv .1 .0, λ k h. c .before .loop .inv .1 .1 .0 k (omega arith))
 
 pub move-on-spec : {M : Type 1} → statement M
 move-on-spec =
