@@ -60,7 +60,7 @@ module _ (cs : List Constituent) (start step : ℕ) (out : List ℤ) where
   written-all =
       let xs = seriesOf cs start step (length out) in
       let l : length xs ≡ length out = series-length cs start step 0 (length out) in
-      sets-eq xs out 0 (omega arith) ∙ (ap (λ (d : List ℤ). xs ++ d) (drop-of-length-le out (omega arith)) ∙ append-nil xs)
+      sets-eq xs out 0 (omega arith) ∙ (ap (λ (d : List ℤ). xs ++ d) (drop-of-length-le out {i = 0 + length xs} (omega arith)) ∙ append-nil xs)
 
 pub empty-height : (minute : ℕ) → heightAt [] minute ≡ pos 0
 unfolding heightAt sharesAt
