@@ -32,13 +32,13 @@ fn wide(x: u16) -> u64
 }
 
 // A constituent's angle at a minute.
-pub fn angle_at(argument: u64, lag: u64, frequency: u64, minute: u64) -> u64
-    requires { ⌜ (lag < 65_536) × (minute ≤ 44_640) ⌝ }
+pub fn angle_at(argument: u64, lag: u16, frequency: u64, minute: u64) -> u64
+    requires { ⌜ minute ≤ 44_640 ⌝ }
     ensures { λ r. ⌜ r ≡ angle argument lag frequency minute ⌝ }
 {
     let f = frequency % LAP;
     let laps = f * minute + (LAP - f) * INSTANT;
-    (argument % TURN + (2 * TURN - lag * CENTIDEGREE) + laps % LAP * ADVANCE) % TURN
+    (argument % TURN + (2 * TURN - wide(lag) * CENTIDEGREE) + laps % LAP * ADVANCE) % TURN
 }
 
 // The angles of the first `count` constituents at a minute.
@@ -55,7 +55,7 @@ pub fn angles_at<'a>(
     let mut angles = [0u64; 146];
     let mut k: usize = 0;
     while k < count {
-        angles[k] = angle_at(arguments[k], wide(lags[k]), frequencies[k], minute);
+        angles[k] = angle_at(arguments[k], lags[k], frequencies[k], minute);
         k = k + 1;
     }
     angles
@@ -134,6 +134,7 @@ pub fn height_of<'a>(
 ) -> i64
     requires { ⌜ IsTable (now table) × (count ≤ 146) ⌝ }
     ensures { λ r. ⌜ ((arguments lags frequencies : List ℕ) (minute : ℕ) → Angles arguments lags frequencies count minute (now (angles .entry)) → r ≡ heightAt (constituentsFrom arguments lags frequencies (now (ps .entry)) (now (qs .entry)) count) minute) ⌝ }
+    ensures { λ r. ⌜ natAbs r ≤ 2 ^ 28 ⌝ }
 {
     let mut sum: i64 = 0;
     let mut k: usize = 0;
@@ -157,6 +158,7 @@ pub fn height<'a>(
 ) -> i64
     requires { ⌜ IsTable (now table) × ((count ≤ 146) × (minute ≤ 44_640)) ⌝ }
     ensures { λ r. ⌜ r ≡ heightAt (constituentsFrom (now (arguments .entry)) (now (lags .entry)) (now (frequencies .entry)) (now (ps .entry)) (now (qs .entry)) count) minute ⌝ }
+    ensures { λ r. ⌜ natAbs r ≤ 2 ^ 28 ⌝ }
 {
     let angles = angles_at(arguments, lags, frequencies, count, minute);
     height_of(table, &angles, ps, qs, count)
