@@ -19,11 +19,12 @@ const CENTIDEGREE: u64 = 21_900_000_000;
 const ADVANCE: u64 = 1_314;
 
 // so a frequency of this many moves it by a whole turn.
-const LAP: u64 = 600_000_000_000;
+const LAP: u64 = TURN / ADVANCE;
 
 // Minutes from the month's start to its instant.
 const INSTANT: u64 = 21_600;
 
+// A number of 16 bits, wider.
 fn wide(x: u16) -> u64
     ensures { λ r. ⌜ r ≡ x ⌝ }
     ensures { λ r. ⌜ r < 65_536 ⌝ }

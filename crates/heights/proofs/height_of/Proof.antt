@@ -2,7 +2,7 @@
 use Prim.Native.Nat.{ℕ, _+_, _-_, _*_, _^_, _≤_, _<_}
 use native.Mathlib.Omega.{arith}
 use native.Mathlib.Nat.{sub-zero}
-use mathlib.Core.Path.{_≡_, refl, sym, ap, ap₂, _∙_}
+use mathlib.Core.Path.{_≡_, sym, ap, ap₂, _∙_}
 use mathlib.Core.List.{List}
 use borrow.Author.Needs.{needs}
 use lib.Dec.{lit<, lit≤}
@@ -12,16 +12,13 @@ use mir.Syntax.{w32, w64}
 use mir.Val.{SFits, toZ, ofZ}
 use mir.ValLaws.{toZ-ofZ}
 use Rattle.angles.specs.Floor.{floorDiv}
-use Rattle.angles.proofs.Known.{Known, plainly, read, plus, bounded, shifted, kept, fits, known, says}
+use Rattle.angles.proofs.Known.{Known, plainly, read, plus, bounded, shifted, kept, fits, says}
 use Rattle.prepared.specs.View.{constituentsAfter, constituentsFrom}
-use Rattle.heights.specs.Height.{share, sharesAt, heightAt}
+use Rattle.heights.specs.Height.{share, sumOfShares, heightAt}
 use Rattle.heights.specs.Angles.{Angles}
 use Rattle.heights.proofs.Shares.{shares-more, shares-none}
 use Rattle.heights.proofs.height_of.Statement.{statement}
 use Rattle.heights.proofs.height_of.Tie as tie
-use Rattle.heights.proofs.height_of.Reads as reads
-use Rattle.heights.proofs.height_of.Lts as lts
-use Rattle.heights.proofs.share_at.Reads as share-at-reads
 
 -- a sum of k shares, in a register, and one share more
 one-more : (z r : ℤ) (k : ℕ) → k < 146 → natAbs z ≤ k * 2 ^ 32 → natAbs r ≤ 2 ^ 32 → Known (z +ℤ toZ w64 (ofZ w64 r)) (z +ℤ r) ((k + 1) * 2 ^ 32)
@@ -32,13 +29,13 @@ Inv-loop table angles ps qs count sum₀ k₀ sum k = (k ≤ count)
     × ((natAbs (toZ w64 sum) ≤ k * 2 ^ 32)
     × ((arguments lags frequencies : List ℕ) (minute : ℕ) →
     Angles arguments lags frequencies count minute angles →
-    toZ w64 sum +ℤ sharesAt (constituentsAfter arguments lags frequencies ps qs k (count - k)) minute ≡ sharesAt (constituentsFrom arguments lags frequencies ps qs count) minute))
+    toZ w64 sum +ℤ sumOfShares (constituentsAfter arguments lags frequencies ps qs k (count - k)) minute ≡ sumOfShares (constituentsFrom arguments lags frequencies ps qs count) minute))
 
 abbrev μ-loop : tie.MeasureT-loop
 μ-loop table angles ps qs count sum₀ k₀ sum k = count - k
 
 loop-holds : tie.Need-loop-holds Inv-loop μ-loop
-loop-holds c = (omega arith, (omega arith, λ vs ls fs m h. +ℤ-idl _ ∙ ap (λ (n : ℕ). sharesAt (constituentsAfter vs ls fs (c .args .ps .now) (c .args .qs .now) 0 n) m) (sub-zero (c .args .count))))
+loop-holds c = (omega arith, (omega arith, λ vs ls fs m h. +ℤ-idl _ ∙ ap (λ (n : ℕ). sumOfShares (constituentsAfter vs ls fs (c .args .ps .now) (c .args .qs .now) 0 n) m) (sub-zero (c .args .count))))
 
 mul-share-at : tie.Need-mul-share-at Inv-loop μ-loop
 mul-share-at c = search needs
@@ -79,7 +76,7 @@ loop-again c = let s = c .before .before .before .before .before .loop in let a 
       omega arith,
       (
         more .1,
-        λ vs ls fs m h. let left = sharesAt (constituentsAfter vs ls fs (a .ps .now) (a .qs .now) (s .k + 1) (a .count - (s .k + 1))) m in
+        λ vs ls fs m h. let left = sumOfShares (constituentsAfter vs ls fs (a .ps .now) (a .qs .now) (s .k + 1) (a .count - (s .k + 1))) m in
             let same = r .ensures .0 ∙ (ap₂ (λ (x y : ℤ). share x y (getD (a .angles .now) (s .k) 0)) (toZ-ofZ w32 (getD (a .ps .now) (s .k) (pos 0)) p) (toZ-ofZ w32 (getD (a .qs .now) (s .k) (pos 0)) q) ∙ ap (λ (t : ℕ). share (getD (a .ps .now) (s .k) (pos 0)) (getD (a .qs .now) (s .k) (pos 0)) t) (h (s .k) (omega arith))) in
             ap (λ (y : ℤ). y +ℤ left) (more .0) ∙ (+ℤ-assoc z (r .result) left ∙ (ap (λ (y : ℤ). z +ℤ y) (ap (λ (y : ℤ). y +ℤ left) same ∙ sym (shares-more vs ls fs (a .ps .now) (a .qs .now) m (s .k) (a .count) (omega arith))) ∙ s .inv .1 .1 vs ls fs m h)),
       ),

@@ -1,19 +1,14 @@
 -- `heights::move_on` meets its contract: the places below k are moved on, the others are as they were. Assumes nothing.
 use borrow.Author.Needs.{needs}
-use Prim.Native.Nat.{ℕ, _+_, _-_, _*_, _%_, _≤_, _<_}
+use Prim.Native.Nat.{ℕ, _+_, _-_, _%_, _≤_, _<_}
 use native.Mathlib.Omega.{arith}
-use mathlib.Core.Path.{_≡_, refl, sym, ap, _∙_}
+use mathlib.Core.Path.{_≡_, refl, ap, _∙_}
 use lib.ListN.{length, getD, length-set}
 use borrow.Author.Count.{below-none}
 use Rattle.angles.specs.Ticks.{turn}
-use Rattle.heights.specs.Height.{angle}
-use Rattle.heights.specs.Angles.{Angles, Advances, Below}
 use Rattle.heights.proofs.Filling.{filled-more, unreached}
 use Rattle.heights.proofs.move_on.Statement.{statement}
 use Rattle.heights.proofs.move_on.Tie as tie
-use Rattle.heights.proofs.move_on.Reads as reads
-use Rattle.heights.proofs.move_on.Lts as lts
-use Rattle.heights.proofs.sum_of.Reads as sum-of-reads
 
 abbrev Inv-loop : tie.InvT-loop
 Inv-loop angles₀ ticks count k₀ angles k = (k ≤ count)

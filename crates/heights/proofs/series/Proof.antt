@@ -1,30 +1,23 @@
 -- `heights::series` meets its contract: the heights written so far and those that are left make the series, and the angles are those of the next minute.
 -- Assumes nothing.
 use borrow.Author.Needs.{needs}
-use Prim.Native.Nat.{ℕ, _+_, _-_, _*_, _%_, _≤_, _<_}
+use Prim.Native.Nat.{ℕ, _+_, _-_, _*_, _≤_}
 use native.Mathlib.Omega.{arith}
 use native.Mathlib.Nat.{sub-zero}
 use mathlib.Core.Path.{_≡_, refl, sym, subst, ap, _∙_}
-use mathlib.Core.List.{List, [], _∷_}
 use lib.Dec.{lit<}
-use lib.ListN.{length, getD, set, length-set}
+use lib.ListN.{length, length-set}
 use lib.Seq.{sets}
 use mir.Syntax.{w64}
 use mir.Val.{toZ, ofZ}
 use Rattle.angles.proofs.Known.{known, kept}
 use Rattle.prepared.specs.View.{constituentsFrom}
-use Rattle.heights.specs.Height.{heightAt, seriesFrom, seriesOf}
+use Rattle.heights.specs.Height.{seriesFrom, seriesOf}
 use Rattle.heights.specs.Angles.{Angles}
 use Rattle.heights.proofs.Turning.{angles-later, angles-below, ticks-below}
 use Rattle.heights.proofs.Shares.{written-more, written-none, written-all}
 use Rattle.heights.proofs.series.Statement.{statement}
 use Rattle.heights.proofs.series.Tie as tie
-use Rattle.heights.proofs.series.Reads as reads
-use Rattle.heights.proofs.series.Lts as lts
-use Rattle.heights.proofs.advances.Reads as advances-reads
-use Rattle.heights.proofs.angles_at.Reads as angles-at-reads
-use Rattle.heights.proofs.height_of.Reads as height-of-reads
-use Rattle.heights.proofs.move_on.Reads as move-on-reads
 
 abbrev Inv-loop : tie.InvT-loop
 Inv-loop table arguments lags frequencies ps qs count start step out₀ angles₀ ticks n₀ out angles n = (n ≤ length out₀)
