@@ -13,7 +13,7 @@ use Rattle.angles.specs.Floor.{modTurn}
 use Rattle.angles.proofs.Ints.{by-order, distrib, distrib-sub, four, swap}
 use Rattle.angles.proofs.Angles.{below-turn, of-both}
 use Rattle.heights.specs.Height.{angle}
-use Rattle.heights.specs.Angles.{Angles, Advances, Below}
+use Rattle.heights.specs.Angles.{Angles, Advances, Below, MovedOn}
 
 -- ---- the angle at a minute
 
@@ -74,7 +74,7 @@ advance-is f s = advance-of f (f / lap) (f % lap) s (f % lap * s / lap) (f % lap
 -- ---- arrays of angles
 
 module _ (arguments lags frequencies angles ticks : List ℕ) (count minute step : ℕ) (now : Angles arguments lags frequencies count minute angles) (each : Advances frequencies count step ticks) where
-  pub angles-later : (later : List ℕ) → ((k : ℕ) → k < count → getD later k 0 ≡ (getD angles k 0 + getD ticks k 0) % turn) → Angles arguments lags frequencies count (minute + step) later
+  pub angles-later : (later : List ℕ) → MovedOn count ticks angles later → Angles arguments lags frequencies count (minute + step) later
   angles-later later moved k h =
       moved k h
       ∙ (ap₂ (λ (a b : ℕ). (a + b) % turn) (now k h) (each k h) ∙ sym (angle-later (getD arguments k 0) (getD lags k 0) (getD frequencies k 0) minute step))

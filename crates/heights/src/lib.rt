@@ -1,14 +1,13 @@
 // Heights of the water from a prepared month's constituents. The table of cosines and the arrays are lent.
 ghost use mathlib.Core.Path.{_≡_};
-ghost use mathlib.Core.List.{List};
-ghost use Prim.Native.Nat.{ℕ, _+_, _*_, _%_, _≤_, _<_, _^_};
+ghost use Prim.Native.Nat.{_+_, _*_, _%_, _≤_, _<_, _^_};
 ghost use lib.IntN.{natAbs, _*ℤ_};
-ghost use lib.ListN.{length, getD};
+ghost use lib.ListN.{length};
 ghost use Rattle.angles.specs.Ticks.{turn};
 ghost use Rattle.cosine.specs.Fixed.{one, IsTable};
 ghost use Rattle.prepared.specs.View.{constituentsFrom};
 ghost use Rattle.heights.specs.Height.{angle, share, heightAt, seriesOf};
-ghost use Rattle.heights.specs.Angles.{Angles, Advances, Below};
+ghost use Rattle.heights.specs.Angles.{Angles, Advances, Below, MovedOn, HeightOf};
 
 const TURN: u64 = 788_400_000_000_000;
 
@@ -97,7 +96,7 @@ fn sum_of(angle: u64, ticks: u64) -> u64
 pub fn move_on(angles: &mut [u64; 146], ticks: &[u64; 146], count: usize)
     requires { ⌜ (length (now angles) ≡ 146) × ((count ≤ 146) × (Below count (now angles) × Below count (now ticks))) ⌝ }
     ensures { λ r. ⌜ length (now (angles .exit)) ≡ 146 ⌝ }
-    ensures { λ r. ⌜ ((k : ℕ) → k < count → getD (now (angles .exit)) k 0 ≡ (getD (now (angles .entry)) k 0 + getD (now (ticks .entry)) k 0) % turn) ⌝ }
+    ensures { λ r. ⌜ MovedOn count (now (ticks .entry)) (now (angles .entry)) (now (angles .exit)) ⌝ }
 {
     let mut k: usize = 0;
     while k < count {
@@ -134,7 +133,7 @@ pub fn height_of<'a>(
     count: usize,
 ) -> i64
     requires { ⌜ IsTable (now table) × (count ≤ 146) ⌝ }
-    ensures { λ r. ⌜ ((arguments lags frequencies : List ℕ) (minute : ℕ) → Angles arguments lags frequencies count minute (now (angles .entry)) → r ≡ heightAt (constituentsFrom arguments lags frequencies (now (ps .entry)) (now (qs .entry)) count) minute) ⌝ }
+    ensures { λ r. ⌜ HeightOf (now (angles .entry)) (now (ps .entry)) (now (qs .entry)) count r ⌝ }
     ensures { λ r. ⌜ natAbs r ≤ 2 ^ 28 ⌝ }
 {
     let mut sum: i64 = 0;
