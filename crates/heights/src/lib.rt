@@ -8,6 +8,7 @@ ghost use Rattle.cosine.specs.Fixed.{one, IsTable};
 ghost use Rattle.prepared.specs.View.{constituentsFrom};
 ghost use Rattle.heights.specs.Height.{angle, share, heightAt, seriesOf};
 ghost use Rattle.heights.specs.Angles.{Angles, Advances, Below, MovedOn, HeightOf};
+use cosine::ENTRIES;
 
 const TURN: u64 = 788_400_000_000_000;
 
@@ -115,7 +116,7 @@ pub fn weigh(weight: i32, wave: i64) -> i64
 }
 
 // The share of weights P and Q at an angle.
-pub fn share_at(table: &[u32; 1025], angle: u64, p: i32, q: i32) -> i64
+pub fn share_at(table: &[u32; ENTRIES], angle: u64, p: i32, q: i32) -> i64
     requires { ⌜ IsTable (now table) ⌝ }
     ensures { λ r. ⌜ r ≡ share p q angle ⌝ }
     ensures { λ r. ⌜ natAbs r ≤ 2 ^ 32 ⌝ }
@@ -126,7 +127,7 @@ pub fn share_at(table: &[u32; 1025], angle: u64, p: i32, q: i32) -> i64
 
 // The height of the first `count` constituents at the minute that the angles are for.
 pub fn height_of<'a>(
-    table: &'a [u32; 1025],
+    table: &'a [u32; ENTRIES],
     angles: &'a [u64; 146],
     ps: &'a [i32; 146],
     qs: &'a [i32; 146],
@@ -147,7 +148,7 @@ pub fn height_of<'a>(
 
 // The height at a minute.
 pub fn height<'a>(
-    table: &'a [u32; 1025],
+    table: &'a [u32; ENTRIES],
     arguments: &'a [u64; 146],
     lags: &'a [u16; 146],
     frequencies: &'a [u64; 146],
@@ -166,7 +167,7 @@ pub fn height<'a>(
 
 // The heights at start, start + step, start + 2 × step and so on, one for each lent place.
 pub fn series<'a>(
-    table: &'a [u32; 1025],
+    table: &'a [u32; ENTRIES],
     arguments: &'a [u64; 146],
     lags: &'a [u16; 146],
     frequencies: &'a [u64; 146],
