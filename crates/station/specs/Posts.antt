@@ -7,6 +7,7 @@ use lib.IntN.{ℤ}
 use Rattle.refusals.specs.Outcome.{accepted, outcomeOf}
 use Rattle.station.specs.declared.Record.{Record}
 use Rattle.station.specs.declared.Rows.{Rows}
+use Rattle.station.specs.declared.Station as code
 use Rattle.station.specs.declared.Taken.{Taken}
 use Rattle.station.specs.Station.{Station, recordsOutcome, stationOutcome}
 use Rattle.station.specs.Rows.{recordsFrom, stationOf, stationUpto}
@@ -15,9 +16,9 @@ use Rattle.station.specs.Rows.{recordsFrom, stationOf, stationUpto}
 abbrev pub recordsOf : Rows → ℕ → List Record
 recordsOf rows n = recordsFrom (rows .places) (rows .amplitudes) (rows .phases) 0 n
 
-pub record RecordsPost (frequencies : ℕ) (latitude : ℤ) (n : ℕ) (rows : Rows) (r : Taken) : Type 0 where
+pub record RecordsPost (frequencies : ℕ) (empty : code.Station) (n : ℕ) (rows : Rows) (r : Taken) : Type 0 where
   pub says : outcomeOf (r .answer) ≡ recordsOutcome frequencies [] 1 (recordsOf rows n)
-  pub keeps : outcomeOf (r .answer) ≡ accepted → r .station ≡ stationUpto latitude rows n
+  pub keeps : outcomeOf (r .answer) ≡ accepted → r .station ≡ stationUpto empty rows n
 
 pub record StationPost (frequencies : ℕ) (latitude : ℤ) (n : ℕ) (rows : Rows) (r : Taken) : Type 0 where
   pub says : outcomeOf (r .answer) ≡ stationOutcome frequencies latitude (recordsOf rows n)

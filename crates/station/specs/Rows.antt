@@ -62,8 +62,8 @@ abbrev pub putRecord : code.Station → ℕ → ℕ → ℕ → ℕ → code.Sta
 putRecord s k place amplitude phase =
     record { latitude = s .latitude; count = k + 1; places = set (s .places) k place; amplitudes = set (s .amplitudes) k amplitude; lags = set (s .lags) k phase }
 
--- the station with the first k records of the rows
-unfoldable pub stationUpto : ℤ → Rows → ℕ → code.Station
-stationUpto latitude rows zero = noStation latitude
-stationUpto latitude rows (suc k) =
-    putRecord (stationUpto latitude rows k) k (getD (rows .places) k 0) (getD (rows .amplitudes) k 0) (getD (rows .phases) k 0)
+-- a station with the first k records of the rows added
+unfoldable pub stationUpto : code.Station → Rows → ℕ → code.Station
+stationUpto empty rows zero = empty
+stationUpto empty rows (suc k) =
+    putRecord (stationUpto empty rows k) k (getD (rows .places) k 0) (getD (rows .amplitudes) k 0) (getD (rows .phases) k 0)

@@ -139,12 +139,12 @@ fn narrow(x: u32) -> u16
     (x % 65_536) as u16
 }
 
-// The first n records: each is checked in its turn, and kept.
-fn take_records(frequencies: usize, latitude: i32, n: usize, rows: Rows) -> Taken
+// The first n records: each is checked in its turn, and added to the station, which starts with none.
+fn take_records(frequencies: usize, empty: Station, n: usize, rows: Rows) -> Taken
     requires { ⌜ n ≤ 146 ⌝ }
-    ensures { λ r. ⌜ RecordsPost frequencies latitude n rows r ⌝ }
+    ensures { λ r. ⌜ RecordsPost frequencies empty n rows r ⌝ }
 {
-    let mut station = no_station(latitude);
+    let mut station = empty;
     let mut k = 0;
     while k < n {
         let answer = record_answer(frequencies, rows, k);
@@ -171,23 +171,24 @@ fn take_records(frequencies: usize, latitude: i32, n: usize, rows: Rows) -> Take
 pub fn take_station(frequencies: usize, latitude: i32, n: usize, rows: Rows) -> Taken
     ensures { λ r. ⌜ StationPost frequencies latitude n rows r ⌝ }
 {
+    let station = no_station(latitude);
     if latitude < -5_400 {
         return Taken {
             answer: Answer::Refused(Refusal::OutOfRange, 0),
-            station: no_station(latitude),
+            station,
         };
     }
     if 5_400 < latitude {
         return Taken {
             answer: Answer::Refused(Refusal::OutOfRange, 0),
-            station: no_station(latitude),
+            station,
         };
     }
     if 146 < n {
         return Taken {
             answer: Answer::Refused(Refusal::TooMany, 147),
-            station: no_station(latitude),
+            station,
         };
     }
-    take_records(frequencies, latitude, n, rows)
+    take_records(frequencies, station, n, rows)
 }
