@@ -37,8 +37,8 @@ stored-at l f (suc n) i room h =
 
 -- records whose fields agree are the same records
 agreeing : (ps ms fs ps′ ms′ fs′ : List ℕ) (k n : ℕ)
-  → ((i : ℕ) → i < k + n → getD ps i 0 ≡ getD ps′ i 0) → ((i : ℕ) → i < k + n → getD ms i 0 ≡ getD ms′ i 0) → ((i : ℕ) → i < k + n → getD fs i 0 ≡ getD fs′ i 0)
-  → recordsFrom ps ms fs k n ≡ recordsFrom ps′ ms′ fs′ k n
+    → ((i : ℕ) → i < k + n → getD ps i 0 ≡ getD ps′ i 0) → ((i : ℕ) → i < k + n → getD ms i 0 ≡ getD ms′ i 0) → ((i : ℕ) → i < k + n → getD fs i 0 ≡ getD fs′ i 0)
+    → recordsFrom ps ms fs k n ≡ recordsFrom ps′ ms′ fs′ k n
 unfolding recordsFrom
 agreeing ps ms fs ps′ ms′ fs′ k zero p a f = refl
 agreeing ps ms fs ps′ ms′ fs′ k (suc n) p a f =
@@ -79,15 +79,22 @@ module _ (empty : code.Station) (rows : Rows) where
 
 -- a station with the first n records of the rows has those records
 pub kept-is : (latitude : ℤ) (rows : Rows) (n : ℕ) → n ≤ 146
-  → stationOf (stationUpto (noStation latitude) rows n) ≡ record { latitude = latitude; records = recordsOf rows n }
+    → stationOf (stationUpto (noStation latitude) rows n) ≡ record { latitude = latitude; records = recordsOf rows n }
 unfolding stationOf
 kept-is latitude rows n h =
     let empty = noStation latitude in
     let at = stored-at (replicate 146 0) in
     let fewest : min n 146 ≡ n = omega arith in
-    rw (latitude-upto empty rows n, count-upto empty rows n refl, fewest, places-upto empty rows n, amplitudes-upto empty rows n, lags-upto empty rows n,
-    agreeing _ _ _ (rows .places) (rows .amplitudes) (rows .phases) 0 n
-    (λ i l. at (λ k. getD (rows .places) k 0) n i h (omega arith)) (λ i l. at (λ k. getD (rows .amplitudes) k 0) n i h (omega arith)) (λ i l. at (λ k. getD (rows .phases) k 0) n i h (omega arith)))
+    rw (
+      latitude-upto empty rows n,
+      count-upto empty rows n refl,
+      fewest,
+      places-upto empty rows n,
+      amplitudes-upto empty rows n,
+      lags-upto empty rows n,
+      agreeing _ _ _ (rows .places) (rows .amplitudes) (rows .phases) 0 n
+          (λ i l. at (λ k. getD (rows .places) k 0) n i h (omega arith)) (λ i l. at (λ k. getD (rows .amplitudes) k 0) n i h (omega arith)) (λ i l. at (λ k. getD (rows .phases) k 0) n i h (omega arith)),
+    )
 
 -- ---- the records that are lent
 
@@ -109,8 +116,8 @@ module _ (rs : List Record) where
 
 -- rows that hold a list's records, from k on
 rows-drop : (rs : List Record) (ps ms fs : List ℕ) (k n : ℕ) → k + n ≡ length rs
-  → ((i : ℕ) → i < k + n → getD ps i 0 ≡ getD rs i blank .place) → ((i : ℕ) → i < k + n → getD ms i 0 ≡ getD rs i blank .amplitude) → ((i : ℕ) → i < k + n → getD fs i 0 ≡ getD rs i blank .phase)
-  → recordsFrom ps ms fs k n ≡ drop k rs
+    → ((i : ℕ) → i < k + n → getD ps i 0 ≡ getD rs i blank .place) → ((i : ℕ) → i < k + n → getD ms i 0 ≡ getD rs i blank .amplitude) → ((i : ℕ) → i < k + n → getD fs i 0 ≡ getD rs i blank .phase)
+    → recordsFrom ps ms fs k n ≡ drop k rs
 unfolding recordsFrom
 rows-drop rs ps ms fs k zero e p a f = sym (drop-of-length-le rs {i = k} (omega arith))
 rows-drop rs ps ms fs k (suc n) e p a f =

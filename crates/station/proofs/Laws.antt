@@ -22,7 +22,7 @@ use Rattle.station.specs.Rows.{placesBefore, recordAt, recordFrom, recor
 
 -- a place among the first k is the last of them, or among those before it
 pub repeated-more : (place : ℕ) (places : List ℕ) (k : ℕ) → 0 < k
-  → repeated place (placesBefore places k) ≡ cond (eqb (getD places (k - 1) 0) place) true (repeated place (placesBefore places (k - 1)))
+    → repeated place (placesBefore places k) ≡ cond (eqb (getD places (k - 1) 0) place) true (repeated place (placesBefore places (k - 1)))
 unfolding repeated placesBefore
 repeated-more place places zero h = absurd (not-suc-le-zero h)
 repeated-more place places (suc k) h = rw (sub-one (suc k))
@@ -37,22 +37,22 @@ repeated-none place places (suc k) h = absurd (not-suc-le-zero h)
 
 -- the records from k on are record k and those from k + 1 on
 pub records-more : (frequencies : ℕ) (rows : Rows) (k n : ℕ) → k < n
-  → recordsOutcome frequencies (placesBefore (rows .places) k) (k + 1) (recordsFrom (rows .places) (rows .amplitudes) (rows .phases) k (n - k))
+    → recordsOutcome frequencies (placesBefore (rows .places) k) (k + 1) (recordsFrom (rows .places) (rows .amplitudes) (rows .phases) k (n - k))
     ≡ andThen (recordOutcome frequencies (placesBefore (rows .places) k) (k + 1) (recordAt rows k))
-      (recordsOutcome frequencies (placesBefore (rows .places) (k + 1)) (k + 1 + 1) (recordsFrom (rows .places) (rows .amplitudes) (rows .phases) (k + 1) (n - (k + 1))))
+    (recordsOutcome frequencies (placesBefore (rows .places) (k + 1)) (k + 1 + 1) (recordsFrom (rows .places) (rows .amplitudes) (rows .phases) (k + 1) (n - (k + 1))))
 unfolding recordsOutcome recordsFrom placesBefore
 records-more frequencies rows k n h =
     let e : n - k ≡ suc (n - (k + 1)) = omega arith in
     rw (e, add-one k)
 
 pub records-none : (frequencies : ℕ) (rows : Rows) (k n : ℕ) → n ≤ k
-  → recordsOutcome frequencies (placesBefore (rows .places) k) (k + 1) (recordsFrom (rows .places) (rows .amplitudes) (rows .phases) k (n - k)) ≡ accepted
+    → recordsOutcome frequencies (placesBefore (rows .places) k) (k + 1) (recordsFrom (rows .places) (rows .amplitudes) (rows .phases) k (n - k)) ≡ accepted
 unfolding recordsOutcome recordsFrom
 records-none frequencies rows k n h = let e : n - k ≡ 0 = omega arith in rw e
 
 -- an accepted record's amplitude and phase lag are in range
 pub record-fits : (frequencies : ℕ) (earlier : List ℕ) (k : ℕ) (r : Record) → recordOutcome frequencies earlier k r ≡ accepted
-  → (r .amplitude ≤ 65_535) × (r .phase ≤ 35_999)
+    → (r .amplitude ≤ 65_535) × (r .phase ≤ 35_999)
 unfolding recordOutcome
 record-fits frequencies earlier k r =
     tests (leb frequencies (r .place)) (repeated (r .place) earlier) (ltb 65_535 (r .amplitude)) (ltb 35_999 (r .phase)) (ltb-false 65_535 (r .amplitude)) (ltb-false 35_999 (r .phase))
@@ -61,7 +61,7 @@ record-fits frequencies earlier k r =
     never number place e = let z : _≡_ {A = ℕ} 0 1 = cc in absurd (omega arith)
 
     tests : (a b c d : Bool) {P Q : Type 0} → (c ≡ false → P) → (d ≡ false → Q)
-      → refuseIf a 5 k (refuseIf b 4 k (refuseIf c 3 k (refuseIf d 3 k accepted))) ≡ accepted → P × Q
+        → refuseIf a 5 k (refuseIf b 4 k (refuseIf c 3 k (refuseIf d 3 k accepted))) ≡ accepted → P × Q
     tests true b c d p q e = never 5 k e
     tests false true c d p q e = never 4 k e
     tests false false true d p q e = never 3 k e
@@ -70,7 +70,7 @@ record-fits frequencies earlier k r =
 
 -- the station with one record more
 pub upto-more : (empty : code.Station) (rows : Rows) (k : ℕ)
-  → stationUpto empty rows (k + 1) ≡ putRecord (stationUpto empty rows k) k (getD (rows .places) k 0) (getD (rows .amplitudes) k 0) (getD (rows .phases) k 0)
+    → stationUpto empty rows (k + 1) ≡ putRecord (stationUpto empty rows k) k (getD (rows .places) k 0) (getD (rows .amplitudes) k 0) (getD (rows .phases) k 0)
 unfolding stationUpto
 upto-more empty rows k = ap (λ (m : ℕ). stationUpto empty rows m) (add-one k)
 

@@ -31,6 +31,10 @@ stationOf s = record { latitude = s .latitude; records = recordsFrom (s .places)
 abbrev pub blank : Record
 blank = record { place = 0; amplitude = 0; phase = 0 }
 
+-- record k of those lent
+abbrev pub lentAt : List Record → ℕ → Record
+lentAt rs k = getD rs k blank
+
 abbrev pub noRows : Rows
 noRows = record { places = replicate 146 0; amplitudes = replicate 146 0; phases = replicate 146 0 }
 
@@ -38,11 +42,13 @@ abbrev pub putRow : Rows → ℕ → ℕ → ℕ → ℕ → Rows
 putRow rows k place amplitude phase =
     record { places = set (rows .places) k place; amplitudes = set (rows .amplitudes) k amplitude; phases = set (rows .phases) k phase }
 
+abbrev pub putLent : Rows → ℕ → Record → Rows
+putLent rows k r = putRow rows k (r .place) (r .amplitude) (r .phase)
+
 -- the first k of the records lent, each in its row
 unfoldable pub rowsUpto : List Record → ℕ → Rows
 rowsUpto rs zero = noRows
-rowsUpto rs (suc k) =
-    putRow (rowsUpto rs k) k (getD rs k blank .place) (getD rs k blank .amplitude) (getD rs k blank .phase)
+rowsUpto rs (suc k) = putLent (rowsUpto rs k) k (lentAt rs k)
 
 abbrev pub recordAt : Rows → ℕ → Record
 recordAt rows k = recordFrom (rows .places) (rows .amplitudes) (rows .phases) k

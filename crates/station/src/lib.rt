@@ -7,7 +7,6 @@ ghost use Rattle.refusals.specs.Outcome.{outcomeOf};
 ghost use Rattle.station.specs.Station.{repeated, recordOutcome};
 ghost use Rattle.station.specs.Rows.{noRows, putRow, rowsUpto, placesBefore, recordAt, noStation, putRecord};
 ghost use Rattle.station.specs.Posts.{RecordsPost, StationPost};
-
 use refusals::Answer;
 use refusals::Refusal;
 
@@ -117,6 +116,21 @@ pub fn at_most(n: usize) -> usize
     ensures { λ r. ⌜ r ≡ min n 146 ⌝ }
 {
     if n < 146 { n } else { 146 }
+}
+
+// The records taken apart, the first 146 of them: the thin function over the lent slice of structs. Its proof is a walk by hand.
+pub fn rows_of(rs: &[Record]) -> Rows
+    ensures { λ r. ⌜ r ≡ rowsUpto (now (rs .entry)) (min (length (now (rs .entry))) 146) ⌝ }
+{
+    let m = at_most(rs.len());
+    let mut rows = none();
+    let mut i: usize = 0;
+    while i < m {
+        let r = rs[i];
+        rows = put(rows, i, r.place, r.amplitude, r.phase);
+        i += 1;
+    }
+    rows
 }
 
 // The station with record k kept.
