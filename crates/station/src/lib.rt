@@ -89,7 +89,7 @@ fn record_answer(frequencies: usize, rows: Rows, k: usize) -> Answer
 }
 
 // Rows with one more record.
-pub fn put(rows: Rows, k: usize, place: u8, amplitude: u32, phase: u32) -> Rows
+fn put(rows: Rows, k: usize, place: u8, amplitude: u32, phase: u32) -> Rows
     requires { ⌜ k < 146 ⌝ }
     ensures { λ r. ⌜ r ≡ putRow rows k place amplitude phase ⌝ }
 {
@@ -101,7 +101,7 @@ pub fn put(rows: Rows, k: usize, place: u8, amplitude: u32, phase: u32) -> Rows
 }
 
 // No rows yet.
-pub fn none() -> Rows
+fn none() -> Rows
     ensures { λ r. ⌜ r ≡ noRows ⌝ }
 {
     Rows {
@@ -112,7 +112,7 @@ pub fn none() -> Rows
 }
 
 // Past 146 nothing is taken: a longer row is refused by its count.
-pub fn at_most(n: usize) -> usize
+fn at_most(n: usize) -> usize
     ensures { λ r. ⌜ r ≡ min n 146 ⌝ }
 {
     if n < 146 { n } else { 146 }
