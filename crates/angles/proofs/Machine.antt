@@ -7,7 +7,7 @@ use native.Mathlib.Nat.{lt-of-le-of-lt, not-suc-le-zero, zero-add}
 use native.Mathlib.Omega.{arith}
 use borrow.Author.Tests.{ltb-true, le-ltb}
 use lib.Dec.{T}
-use lib.IntN.{ℤ, pos, negsuc, natAbs, _-ℤ_}
+use lib.IntN.{ℤ, pos, negsuc, negℤ, natAbs, _-ℤ_, +ℤ-idl}
 use lib.Signed.{mag, ltZ, nonNeg}
 use mir.Syntax.{w64}
 use mir.Val.{Fits, SFits, toZ, ofZ}
@@ -74,3 +74,7 @@ signed-is m h = toZ-pos w64 m h
 -- -1 - m of a natural m
 pub below-zero-is : (m : ℕ) → m < 2 ^ 63 → negsuc 0 -ℤ toZ w64 m ≡ negsuc m
 below-zero-is m h = ap (λ (z : ℤ). negsuc 0 -ℤ z) (signed-is m h) ∙ minus-one-less-pos m
+
+-- -m of a natural m
+pub negative-is : (m : ℕ) → m < 2 ^ 63 → pos 0 -ℤ toZ w64 m ≡ negℤ (pos m)
+negative-is m h = ap (λ (z : ℤ). pos 0 -ℤ z) (signed-is m h) ∙ +ℤ-idl (negℤ (pos m))

@@ -1,0 +1,79 @@
+-- `cosine::wave` meets its contract: the two lines are the fixed cosine on both sides of the quadrant (`Quadrants`).
+-- Assumes nothing.
+use mathlib.Core.Path.{_≡_, sym, _∙_, subst}
+use Prim.Native.Nat.{ℕ, _≤_}
+use native.Mathlib.Omega.{arith}
+use lib.IntN.{ℤ, natAbs}
+use mir.Syntax.{w64}
+use mir.Val.{toZ, ofZ}
+use mir.ValLaws.{toZ-ofZ}
+use Rattle.angles.proofs.Machine.{fits-below}
+use Rattle.cosine.specs.Fixed.{one, fixedCosine}
+use Rattle.cosine.proofs.Computed.{passed}
+use Rattle.cosine.proofs.Quadrants.{cosine-is, sine-is}
+use borrow.Author.Needs.{needs}
+use Rattle.cosine.proofs.wave.Statement.{statement}
+use Rattle.cosine.proofs.wave.Tie as tie
+use Rattle.cosine.proofs.wave.Reads as reads
+use Rattle.cosine.proofs.wave.Lts as lts
+use Rattle.cosine.proofs.in_quadrant.Reads as in-quadrant-reads
+use Rattle.cosine.proofs.on_line.Reads as on-line-reads
+
+read-back : (z : ℤ) → natAbs z ≤ one → toZ w64 (ofZ w64 z) ≡ z
+read-back z h = toZ-ofZ w64 z (fits-below z (omega arith))
+
+small : (z : ℤ) → natAbs z ≤ one → natAbs (toZ w64 (ofZ w64 z)) ≤ one
+small z h = subst (λ (y : ℤ). natAbs y ≤ one) (sym (read-back z h)) h
+
+on-line-requires : tie.Need-on-line-requires
+on-line-requires c κs = search needs
+
+sub-on-line : tie.Need-sub-on-line
+sub-on-line c = search needs
+
+sub-on-line-2 : tie.Need-sub-on-line-2
+sub-on-line-2 c = search needs
+
+sub-on-line-3 : tie.Need-sub-on-line-3
+sub-on-line-3 c = search needs
+
+on-line-requires-2 : tie.Need-on-line-requires-2
+on-line-requires-2 c κs = search needs
+
+in-quadrant-requires : tie.Need-in-quadrant-requires
+in-quadrant-requires c κs = search needs
+
+add-in-quadrant : tie.Need-add-in-quadrant
+add-in-quadrant c = search needs
+
+in-quadrant-requires-2 : tie.Need-in-quadrant-requires-2
+in-quadrant-requires-2 c κs = search needs
+
+returns : tie.Need-returns
+unfolding fixedCosine
+returns c =
+    let t = c .before .before .before .before .args .ticks in
+    let near = c .before .before .before .on-line .ensures .0 in
+    let far = c .before .before .on-line2 .ensures .0 in
+    let x = c .before .in-quadrant in
+    let y = c .in-quadrant2 in (
+      read-back (x .result) (x .ensures .1) ∙ x .ensures .0 ∙ cosine-is passed t near far,
+      (
+        read-back (y .result) (y .ensures .1) ∙ y .ensures .0 ∙ sine-is passed t near far,
+        (small (x .result) (x .ensures .1), small (y .result) (y .ensures .1)),
+      ),
+    )
+
+pub wave-spec : {M : Type 1} → statement M
+wave-spec =
+    tie.close
+    (tie.spec
+    on-line-requires
+    sub-on-line
+    sub-on-line-2
+    sub-on-line-3
+    on-line-requires-2
+    in-quadrant-requires
+    add-in-quadrant
+    in-quadrant-requires-2
+    returns)
