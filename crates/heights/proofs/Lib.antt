@@ -1,0 +1,3 @@
+pub mod Turning
+pub mod Apart
+pub mod Distance
