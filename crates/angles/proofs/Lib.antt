@@ -1,2 +1,5 @@
 pub mod Ints
+pub mod Floors
+pub mod Angles
 pub mod Machine
+pub mod Known

@@ -1,0 +1,4 @@
+pub mod Slope
+pub mod Stride
+pub mod Search
+pub mod Written
