@@ -1,0 +1,6 @@
+pub mod Tables
+pub mod CardsCase
+pub mod Months
+pub mod Dates
+pub mod Stations
+pub mod Heights

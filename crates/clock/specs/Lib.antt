@@ -1,0 +1,7 @@
+pub mod State
+pub mod Returned
+pub mod Strides
+pub mod Calls
+pub mod View
+pub mod Posts
+pub mod Parts
