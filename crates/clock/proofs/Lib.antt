@@ -4,3 +4,4 @@ pub mod Months
 pub mod Dates
 pub mod Stations
 pub mod Heights
+pub mod SeriesCase

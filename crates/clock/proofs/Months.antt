@@ -30,7 +30,7 @@ use Rattle.clock.proofs.Tables.{frequencies-within}
 
 -- a constituent's frequency is that of its place
 frequency-at : (vs ls fs : List ℕ) (ps qs : List ℤ) (k n i : ℕ) (none : Constituent) → i < n
-  → getD (constituentsAfter vs ls fs ps qs k n) i none .frequency ≡ getD fs (k + i) 0
+    → getD (constituentsAfter vs ls fs ps qs k n) i none .frequency ≡ getD fs (k + i) 0
 unfolding constituentsAfter
 frequency-at vs ls fs ps qs k zero i none h = absurd (omega arith)
 frequency-at vs ls fs ps qs k (suc n) zero none h = ap (λ (j : ℕ). getD fs j 0) (sym (add-zero k))

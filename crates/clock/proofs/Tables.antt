@@ -30,7 +30,7 @@ none-in-range t e k h =
 
 -- where the document's frequencies are in range, so are the struct's numbers
 pub in-range : (t : Table) → ((none : Frequency) → none .frequency ≡ 0 → (k : ℕ) → getD (tableOf t .frequencies) k none .frequency ≤ 4_999_999_999)
-  → InRange (t .frequencies) (t .speeds)
+    → InRange (t .frequencies) (t .speeds)
 unfolding tableOf frequencyOf
 in-range t within k h =
     let none : Frequency = record { name = []; frequency = 0 } in
@@ -39,7 +39,7 @@ in-range t within k h =
 
 -- and the other way: where the struct's numbers are in range, so are the document's frequencies
 pub frequencies-within : (t : Table) → InRange (t .frequencies) (t .speeds)
-  → (none : Frequency) → none .frequency ≡ 0 → (k : ℕ) → getD (tableOf t .frequencies) k none .frequency ≤ 4_999_999_999
+    → (none : Frequency) → none .frequency ≡ 0 → (k : ℕ) → getD (tableOf t .frequencies) k none .frequency ≤ 4_999_999_999
 unfolding tableOf frequencyOf
 frequencies-within t within none z k = by (ltb k (t .frequencies)) refl
   where

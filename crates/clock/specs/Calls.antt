@@ -17,7 +17,7 @@ use Rattle.heights.specs.Height.{heightAt, seriesOf}
 use Rattle.turns.specs.Slope.{slopeAt}
 use Rattle.turns.specs.Search.{turnsOf}
 use Rattle.turns.specs.Written as written
-use Rattle.clock.specs.Strides.{stationStride}
+use Rattle.strides.specs.Strides.{stationStride}
 use Rattle.clock.specs.State.{Maybe, none, some, Month, State}
 use Rattle.clock.specs.Returned.{Returned, accepted, heightIs, turnsAre, refused, told, onAccepted}
 
@@ -114,14 +114,15 @@ lastMinute start step places = start + (places - 1) * step
 abbrev pub stepOutside : ℕ → Bool
 stepOutside step = ltb step 1 || ltb 1_440 step
 
+-- "Heights, series, turns and every refused call leave [..]": refused, the places are as they were
+abbrev pub seriesRefused : List ℤ → ℕ → SeriesGiven
+seriesRefused heights number = record { returned = refused number 0; heights = heights }
+
 unfoldable pub seriesGives : State → ℕ → ℕ → List ℤ → SeriesGiven
 seriesGives k start step heights =
-    ready k unchanged λ table station month.
-    cond (ltb (month .last) start || stepOutside step || ltb (month .last) (lastMinute start step (length heights))) (unchanged 9)
+    ready k (seriesRefused heights) λ table station month.
+    cond (ltb (month .last) start || stepOutside step || ltb (month .last) (lastMinute start step (length heights))) (seriesRefused heights 9)
     (record { returned = accepted; heights = seriesOf (month .constituents) start step (length heights) })
-  where
-    unchanged : ℕ → SeriesGiven
-    unchanged number = record { returned = refused number 0; heights = heights }
 
 -- ---- turns: 9, "minutes outside the month or reversed", then 10
 
@@ -139,12 +140,13 @@ searchReturns (written.refused number) = refused number 0
 abbrev pub searched : written.Given → TurnsGiven
 searched g = record { returned = searchReturns (g .returned); minutes = g .minutes; heights = g .heights }
 
+-- refused, both buffers are as they were
+abbrev pub turnsRefused : List ℕ → List ℤ → ℕ → TurnsGiven
+turnsRefused minutes heights number = record { returned = refused number 0; minutes = minutes; heights = heights }
+
 unfoldable pub turnsGives : State → ℕ → ℕ → List ℕ → List ℤ → TurnsGiven
 turnsGives k first last minutes heights =
-    ready k unchanged λ table station month.
-    cond (ltb (month .last) last || ltb last first) (unchanged 9)
+    ready k (turnsRefused minutes heights) λ table station month.
+    cond (ltb (month .last) last || ltb last first) (turnsRefused minutes heights 9)
     (searched (written.given (heightAt (month .constituents))
-      (turnsOf (slopeAt (month .constituents)) (stationStride table station) first last) minutes heights))
-  where
-    unchanged : ℕ → TurnsGiven
-    unchanged number = record { returned = refused number 0; minutes = minutes; heights = heights }
+    (turnsOf (slopeAt (month .constituents)) (stationStride table station) first last) minutes heights))

@@ -1,6 +1,5 @@
 pub mod State
 pub mod Returned
-pub mod Strides
 pub mod Calls
 pub mod View
 pub mod Posts

@@ -44,7 +44,7 @@ pub record PreparedPost (c : Clock) (year month : ℕ) (answer : Answer) (left :
   pub leaves : view left ≡ onAccepted (answerReturned answer) (record {
     table = view c .table;
     station = view c .station;
-    month = monthLeft (monthMinutes year month) (monthOf (tableOf (c .table)) (stationOf (c .station)) year month)
+    month = monthLeft (monthMinutes year month) (monthOf (tableOf (c .table)) (stationOf (c .station)) year month);
   }) (view c)
 
 pub record HeightPost (c : Clock) (minute : ℕ) (answer : HeightAnswer) : Type 0 where

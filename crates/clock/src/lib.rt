@@ -3,18 +3,20 @@
 // A call takes the clock and, where it can change it, gives it back. A refused call leaves the clock and the lent buffers as they were.
 // No call asks anything of its caller but a clock that `new` or another call made.
 ghost use mathlib.Core.Path.{_≡_};
+ghost use Prim.Native.Nat.{_≤_, _<_};
+ghost use lib.Dec.{ltb};
+ghost use Rattle.clock.specs.Calls.{lastMinute};
 ghost use Rattle.clock.specs.View.{Made};
 ghost use Rattle.clock.specs.Posts.{NewPost, CardsPost, StationPost, DatePost, HeightPost, SeriesPost, TurnsPost, PreparedPost};
 ghost use Rattle.station.specs.Posts.{recordsOf};
 ghost use Rattle.clock.specs.Parts.{withTable, withStation, withMonth};
-
+use month::Preparation;
+use prepared::Month;
 use refusals::Answer;
 use refusals::Refusal;
-use table::Table;
-use station::Station;
 use station::Rows;
-use prepared::Month;
-use month::Preparation;
+use station::Station;
+use table::Table;
 
 // What the clock keeps. Only the calls below make or change one.
 pub struct Clock {
@@ -127,7 +129,10 @@ pub fn load_cards(clock: Clock, file: &[u8]) -> After
         Answer::Accepted => {
             let table = read.table;
             let next = with_table(clock, table);
-            After { answer, clock: next }
+            After {
+                answer,
+                clock: next,
+            }
         }
         Answer::Refused(_, _) => After { answer, clock },
     }
@@ -151,7 +156,10 @@ fn place_station(clock: Clock, latitude: i32, n: usize, rows: Rows) -> After
         Answer::Accepted => {
             let station = taken.station;
             let next = with_station(clock, station);
-            After { answer, clock: next }
+            After {
+                answer,
+                clock: next,
+            }
         }
         Answer::Refused(_, _) => After { answer, clock },
     }
@@ -236,4 +244,56 @@ pub fn height(clock: Clock, minute: u32) -> HeightAnswer
         clock.count,
         minute as u64,
     ))
+}
+
+// Whether the last of so many heights, from a start in the month on, is past the month's last minute.
+fn past_last(last: u64, start: u64, step: u64, places: usize) -> bool
+    requires { ⌜ (start ≤ last) × (0 < step) ⌝ }
+    ensures { λ r. ⌜ r ≡ ltb last (lastMinute start step places) ⌝ }
+{
+    if places == 0 {
+        return false;
+    }
+    (last - start) / step < places as u64 - 1
+}
+
+// One height for each lent place, at start, start + step, start + 2 × step and so on; or a refusal.
+pub fn series(clock: Clock, start: u32, step: u32, heights: &mut [i64]) -> Answer
+    requires { ⌜ Made clock ⌝ }
+    ensures { λ r. ⌜ SeriesPost clock start step (now (heights .entry)) (now (heights .exit)) r ⌝ }
+{
+    if !clock.tabled {
+        return Answer::Refused(Refusal::NoTable, 0);
+    }
+    if !clock.stationed {
+        return Answer::Refused(Refusal::NoStation, 0);
+    }
+    if !clock.dated {
+        return Answer::Refused(Refusal::NoMonth, 0);
+    }
+    if clock.last < start as u64 {
+        return Answer::Refused(Refusal::BadMinutes, 0);
+    }
+    if step < 1 {
+        return Answer::Refused(Refusal::BadMinutes, 0);
+    }
+    if 1_440 < step {
+        return Answer::Refused(Refusal::BadMinutes, 0);
+    }
+    if past_last(clock.last, start as u64, step as u64, heights.len()) {
+        return Answer::Refused(Refusal::BadMinutes, 0);
+    }
+    heights::series(
+        &clock.cosines,
+        &clock.arguments,
+        &clock.lags,
+        &clock.frequencies,
+        &clock.ps,
+        &clock.qs,
+        clock.count,
+        start as u64,
+        step as u64,
+        heights,
+    );
+    Answer::Accepted
 }

@@ -1,11 +1,11 @@
 -- How many bytes of a kind a row begins with: at most all of them, and all where every byte is of the kind.
 -- By induction on the row. Assumes nothing.
-use mathlib.Core.Path.{_≡_, refl, ap, _∙_}
-use Prim.Native.Nat.{ℕ, zero, suc, _≤_}
+use mathlib.Core.Path.{_≡_, refl, ap}
+use Prim.Native.Nat.{ℕ, suc, _≤_}
 use mathlib.Core.List.{List, [], _∷_}
 use mathlib.Core.Bool.{Bool, true, false, cond, _&&_}
 use lib.ListN.{length, take}
-use lib.Dec.{leb, leb·zero, leb·suc-zero, leb·suc-suc}
+use lib.Dec.{leb, leb·suc-zero, leb·suc-suc}
 use native.Mathlib.Omega.{arith}
 use Rattle.columns.specs.Bytes.{every, leading}
 

@@ -1,7 +1,7 @@
 -- Kinds of bytes, and how far a row of bytes keeps to a kind.
 use Prim.Native.Nat.{ℕ}
 use mathlib.Core.List.{List, [], _∷_}
-use mathlib.Core.Bool.{Bool, true, false, cond, _&&_}
+use mathlib.Core.Bool.{Bool, true, cond, _&&_}
 use lib.Dec.{leb}
 use lib.ListN.{length, drop}
 

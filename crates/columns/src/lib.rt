@@ -124,7 +124,7 @@ pub fn name_blank(part: &[u8]) -> bool
 }
 
 // The name at a place of a row of names of five bytes each, as a part of the row.
-pub fn name_at(names: &[u8], place: usize) -> &[u8]
+fn name_at(names: &[u8], place: usize) -> &[u8]
     ensures { λ r. ⌜ now r ≡ take 5 (drop (5 * place) (now (names .entry))) ⌝ }
 {
     if names.len() / 5 < place {

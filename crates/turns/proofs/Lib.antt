@@ -1,2 +1,5 @@
+pub mod Falls
 pub mod Cuts
 pub mod Strides
+pub mod Onward
+pub mod Front

@@ -36,7 +36,7 @@ returns-5 : tie.Need-returns-5
 returns-5 c =
     let s = c .before .before .before .before .before .before .before .before .before .before .before .before in
     let fits : SFits w64 (c .height .result) = search needs in
-    rw (toZ-ofZ w64 (c .height .result) fits, c .height .ensures) (height-given (s .args .t1) (s .args .minute) (not-false (s .args .t1 .tabled) (c .before .before .before .before .before .before .before .before .before .before .before .if1 .left)) (not-false (s .args .t1 .stationed) (c .before .before .before .before .before .before .before .before .before .before .if2 .left)) (not-false (s .args .t1 .dated) (c .before .before .before .before .before .before .before .before .before .if3 .left)) (c .before .before .before .before .before .before .before .before .if4 .left))
+    rw (toZ-ofZ w64 (c .height .result) fits, c .height .ensures .0) (height-given (s .args .t1) (s .args .minute) (not-false (s .args .t1 .tabled) (c .before .before .before .before .before .before .before .before .before .before .before .if1 .left)) (not-false (s .args .t1 .stationed) (c .before .before .before .before .before .before .before .before .before .before .if2 .left)) (not-false (s .args .t1 .dated) (c .before .before .before .before .before .before .before .before .before .if3 .left)) (c .before .before .before .before .before .before .before .before .if4 .left))
 
 pub height-spec : {M : Type 1} → statement M
 height-spec = tie.close (tie.spec returns returns-2 returns-3 returns-4 height-requires returns-5)

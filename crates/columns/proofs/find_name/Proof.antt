@@ -1,12 +1,9 @@
-use native.Mathlib.Omega.{arith}
+-- `columns::find_name` meets its contract. The loop's invariant: looking from place k on finds what looking from 0 on finds. Rests on the clauses of `placeFrom`. Assumes nothing.
 use borrow.Author.Needs.{needs}
 use Rattle.columns.proofs.find_name.Statement.{statement}
 use Rattle.columns.proofs.find_name.Tie as tie
-use Rattle.columns.proofs.find_name.Reads as reads
-use Rattle.columns.proofs.find_name.Lts as lts
-use Rattle.columns.proofs.is_name.Reads as is-name-reads
-use mathlib.Core.Path.{_≡_, refl, sym, ap, _∙_}
-use Prim.Native.Nat.{ℕ, _+_, _*_, _-_, _≤_}
+use mathlib.Core.Path.{_≡_}
+use Prim.Native.Nat.{_-_}
 use native.Mathlib.Nat.{sub-zero}
 use Rattle.columns.specs.Columns.{columns}
 use Rattle.columns.specs.Names.{namesFrom, placeFrom, placeOf}
@@ -18,37 +15,30 @@ Inv-loop part names count k₀ k = placeFrom (columns part 0 5) (namesFrom names
 abbrev μ-loop : tie.MeasureT-loop
 μ-loop part names count k₀ k = count - k
 
--- src/lib.rt:170:5
 loop-holds : tie.Need-loop-holds Inv-loop μ-loop
 loop-holds c = simp sub-zero
 
--- src/lib.rt:171:12
 is-name-requires : tie.Need-is-name-requires Inv-loop μ-loop
 is-name-requires c κs = search needs
 
--- src/lib.rt:172:13
 returns : tie.Need-returns Inv-loop μ-loop
 returns c =
     let s = c .before .before .before in
     let a = s .before .before .before .args in
     rw (place-more (columns (a .part .now) 0 5) (a .names .now) (s .loop .k) (a .count) (c .before .before .loop-test .taken), ← c .before .is-name .ensures, c .if1 .taken) at (s .loop .inv)
 
--- src/lib.rt:174:13
 add-k : tie.Need-add-k Inv-loop μ-loop
 add-k c = search needs
 
--- src/lib.rt:170:5
 loop-less : tie.Need-loop-less Inv-loop μ-loop
 loop-less c = search needs
 
--- src/lib.rt:170:5
 loop-again : tie.Need-loop-again Inv-loop μ-loop
 loop-again c =
     let s = c .before .before .before in
     let a = s .before .before .before .args in
     rw (place-more (columns (a .part .now) 0 5) (a .names .now) (s .loop .k) (a .count) (c .before .before .loop-test .taken), ← c .before .is-name .ensures, c .if1 .left) at (s .loop .inv)
 
--- src/lib.rt:166:1
 returns-2 : tie.Need-returns-2 Inv-loop μ-loop
 returns-2 c =
     let s = c .before in

@@ -1,12 +1,10 @@
+-- `columns::line_length` meets its contract. The loop's invariant: what is passed and the run of the rest are the run of the file. Rests on `run-more`. Assumes nothing.
 use native.Mathlib.Omega.{arith}
 use borrow.Author.Needs.{needs}
 use Rattle.columns.proofs.line_length.Statement.{statement}
 use Rattle.columns.proofs.line_length.Tie as tie
-use Rattle.columns.proofs.line_length.Reads as reads
-use Rattle.columns.proofs.line_length.Lts as lts
-use Rattle.columns.proofs.column.Reads as column-reads
-use mathlib.Core.Path.{_≡_, refl, sym, ap, _∙_}
-use Prim.Native.Nat.{ℕ, suc, _+_, _-_, _≤_}
+use mathlib.Core.Path.{_≡_}
+use Prim.Native.Nat.{suc, _+_, _-_}
 use native.Mathlib.Nat.{sub-zero}
 use lib.ListN.{length}
 use borrow.Author.Tests.{eq-eqb, ne-eqb}
@@ -21,18 +19,15 @@ Inv-loop file i₀ i = i + length (leading inLine (columns file i (length file -
 abbrev μ-loop : tie.MeasureT-loop
 μ-loop file i₀ i = length file - i
 
--- src/lib.rt:26:5
 loop-holds : tie.Need-loop-holds Inv-loop μ-loop
 loop-holds c =
     let s = c .before .args .file .now in
     let e : length (leading inLine (columns s 0 (length s - 0))) ≡ length (firstLine s) = rw (sub-zero (length s), padded-all 32 s) in
     omega arith
 
--- src/lib.rt:27:12
 column-requires : tie.Need-column-requires Inv-loop μ-loop
 column-requires c κs = search needs
 
--- src/lib.rt:28:13
 returns : tie.Need-returns Inv-loop μ-loop
 returns c =
     let s = c .before .before .before .before .before .args .file .now in
@@ -40,15 +35,12 @@ returns c =
     let e : length (leading inLine (columns s i (length s - i))) ≡ 0 = rw (run-more inLine s i (length s) (c .before .before .loop-test .taken), ← c .before .column .ensures, eq-eqb _ _ (c .if1 .taken)) in
     omega arith
 
--- src/lib.rt:30:13
 add-i : tie.Need-add-i Inv-loop μ-loop
 add-i c = search needs
 
--- src/lib.rt:26:5
 loop-less : tie.Need-loop-less Inv-loop μ-loop
 loop-less c = search needs
 
--- src/lib.rt:26:5
 loop-again : tie.Need-loop-again Inv-loop μ-loop
 loop-again c =
     let s = c .before .before .before .before .before .args .file .now in
@@ -56,7 +48,6 @@ loop-again c =
     let e : length (leading inLine (columns s i (length s - i))) ≡ suc (length (leading inLine (columns s (i + 1) (length s - (i + 1))))) = rw (run-more inLine s i (length s) (c .before .before .loop-test .taken), ← c .before .column .ensures, ne-eqb _ _ (c .if1 .left)) in
     omega arith
 
--- src/lib.rt:22:1
 returns-2 : tie.Need-returns-2 Inv-loop μ-loop
 returns-2 c = omega (arith, run-none inLine (c .before .before .before .args .file .now) (c .before .loop .i) (length (c .before .before .before .args .file .now)) (c .loop-test .left))
 

@@ -1,13 +1,10 @@
+-- `columns::same_name` meets its contract. The loop's invariant: comparing from byte j on answers as from 0 on. Rests on the clauses of `same`. Assumes nothing.
 use native.Mathlib.Omega.{arith}
 use borrow.Author.Needs.{needs}
 use Rattle.columns.proofs.same_name.Statement.{statement}
 use Rattle.columns.proofs.same_name.Tie as tie
-use Rattle.columns.proofs.same_name.Reads as reads
-use Rattle.columns.proofs.same_name.Lts as lts
-use Rattle.columns.proofs.byte.Reads as byte-reads
-use Rattle.columns.proofs.column.Reads as column-reads
-use mathlib.Core.Path.{_≡_, refl, sym, ap, _∙_}
-use Prim.Native.Nat.{ℕ, _+_, _*_, _-_, _≤_}
+use mathlib.Core.Path.{_≡_, refl}
+use Prim.Native.Nat.{_-_}
 use borrow.Author.Tests.{eq-eqb, ne-eqb}
 use Rattle.columns.specs.Columns.{padded, columns}
 use Rattle.columns.specs.Names.{same}
@@ -19,41 +16,33 @@ Inv-loop part row j₀ j = same (columns part j (5 - j)) (padded 0 row j (5 - j)
 abbrev μ-loop : tie.MeasureT-loop
 μ-loop part row j₀ j = 5 - j
 
--- src/lib.rt:148:5
 loop-holds : tie.Need-loop-holds Inv-loop μ-loop
 loop-holds c = refl
 
--- src/lib.rt:149:12
 column-requires : tie.Need-column-requires Inv-loop μ-loop
 column-requires c κs = search needs
 
--- src/lib.rt:149:31
 byte-requires : tie.Need-byte-requires Inv-loop μ-loop
 byte-requires c κs = search needs
 
--- src/lib.rt:150:17
 add-j : tie.Need-add-j Inv-loop μ-loop
 add-j c = search needs
 
--- src/lib.rt:148:5
 loop-less : tie.Need-loop-less Inv-loop μ-loop
 loop-less c = search needs
 
--- src/lib.rt:148:5
 loop-again : tie.Need-loop-again Inv-loop μ-loop
 loop-again c =
     let s = c .before .before .before .before in
     let a = s .before .before .before .args in
-    rw (same-more 32 0 (a .part .now) (a .row .now) (s .loop .j) 5 (c .before .before .before .loop-test .taken), ← c .before .before .column .ensures, ← c .before .byte .ensures, eq-eqb _ _ (c .if1 .taken)) at (s .loop .inv)
+    rw (same-more 32 0 (a .part .now) (a .row .now) (s .loop .j) 5 (omega arith), ← c .before .before .column .ensures, ← c .before .byte .ensures, eq-eqb _ _ (c .if1 .taken)) at (s .loop .inv)
 
--- src/lib.rt:152:13
 returns : tie.Need-returns Inv-loop μ-loop
 returns c =
     let s = c .before .before .before .before in
     let a = s .before .before .before .args in
-    rw (same-more 32 0 (a .part .now) (a .row .now) (s .loop .j) 5 (c .before .before .before .loop-test .taken), ← c .before .before .column .ensures, ← c .before .byte .ensures, ne-eqb _ _ (c .if1 .left)) at (s .loop .inv)
+    rw (same-more 32 0 (a .part .now) (a .row .now) (s .loop .j) 5 (omega arith), ← c .before .before .column .ensures, ← c .before .byte .ensures, ne-eqb _ _ (c .if1 .left)) at (s .loop .inv)
 
--- src/lib.rt:144:1
 returns-2 : tie.Need-returns-2 Inv-loop μ-loop
 returns-2 c =
     let s = c .before in

@@ -1,17 +1,20 @@
 -- `heights::angle_at` meets its contract: `angle-is`. Assumes nothing.
-use Prim.Native.Nat.{_+_, _-_, _*_, _%_, _≤_, _<_}
-use mathlib.Core.Path.{sym}
+use Prim.Native.Nat.{ℕ, _*_, _%_, _≤_}
+use mathlib.Core.Path.{sym, ap, _∙_}
 use native.Mathlib.Omega.{arith}
 use native.Mathlib.Nat.{mul-le-mul}
-use Rattle.heights.proofs.Turning.{lap, angle-is}
 use borrow.Author.Needs.{needs}
+use Rattle.heights.specs.Height.{angle}
+use Rattle.heights.proofs.Turning.{lap, angle-is}
 use Rattle.heights.proofs.angle_at.Statement.{statement}
 use Rattle.heights.proofs.angle_at.Tie as tie
-use Rattle.heights.proofs.angle_at.Reads as reads
-use Rattle.heights.proofs.angle_at.Lts as lts
+
+-- the laps fit
+within : (f m : ℕ) → m ≤ 44_640 → f % lap * m ≤ lap * 44_640
+within f m h = mul-le-mul {n₁ = f % lap} {m₁ = m} {n₂ = lap} {m₂ = 44_640} (omega arith) h
 
 mul-laps : tie.Need-mul-laps
-mul-laps c = record { fits = omega (arith, mul-le-mul {n₁ = c .args .frequency % lap} {m₁ = c .args .minute} {n₂ = lap} {m₂ = 44_640} (omega arith) (search needs)) }
+mul-laps c = record { fits = omega (arith, within (c .args .frequency) (c .args .minute) (c .pre)) }
 
 sub-laps : tie.Need-sub-laps
 sub-laps c = search needs
@@ -20,10 +23,13 @@ mul-laps-2 : tie.Need-mul-laps-2
 mul-laps-2 c = search needs
 
 add-laps : tie.Need-add-laps
-add-laps c = record { fits = omega (arith, mul-le-mul {n₁ = c .args .frequency % lap} {m₁ = c .args .minute} {n₂ = lap} {m₂ = 44_640} (omega arith) (search needs)) }
+add-laps c = record { fits = omega (arith, within (c .args .frequency) (c .args .minute) (c .pre)) }
 
 mul-result : tie.Need-mul-result
 mul-result c = search needs
+
+wide-requires : tie.Need-wide-requires
+wide-requires c κs = search needs
 
 mul-result-2 : tie.Need-mul-result-2
 mul-result-2 c = search needs
@@ -41,7 +47,8 @@ add-result-2 : tie.Need-add-result-2
 add-result-2 c = search needs
 
 returns : tie.Need-returns
-returns c = sym (angle-is (c .args .argument) (c .args .lag) (c .args .frequency) (c .args .minute) (omega arith))
+returns c = let a = c .before .args in let lag = c .wide .result in
+    sym (angle-is (a .argument) lag (a .frequency) (a .minute) (omega arith)) ∙ ap (λ (n : ℕ). angle (a .argument) n (a .frequency) (a .minute)) (c .wide .ensures .0)
 
 pub angle-at-spec : {M : Type 1} → statement M
 angle-at-spec =
@@ -52,6 +59,7 @@ angle-at-spec =
     mul-laps-2
     add-laps
     mul-result
+    wide-requires
     mul-result-2
     sub-result
     add-result

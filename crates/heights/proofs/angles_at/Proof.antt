@@ -1,20 +1,15 @@
 -- `heights::angles_at` meets its contract: the places below k are right. Assumes nothing.
-use borrow.Author.Needs.{needs}
-use Prim.Native.Nat.{ℕ, _+_, _-_, _*_, _%_, _≤_, _<_}
+use Prim.Native.Nat.{_-_, _≤_, _<_}
 use native.Mathlib.Omega.{arith}
-use mathlib.Core.Path.{_≡_, refl, sym, ap, _∙_}
-use lib.ListN.{length, getD, length-set}
+use mathlib.Core.Path.{_≡_, refl, _∙_}
+use borrow.Author.Needs.{needs}
 use borrow.Author.Count.{below-none}
-use Rattle.angles.specs.Ticks.{turn}
+use lib.ListN.{length, getD, length-set}
 use Rattle.heights.specs.Height.{angle}
-use Rattle.heights.specs.Angles.{Angles, Advances, Below}
-use Rattle.heights.proofs.Filling.{filled-more, unreached}
+use Rattle.heights.specs.Angles.{Angles}
+use Rattle.heights.proofs.Filling.{filled-more}
 use Rattle.heights.proofs.angles_at.Statement.{statement}
 use Rattle.heights.proofs.angles_at.Tie as tie
-use Rattle.heights.proofs.angles_at.Reads as reads
-use Rattle.heights.proofs.angles_at.Lts as lts
-use Rattle.heights.proofs.angle_at.Reads as angle-at-reads
-use Rattle.heights.proofs.wide.Reads as wide-reads
 
 abbrev Inv-loop : tie.InvT-loop
 Inv-loop arguments lags frequencies count minute angles₀ k₀ angles k = (k ≤ count) × ((length angles ≡ 146) × Angles arguments lags frequencies k minute angles)
@@ -31,20 +26,17 @@ mul-angle-at c = search needs
 element-copy-out-angle-at : tie.Need-element-copy-out-angle-at Inv-loop μ-loop
 element-copy-out-angle-at c = search needs
 
-mul-wide : tie.Need-mul-wide Inv-loop μ-loop
-mul-wide c = search needs
-
-element-copy-out-wide : tie.Need-element-copy-out-wide Inv-loop μ-loop
-element-copy-out-wide c = search needs
-
-wide-requires : tie.Need-wide-requires Inv-loop μ-loop
-wide-requires c κs = search needs
-
 mul-angle-at-2 : tie.Need-mul-angle-at-2 Inv-loop μ-loop
 mul-angle-at-2 c = search needs
 
 element-copy-out-angle-at-2 : tie.Need-element-copy-out-angle-at-2 Inv-loop μ-loop
 element-copy-out-angle-at-2 c = search needs
+
+mul-angle-at-3 : tie.Need-mul-angle-at-3 Inv-loop μ-loop
+mul-angle-at-3 c = search needs
+
+element-copy-out-angle-at-3 : tie.Need-element-copy-out-angle-at-3 Inv-loop μ-loop
+element-copy-out-angle-at-3 c = search needs
 
 angle-at-requires : tie.Need-angle-at-requires Inv-loop μ-loop
 angle-at-requires c κs = search needs
@@ -62,8 +54,8 @@ loop-less : tie.Need-loop-less Inv-loop μ-loop
 loop-less c = search needs
 
 loop-again : tie.Need-loop-again Inv-loop μ-loop
-loop-again c = let s = c .before .before .before .before .before .before .loop in let a = c .before .before .before .before .before .before .before .args in let l : s .k < length (s .angles) = omega arith in
-    (omega arith, (length-set (s .angles) (s .k) (c .angle-at .result) ∙ s .inv .1 .0, filled-more (s .angles) (s .k) (c .angle-at .result) (λ k. angle (getD (a .arguments .now) k 0) (getD (a .lags .now) k 0) (getD (a .frequencies .now) k 0) (a .minute)) l (s .inv .1 .1) (c .angle-at .ensures ∙ ap (λ (n : ℕ). angle (getD (a .arguments .now) (s .k) 0) n (getD (a .frequencies .now) (s .k) 0) (a .minute)) (c .before .before .wide .ensures .0))))
+loop-again c = let s = c .before .before .before .before .before .loop in let a = c .before .before .before .before .before .before .args in let l : s .k < length (s .angles) = omega arith in
+    (omega arith, (length-set (s .angles) (s .k) (c .angle-at .result) ∙ s .inv .1 .0, filled-more (s .angles) (s .k) (c .angle-at .result) (λ k. angle (getD (a .arguments .now) k 0) (getD (a .lags .now) k 0) (getD (a .frequencies .now) k 0) (a .minute)) l (s .inv .1 .1) (c .angle-at .ensures)))
 
 returns : tie.Need-returns Inv-loop μ-loop
 returns c = λ k h. c .before .loop .inv .1 .1 k (omega arith)
@@ -77,11 +69,10 @@ angles-at-spec =
     loop-holds
     mul-angle-at
     element-copy-out-angle-at
-    mul-wide
-    element-copy-out-wide
-    wide-requires
     mul-angle-at-2
     element-copy-out-angle-at-2
+    mul-angle-at-3
+    element-copy-out-angle-at-3
     angle-at-requires
     mul-angles
     array-write-angles
