@@ -5,3 +5,4 @@ pub mod Dates
 pub mod Stations
 pub mod Heights
 pub mod SeriesCase
+pub mod TurnsCase

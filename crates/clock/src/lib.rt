@@ -17,6 +17,7 @@ use refusals::Refusal;
 use station::Rows;
 use station::Station;
 use table::Table;
+use turns::Searched;
 
 // What the clock keeps. Only the calls below make or change one.
 pub struct Clock {
@@ -296,4 +297,53 @@ pub fn series(clock: Clock, start: u32, step: u32, heights: &mut [i64]) -> Answe
         heights,
     );
     Answer::Accepted
+}
+
+// The high and low waters from the first minute to the last, into the lent buffers from their front; or a refusal.
+pub fn turns(
+    clock: Clock,
+    first: u32,
+    last: u32,
+    minutes: &mut [u32],
+    heights: &mut [i64],
+) -> TurnsAnswer
+    requires { ⌜ Made clock ⌝ }
+    ensures { λ r. ⌜ TurnsPost clock first last (now (minutes .entry)) (now (minutes .exit)) (now (heights .entry)) (now (heights .exit)) r ⌝ }
+{
+    if !clock.tabled {
+        return TurnsAnswer::Refused(Refusal::NoTable, 0);
+    }
+    if !clock.stationed {
+        return TurnsAnswer::Refused(Refusal::NoStation, 0);
+    }
+    if !clock.dated {
+        return TurnsAnswer::Refused(Refusal::NoMonth, 0);
+    }
+    if clock.last < last as u64 {
+        return TurnsAnswer::Refused(Refusal::BadMinutes, 0);
+    }
+    if last < first {
+        return TurnsAnswer::Refused(Refusal::BadMinutes, 0);
+    }
+    let table = clock.table;
+    let station = clock.station;
+    let stride = strides::station_stride(table, station);
+    let found = turns::turns(
+        &clock.cosines,
+        &clock.arguments,
+        &clock.lags,
+        &clock.frequencies,
+        &clock.ps,
+        &clock.qs,
+        clock.count,
+        stride,
+        first as u64,
+        last as u64,
+        minutes,
+        heights,
+    );
+    match found {
+        Searched::Found(s) => TurnsAnswer::Turns(s.count, s.high),
+        Searched::TooMany => TurnsAnswer::Refused(Refusal::TooManyTurns, 0),
+    }
 }
