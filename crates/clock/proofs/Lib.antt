@@ -6,3 +6,4 @@ pub mod Stations
 pub mod Heights
 pub mod SeriesCase
 pub mod TurnsCase
+pub mod Lent

@@ -14,6 +14,7 @@ use month::Preparation;
 use prepared::Month;
 use refusals::Answer;
 use refusals::Refusal;
+use station::Record;
 use station::Rows;
 use station::Station;
 use table::Table;
@@ -164,6 +165,17 @@ fn place_station(clock: Clock, latitude: i32, n: usize, rows: Rows) -> After
         }
         Answer::Refused(_, _) => After { answer, clock },
     }
+}
+
+// A station: a latitude and the records of its constituents. It keeps the table and drops the month; or it is refused.
+// (The thin function over the lent slice of structs: its proof is a walk by hand.)
+pub fn set_station(clock: Clock, latitude: i32, records: &[Record]) -> After
+    requires { ⌜ Made clock ⌝ }
+    ensures { λ r. ⌜ StationPost clock latitude (now (records .entry)) (r .answer) (r .clock) ⌝ }
+{
+    let n = records.len();
+    let rows = station::rows_of(records);
+    place_station(clock, latitude, n, rows)
 }
 
 // The month of a date that is in range.
