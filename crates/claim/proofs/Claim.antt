@@ -22,6 +22,7 @@ use Rattle.clock.specs.Posts.{NewPost, CardsPost, StationPost, DatePost, Height
 use Rattle.claim.specs.Calls.{Keeps, New, news, Call, loads, stations, dates, heights, serieses, searches, Calls, done, _then_}
 use Rattle.claim.specs.Document.{Request, Cards, Station, Date, Height, Series, Turns, Gave, told, wrote, found, Last, nothing, tableIn, workedOut, after, gives, givesAll, lastAfter, EachNear}
 use Rattle.claim.proofs.Points.{near-calls}
+use Rattle.claim.proofs.Decided.{same-once}
 
 -- the clock's state is what is worked out from what was last accepted
 pub record Agrees (c : Clock) (l : Last) : Type 0 where
@@ -42,7 +43,7 @@ unfolding cardsLeaves cardsReturns after workedOut
 cards-works l file = by (readCards file) refl
   where
     by : (o : cards.Outcome) → readCards file ≡ o
-      → fileLeaves o (workedOut l) ≡ workedOut (onAccepted (fileReturns o) (record { cards = some file; station = none; date = none }) l)
+        → fileLeaves o (workedOut l) ≡ workedOut (onAccepted (fileReturns o) (record { cards = some file; station = none; date = none }) l)
     by (cards.accepted table) e = rw e
     by (cards.refused number line) e = refl
 
@@ -107,7 +108,8 @@ pub record Claim (qs : List Request) (gs : List Gave) : Type 0 where
   pub exactly : gs ≡ givesAll nothing qs
   pub near : EachNear nothing qs gs
 
-pub claim-holds : (c c′ : Clock) (qs : List Request) (gs : List Gave) → New c → Calls c qs gs c′ → ∥ Claim qs gs ∥₁
-claim-holds c c′ qs gs new x =
-    ∥∥₁-elim (new-agrees new) ∥∥₁-prop (λ h. ∥∥₁-map (calls-agree nothing h x) (λ e.
-    record { exactly = e .0; near = subst (λ (g : List Gave). EachNear nothing qs g) (sym (e .0)) (near-calls nothing qs) }))
+pub claim : (c c′ : Clock) (qs : List Request) (gs : List Gave) → New c → Calls c qs gs c′ → Claim qs gs
+claim c c′ qs gs new x =
+    let all : ∥ (gs ≡ givesAll nothing qs) ∥₁ = ∥∥₁-elim (new-agrees new) ∥∥₁-prop (λ h. ∥∥₁-map (calls-agree nothing h x) (λ e. e .0)) in
+    let same : gs ≡ givesAll nothing qs = ∥∥₁-elim all (same-once gs (givesAll nothing qs)) (λ e. e) in
+    record { exactly = same; near = subst (λ (g : List Gave). EachNear nothing qs g) (sym same) (near-calls nothing qs) }

@@ -29,7 +29,7 @@ use Rattle.claim.specs.Document.{Request, Cards, Station, Date, Height, 
 -- ---- a height
 
 height-near : (minute : ℕ) (t : Maybe Table) (s : Maybe station.Station) (m : Maybe state.Month)
-  → AllNear (constituentsIn m) (heightPoints minute (heightReturns (record { table = t; station = s; month = m }) minute))
+    → AllNear (constituentsIn m) (heightPoints minute (heightReturns (record { table = t; station = s; month = m }) minute))
 unfolding heightReturns
 height-near minute state.none s m = nil
 height-near minute (state.some t) state.none m = nil
@@ -50,7 +50,7 @@ from-near cs start step j (suc n) =
     cons (height-is-near cs (start + j * step)) (subst (λ (m : ℕ). AllNear cs (pointsFrom m step (seriesFrom cs start step (j + 1) n))) on (from-near cs start step (j + 1) n))
 
 series-near : (start step : ℕ) (heights : List ℤ) (t : Maybe Table) (s : Maybe station.Station) (m : Maybe state.Month)
-  → AllNear (constituentsIn m) (seriesPoints start step (seriesGives (record { table = t; station = s; month = m }) start step heights .returned) (seriesGives (record { table = t; station = s; month = m }) start step heights .heights))
+    → AllNear (constituentsIn m) (seriesPoints start step (seriesGives (record { table = t; station = s; month = m }) start step heights .returned) (seriesGives (record { table = t; station = s; month = m }) start step heights .heights))
 unfolding seriesGives
 series-near start step heights state.none s m = nil
 series-near start step heights (state.some t) state.none m = nil
@@ -77,7 +77,7 @@ front-is : {A : Type 0} (new old : List A) (n : ℕ) → length new ≡ n → ta
 front-is new old n e = take-at new (drop (length new) old) n e
 
 turns-near : (first last : ℕ) (minutes : List ℕ) (heights : List ℤ) (t : Maybe Table) (s : Maybe station.Station) (m : Maybe state.Month)
-  → AllNear (constituentsIn m) (turnsPoints (turnsGives (record { table = t; station = s; month = m }) first last minutes heights .returned)
+    → AllNear (constituentsIn m) (turnsPoints (turnsGives (record { table = t; station = s; month = m }) first last minutes heights .returned)
     (turnsGives (record { table = t; station = s; month = m }) first last minutes heights .minutes) (turnsGives (record { table = t; station = s; month = m }) first last minutes heights .heights))
 unfolding turnsGives written.given
 turns-near first last minutes heights state.none s m = nil

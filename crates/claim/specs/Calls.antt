@@ -55,12 +55,12 @@ pub data Call : Clock → Request → Gave → Clock → Type 2 where
       → Keeps (λ w. series.clauses (w .𝓤) (w .H) (w .𝓖 .A) (w .𝓜 .mem) (w .𝓡 .run) κs a .requires tt)
       (λ w. series.clauses (w .𝓤) (w .H) (w .𝓖 .A) (w .𝓜 .mem) (w .𝓡 .run) κs a .ensures tt r s)
       → Call (a .0) (Series (a .1 .0) (a .1 .1 .0) (now (a .1 .1 .1 .0)))
-        (wrote (record { returned = answerReturned r; heights = now (s .1 .1 .1 .0) })) (a .0)
+      (wrote (record { returned = answerReturned r; heights = now (s .1 .1 .1 .0) })) (a .0)
   searches : (κs : Lfts 2) (a : ArgsD turns.signature κs) (r : ResD turns.signature κs) (s : AtExit turns.ended κs)
       → Keeps (λ w. turns.clauses (w .𝓤) (w .H) (w .𝓖 .A) (w .𝓜 .mem) (w .𝓡 .run) κs a .requires tt)
       (λ w. turns.clauses (w .𝓤) (w .H) (w .𝓖 .A) (w .𝓜 .mem) (w .𝓡 .run) κs a .ensures tt r s)
       → Call (a .0) (Turns (a .1 .0) (a .1 .1 .0) (now (a .1 .1 .1 .0)) (now (a .1 .1 .1 .1 .0)))
-        (found (record { returned = turnsReturned r; minutes = now (s .1 .1 .1 .0); heights = now (s .1 .1 .1 .1 .0) })) (a .0)
+      (found (record { returned = turnsReturned r; minutes = now (s .1 .1 .1 .0); heights = now (s .1 .1 .1 .1 .0) })) (a .0)
 
 -- "in any number and order, refused ones included"; "Each later one gets the clock as the one before it returned or left it"
 pub data Calls : Clock → List Request → List Gave → Clock → Type 2 where
