@@ -8,7 +8,7 @@ use lib.Signed.{remZ, quotZ}
 use Rattle.angles.specs.Ticks.{turn}
 use Rattle.angles.specs.Floor.{modTurn}
 use Rattle.angles.proofs.Ints.{natAbs-neg, neg-mul, distrib, assoc}
-use Rattle.angles.proofs.Angles.{periodic, of-sum, of-sum-right, of-product}
+use Rattle.angles.proofs.Angles.{below-turn, periodic, of-sum, of-sum-right, of-product}
 use Rattle.arguments.specs.Longitudes.{longitude}
 
 -- ---- division toward zero: quotient and remainder
@@ -80,3 +80,8 @@ longitude-reduced d card₁ card₂ =
     ∙ sym (of-sum (pos (78840 * (card₁ % 10000000000))) (pos 216 *ℤ d *ℤ pos card₂))
     ∙ ap (λ (n : ℕ). modTurn (pos n +ℤ pos 216 *ℤ d *ℤ pos card₂)) (start-reduced card₁)
     ∙ of-sum (pos (78840 * card₁)) (pos 216 *ℤ d *ℤ pos card₂)
+
+-- every longitude is below a turn
+pub longitude-below : (d : ℤ) (card₁ card₂ : ℕ) → longitude d card₁ card₂ < turn
+unfolding longitude
+longitude-below d card₁ card₂ = below-turn (pos (78840 * card₁) +ℤ pos 216 *ℤ d *ℤ pos card₂)

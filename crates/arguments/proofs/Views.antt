@@ -8,7 +8,7 @@ use Rattle.arguments.specs.Longitudes.{Longitudes}
 use Rattle.arguments.specs.Arguments.{mainArgument, shallowArgument}
 use Rattle.arguments.specs.View.{rowArgument, shallowRowArgument}
 
-listed-map : {A B : Type 0} (f : A → B) (g : ℕ → A) (k n : ℕ) → map f (listed g k n) ≡ listed (λ j. f (g j)) k n
+pub listed-map : {A B : Type 0} (f : A → B) (g : ℕ → A) (k n : ℕ) → map f (listed g k n) ≡ listed (λ j. f (g j)) k n
 unfolding listed
 listed-map f g k zero = refl
 listed-map f g k (suc n) = ap (λ xs. f (g k) ∷ xs) (listed-map f g (suc k) n)
