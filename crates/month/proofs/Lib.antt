@@ -1,3 +1,4 @@
 pub mod Search
 pub mod Put
 pub mod OfRows
+pub mod Records

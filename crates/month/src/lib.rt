@@ -30,7 +30,7 @@ ghost use Rattle.cosine.specs.Fixed.{IsTable};
 ghost use Rattle.table.specs.View.{tableOf};
 ghost use Rattle.station.specs.Rows.{recordsFrom};
 ghost use Rattle.arguments.specs.View.{longitudesOf};
-ghost use Rattle.nodal.specs.Ranges.{AreAngles, AreFactors};
+ghost use Rattle.nodal.specs.Ranges.{AreAngles, AreFactors, Sized};
 ghost use Rattle.nodal.specs.View.{factorsOf};
 ghost use Rattle.nodal.specs.View as nodalView;
 ghost use Rattle.month.specs.Month.{prepared, nodal, weight, monthOf};
@@ -110,6 +110,17 @@ fn with_constituent(month: Month, k: usize, argument: u64, lag: u16, frequency: 
     out.ps[k] = p;
     out.qs[k] = q;
     out
+}
+
+// The month with a record's constituent at place k, weighted by its amplitude.
+fn with_record(month: Month, k: usize, argument: u64, frequency: u64, xy: Pair, amplitude: u16, lag: u16) -> Month
+    requires { ⌜ k < 146 ⌝ }
+    requires { ⌜ Sized (2 ^ 22) xy ⌝ }
+    ensures { λ r. ⌜ heldUpto r (k + 1) ≡ heldUpto month k ++ (record { argument = argument; lag = lag; frequency = frequency; p = weight amplitude (xy .x); q = weight amplitude (xy .y) } ∷ []) ⌝ }
+{
+    let p = weight_of(amplitude, xy.x);
+    let q = weight_of(amplitude, xy.y);
+    with_constituent(month, k, argument, lag, frequency, p, q)
 }
 
 // The month with n constituents, all in their places.
@@ -230,9 +241,7 @@ fn prepare_records<'a>(
             }
             Corrected::Within(xy) => {
                 let frequency = frequency_at(&table.speeds, table.frequencies, places[k]);
-                let p = weight_of(amplitudes[k], xy.x);
-                let q = weight_of(amplitudes[k], xy.y);
-                month = with_constituent(month, k, w.argument, lags[k], frequency, p, q);
+                month = with_record(month, k, w.argument, frequency, xy, amplitudes[k], lags[k]);
                 k += 1;
             }
         }

@@ -1,115 +1,155 @@
+use borrow.Author.Needs.{needs}
 use Rattle.month.proofs.prepare_records.Statement.{statement}
 use Rattle.month.proofs.prepare_records.Tie as tie
 use Rattle.month.proofs.prepare_records.Reads as reads
 use Rattle.month.proofs.prepare_records.Lts as lts
 use Rattle.month.proofs.finished.Reads as finished-reads
 use Rattle.month.proofs.frequency_at.Reads as frequency-at-reads
-use Rattle.month.proofs.weight_of.Reads as weight-of-reads
-use Rattle.month.proofs.with_constituent.Reads as with-constituent-reads
+use Rattle.month.proofs.with_record.Reads as with-record-reads
 use Rattle.month.proofs.work_out.Reads as work-out-reads
 use Rattle.prepared.proofs.no_constituents.Reads as no-constituents-reads
+use mathlib.Core.Path.{_≡_, refl, sym, ap, _∙_}
+use Prim.Native.Nat.{ℕ, _+_, _-_, _<_, _≤_}
+use native.Mathlib.Omega.{arith}
+use Rattle.arguments.specs.View.{longitudesOf}
+use Rattle.nodal.specs.View.{factorsOf}
+use Rattle.month.specs.Month.{before}
+use Rattle.month.specs.View.{heldUpto, frequenciesOf, mainsOf, shallowsOf, rowsPrepared}
+use Rattle.station.specs.Rows.{recordsFrom}
+use Rattle.month.proofs.Records.{left, ends-refused, goes-on, all-done, none-done}
+use Rattle.table.specs.declared.Table.{Table}
+use Rattle.prepared.specs.View.{constituentsAfter}
+use mathlib.Core.List.{List}
+use Rattle.arguments.specs.Longitudes.{Longitudes}
+use Rattle.nodal.specs.Latitude.{Factors}
+use Rattle.month.specs.Month.{Prepared}
+use Rattle.table.specs.Table.{Main, Shallow}
+use Rattle.month.proofs.Records.{refused-at, small-at, accepted-at}
+use Rattle.month.specs.Month.{prepared}
+
+-- the table's lists
+abbrev frequenciesIn : Table → List ℕ
+frequenciesIn t = frequenciesOf (t .speeds) (t .frequencies)
+
+abbrev mainsIn : Table → List Main
+mainsIn t = mainsOf (t .maincards) (t .mainangles) (t .satelliteangles) (t .satelliteratios) (t .mains)
+
+abbrev shallowsIn : Table → List Shallow
+shallowsIn t = shallowsOf (t .shallowcards) (t .coefficients) (t .shallows)
+
+-- what is left from record k on, of n
+abbrev leftOf : Table → Factors → Longitudes → List ℕ → List ℕ → List ℕ → ℕ → ℕ → Prepared
+leftOf t = left (frequenciesIn t) (mainsIn t) (shallowsIn t)
 
 abbrev Inv-loop : tie.InvT-loop
-Inv-loop cosines g l n places amplitudes lags table month₀ k₀ month k = ?
+Inv-loop cosines g l n places amplitudes lags table month₀ k₀ month k =
+    (before (heldUpto month k) (leftOf table (factorsOf g) (longitudesOf l) places amplitudes lags n k) ≡ rowsPrepared table (factorsOf g) (longitudesOf l) 1 (recordsFrom places amplitudes lags 0 n)) × (k ≤ n)
 
 abbrev μ-loop : tie.MeasureT-loop
-μ-loop cosines g l n places amplitudes lags table month₀ k₀ month k = ?
+μ-loop cosines g l n places amplitudes lags table month₀ k₀ month k = n - k
 
--- src/lib.rt:206:9
+-- src/lib.rt:217:9
 no-constituents-requires : tie.Need-no-constituents-requires Inv-loop μ-loop
-no-constituents-requires c κs = ?
+no-constituents-requires c κs = search needs
 
--- src/lib.rt:208:5
+-- src/lib.rt:219:5
 loop-holds : tie.Need-loop-holds Inv-loop μ-loop
-loop-holds c = ?
+unfolding constituentsAfter
+loop-holds c =
+    let a = c .before .args in
+    (none-done (frequenciesIn (a .t2)) (mainsIn (a .t2)) (shallowsIn (a .t2)) (factorsOf (a .g)) (longitudesOf (a .l)) (a .places .now) (a .amplitudes .now) (a .lags .now) (a .n), omega arith)
 
--- src/lib.rt:219:13
+-- src/lib.rt:230:13
 element-copy-out-work-out : tie.Need-element-copy-out-work-out Inv-loop μ-loop
-element-copy-out-work-out c = ?
+element-copy-out-work-out c = search needs
 
--- src/lib.rt:209:13
+-- src/lib.rt:220:13
 work-out-requires : tie.Need-work-out-requires Inv-loop μ-loop
-work-out-requires c κs = ?
+work-out-requires c κs = search needs
 
--- src/lib.rt:227:46
+-- src/lib.rt:238:46
 enum-told : tie.Need-enum-told Inv-loop μ-loop
-enum-told c = ?
+enum-told c = search needs
 
--- src/lib.rt:227:46
-add-t30 : tie.Need-add-t30 Inv-loop μ-loop
-add-t30 c = ?
+-- src/lib.rt:238:46
+add-t28 : tie.Need-add-t28 Inv-loop μ-loop
+add-t28 c = search needs
 
--- src/lib.rt:226:17
+-- src/lib.rt:237:17
 returns : tie.Need-returns Inv-loop μ-loop
-returns c = ?
+returns c =
+    let a = c .before .before .before .before .before .before .before .before .before .before .before .before .before .before .args in
+    let s = c .before .before .before .before .before .before .before .before .before .before .before .before in
+    refused-at (frequenciesIn (a .t2)) (mainsIn (a .t2)) (shallowsIn (a .t2)) (factorsOf (a .g)) (longitudesOf (a .l)) (a .places .now) (a .amplitudes .now) (a .lags .now)
+    (heldUpto (s .loop .month) (s .loop .k)) (s .loop .k) (a .n) _ (s .loop .inv .0) (c .before .before .before .before .before .before .before .before .before .before .before .loop-test .taken) (c .before .before .work-out .result) (c .before .before .work-out .ensures) (c .enum-told .given .1)
 
--- src/lib.rt:231:31
+-- src/lib.rt:242:31
 enum-known-c : tie.Need-enum-known-c Inv-loop μ-loop
-enum-known-c c = ?
+enum-known-c c = search needs
 
--- src/lib.rt:232:80
+-- src/lib.rt:243:80
 element-copy-out-frequency-at : tie.Need-element-copy-out-frequency-at Inv-loop μ-loop
-element-copy-out-frequency-at c = ?
+element-copy-out-frequency-at c = search needs
 
--- src/lib.rt:232:21
+-- src/lib.rt:243:21
 frequency-at-requires : tie.Need-frequency-at-requires Inv-loop μ-loop
-frequency-at-requires c κs = ?
+frequency-at-requires c κs = search needs
 
--- src/lib.rt:233:35
-mul-weight-of : tie.Need-mul-weight-of Inv-loop μ-loop
-mul-weight-of c = ?
+-- src/lib.rt:244:74
+mul-with-record : tie.Need-mul-with-record Inv-loop μ-loop
+mul-with-record c = omega (arith, c .before .before .before .before .before .before .before .before .before .before .before .before .before .before .before .before .loop-test .taken, c .before .before .before .before .before .before .before .before .before .before .before .before .before .before .before .before .before .before .before .pre .1 .1 .1)
 
--- src/lib.rt:233:35
-element-copy-out-weight-of : tie.Need-element-copy-out-weight-of Inv-loop μ-loop
-element-copy-out-weight-of c = ?
+-- src/lib.rt:244:74
+element-copy-out-with-record : tie.Need-element-copy-out-with-record Inv-loop μ-loop
+element-copy-out-with-record c = omega (arith, c .before .before .before .before .before .before .before .before .before .before .before .before .before .before .before .before .loop-test .taken, c .before .before .before .before .before .before .before .before .before .before .before .before .before .before .before .before .before .before .before .pre .1 .1 .1)
 
--- src/lib.rt:233:21
-weight-of-requires : tie.Need-weight-of-requires Inv-loop μ-loop
-weight-of-requires c κs = ?
+-- src/lib.rt:244:89
+mul-with-record-2 : tie.Need-mul-with-record-2 Inv-loop μ-loop
+mul-with-record-2 c = omega (arith, c .before .before .before .before .before .before .before .before .before .before .before .before .before .before .before .before .before .loop-test .taken, c .before .before .before .before .before .before .before .before .before .before .before .before .before .before .before .before .before .before .before .before .pre .1 .1 .1)
 
--- src/lib.rt:234:35
-mul-weight-of-2 : tie.Need-mul-weight-of-2 Inv-loop μ-loop
-mul-weight-of-2 c = ?
+-- src/lib.rt:244:89
+element-copy-out-with-record-2 : tie.Need-element-copy-out-with-record-2 Inv-loop μ-loop
+element-copy-out-with-record-2 c = omega (arith, c .before .before .before .before .before .before .before .before .before .before .before .before .before .before .before .before .before .loop-test .taken, c .before .before .before .before .before .before .before .before .before .before .before .before .before .before .before .before .before .before .before .before .pre .1 .1 .1)
 
--- src/lib.rt:234:35
-element-copy-out-weight-of-2 : tie.Need-element-copy-out-weight-of-2 Inv-loop μ-loop
-element-copy-out-weight-of-2 c = ?
+-- src/lib.rt:244:17
+with-record-requires : tie.Need-with-record-requires Inv-loop μ-loop
+with-record-requires c κs =
+    let a = c .before .before .before .before .before .before .before .before .before .before .before .before .before .before .before .before .before .before .before .before .before .args in
+    let s = c .before .before .before .before .before .before .before .before .before .before .before .before .before .before .before .before .before .before .before in
+    (omega (arith, c .before .before .before .before .before .before .before .before .before .before .before .before .before .before .before .before .before .before .loop-test .taken, c .before .before .before .before .before .before .before .before .before .before .before .before .before .before .before .before .before .before .before .before .before .pre .1 .1 .1),
+    small-at (frequenciesIn (a .t2)) (mainsIn (a .t2)) (shallowsIn (a .t2)) (factorsOf (a .g)) (longitudesOf (a .l)) (a .places .now) (a .amplitudes .now) (a .lags .now)
+    (heldUpto (s .loop .month) (s .loop .k)) (s .loop .k) (a .n) _ (s .loop .inv .0) (c .before .before .before .before .before .before .before .before .before .before .before .before .before .before .before .before .before .before .loop-test .taken) (c .before .before .before .before .before .before .before .before .before .work-out .result) (c .before .before .before .before .before .before .before .before .before .work-out .ensures) (c .before .before .before .before .before .before .before .c .given .0 .0) (c .before .before .before .before .before .before .before .c .given .1))
 
--- src/lib.rt:234:21
-weight-of-requires-2 : tie.Need-weight-of-requires-2 Inv-loop μ-loop
-weight-of-requires-2 c κs = ?
-
--- src/lib.rt:235:64
-mul-with-constituent : tie.Need-mul-with-constituent Inv-loop μ-loop
-mul-with-constituent c = ?
-
--- src/lib.rt:235:64
-element-copy-out-with-constituent : tie.Need-element-copy-out-with-constituent Inv-loop μ-loop
-element-copy-out-with-constituent c = ?
-
--- src/lib.rt:235:17
-with-constituent-requires : tie.Need-with-constituent-requires Inv-loop μ-loop
-with-constituent-requires c κs = ?
-
--- src/lib.rt:236:17
+-- src/lib.rt:245:17
 add-k : tie.Need-add-k Inv-loop μ-loop
-add-k c = ?
+add-k c = omega (arith, c .before .before .before .before .before .before .before .before .before .before .before .before .before .before .before .before .before .before .before .loop-test .taken, c .before .before .before .before .before .before .before .before .before .before .before .before .before .before .before .before .before .before .before .before .before .before .pre .1 .1 .1)
 
--- src/lib.rt:208:5
+-- src/lib.rt:219:5
 loop-less : tie.Need-loop-less Inv-loop μ-loop
-loop-less c = ?
+loop-less c = omega (arith, c .before .before .before .before .before .before .before .before .before .before .before .before .before .before .before .before .before .before .before .loop-test .taken)
 
--- src/lib.rt:208:5
+-- src/lib.rt:219:5
 loop-again : tie.Need-loop-again Inv-loop μ-loop
-loop-again c = ?
+loop-again c =
+    let a = c .before .before .before .before .before .before .before .before .before .before .before .before .before .before .before .before .before .before .before .before .before .before .args in
+    let s = c .before .before .before .before .before .before .before .before .before .before .before .before .before .before .before .before .before .before .before .before in
+    (accepted-at (frequenciesIn (a .t2)) (mainsIn (a .t2)) (shallowsIn (a .t2)) (factorsOf (a .g)) (longitudesOf (a .l)) (a .places .now) (a .amplitudes .now) (a .lags .now)
+    (heldUpto (s .loop .month) (s .loop .k)) (s .loop .k) (a .n) _ (s .loop .inv .0) (c .before .before .before .before .before .before .before .before .before .before .before .before .before .before .before .before .before .before .before .loop-test .taken) (c .before .before .before .before .before .before .before .before .before .before .work-out .result) (c .before .before .before .before .before .before .before .before .before .before .work-out .ensures) (c .before .before .before .before .before .before .before .before .c .given .0 .0) (c .before .before .before .before .before .before .before .before .c .given .1)
+    (c .before .before .before .frequency-at .result) (heldUpto (c .with-record .result) (s .loop .k + 1)) (c .before .before .before .frequency-at .ensures) (c .with-record .ensures), omega (arith, c .before .before .before .before .before .before .before .before .before .before .before .before .before .before .before .before .before .before .before .loop-test .taken))
 
--- src/lib.rt:240:5
+-- src/lib.rt:249:5
 finished-requires : tie.Need-finished-requires Inv-loop μ-loop
-finished-requires c κs = ?
+finished-requires c κs = search needs
 
--- src/lib.rt:190:1
+-- src/lib.rt:201:1
 returns-2 : tie.Need-returns-2 Inv-loop μ-loop
-returns-2 c = ?
+returns-2 c =
+    let a = c .before .before .before .before .args in
+    let s = c .before .before in
+    let e : s .loop .k ≡ a .n = omega (arith, c .before .loop-test .left, s .loop .inv .1) in
+    c .finished .ensures ∙ ap (λ (m : ℕ). prepared (heldUpto (s .loop .month) m)) (sym e)
+    ∙ sym (all-done (frequenciesIn (a .t2)) (mainsIn (a .t2)) (shallowsIn (a .t2)) (factorsOf (a .g)) (longitudesOf (a .l)) (a .places .now) (a .amplitudes .now) (a .lags .now) (heldUpto (s .loop .month) (s .loop .k)) (s .loop .k) (a .n) (c .before .loop-test .left))
+    ∙ s .loop .inv .0
 
 pub prepare-records-spec : {M : Type 1} → statement M
 prepare-records-spec =
@@ -122,20 +162,16 @@ prepare-records-spec =
     element-copy-out-work-out
     work-out-requires
     enum-told
-    add-t30
+    add-t28
     returns
     enum-known-c
     element-copy-out-frequency-at
     frequency-at-requires
-    mul-weight-of
-    element-copy-out-weight-of
-    weight-of-requires
-    mul-weight-of-2
-    element-copy-out-weight-of-2
-    weight-of-requires-2
-    mul-with-constituent
-    element-copy-out-with-constituent
-    with-constituent-requires
+    mul-with-record
+    element-copy-out-with-record
+    mul-with-record-2
+    element-copy-out-with-record-2
+    with-record-requires
     add-k
     loop-less
     loop-again
