@@ -2,3 +2,4 @@ pub mod Search
 pub mod Put
 pub mod OfRows
 pub mod Records
+pub mod Whole
