@@ -1,25 +1,25 @@
 // The longitudes at the month's instant, and the argument V of a main and of a shallow constituent.
+use angles::CENTICYCLE;
+use angles::TEN_BILLIONTH;
+use angles::TURN;
 use angles::mod_turn;
 use table::at_i8;
 use table::at_u16;
 ghost use mathlib.Core.Path.{_≡_};
-ghost use Prim.Native.Nat.{_<_, _≤_, _^_, _%_};
+ghost use Prim.Native.Nat.{_<_, _≤_, _^_, _/_, _%_};
 ghost use lib.IntN.{natAbs, pos, _+ℤ_, _*ℤ_};
 ghost use lib.Signed.{remZ};
 ghost use lib.ListN.{getD};
+ghost use Rattle.angles.specs.Ticks.{turn};
 ghost use Rattle.angles.specs.Floor.{modTurn};
 ghost use Rattle.table.specs.View.{listed, naturals, integers};
 ghost use Rattle.arguments.specs.Longitudes.{longitude, longitudesOn};
 ghost use Rattle.arguments.specs.View.{longitudesOf, rowArgument, shallowRowArgument};
 
-const TURN: u64 = 788_400_000_000_000;
-
-const CENTICYCLE: u64 = 7_884_000_000_000;
-
 // A cycle in 10^-10 cycle, and T / 216: card one counts modulo the first, days times card two modulo the second.
-const CYCLE: u64 = 10_000_000_000;
+const CYCLE: u64 = TURN / TEN_BILLIONTH;
 
-const SPAN: u64 = 3_650_000_000_000;
+const SPAN: u64 = TURN / 216;
 
 // The longitudes in ticks: the moon's, the sun's, the lunar perigee's, the negative of the ascending node's, the solar perigee's.
 pub struct Longitudes {
@@ -33,8 +33,8 @@ pub struct Longitudes {
 // Days times an increase, reduced modulo T / 216.
 fn drift(days: i64, increase: u64) -> i64
     requires { ⌜ natAbs days ≤ 2 ^ 15 ⌝ }
-    ensures { λ r. ⌜ r ≡ remZ (days *ℤ pos (increase % 3_650_000_000_000)) (pos 3_650_000_000_000) ⌝ }
-    ensures { λ r. ⌜ natAbs r < 3_650_000_000_000 ⌝ }
+    ensures { λ r. ⌜ r ≡ remZ (days *ℤ pos (increase % (turn / 216))) (pos (turn / 216)) ⌝ }
+    ensures { λ r. ⌜ natAbs r < turn / 216 ⌝ }
 {
     let rate = (increase % SPAN) as i64;
     days * rate % (SPAN as i64)
@@ -45,7 +45,7 @@ fn longitude_on<'a>(days: i64, cards: &'a [u64; 5], increases: &'a [u64; 5], k: 
     requires { ⌜ (natAbs days ≤ 2 ^ 15) × (k < 5) ⌝ }
     ensures { λ r. ⌜ r ≡ longitude days (getD (now (cards .entry)) k 0) (getD (now (increases .entry)) k 0) ⌝ }
 {
-    let start = (78_840 * (cards[k] % CYCLE)) as i64;
+    let start = (TEN_BILLIONTH * (cards[k] % CYCLE)) as i64;
     mod_turn(start + 216 * drift(days, increases[k]))
 }
 

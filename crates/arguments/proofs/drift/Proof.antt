@@ -12,10 +12,7 @@ use lib.Signed.{quotZ, remZ}
 use mir.Syntax.{w64}
 use mir.Val.{toZ, ofZ}
 use Rattle.angles.proofs.Known.{Known, read, cast, fits, kept, times}
-use Rattle.arguments.proofs.Reduced.{rem-size, quot-size}
-
-abbrev span : ℕ
-span = 3650000000000
+use Rattle.arguments.proofs.Reduced.{span, rem-size, quot-size}
 
 -- the product, its quotient and its remainder
 module _ (d : ℤ) (few : natAbs d ≤ 2 ^ 15) (c : ℕ) where

@@ -11,20 +11,20 @@ use lib.IntN.{ℤ, natAbs, pos, _+ℤ_, _*ℤ_}
 use lib.ListN.{getD}
 use mir.Syntax.{w64}
 use mir.Val.{toZ, ofZ}
-use Rattle.angles.specs.Ticks.{turn}
+use Rattle.angles.specs.Ticks.{turn, tenBillionth}
 use Rattle.angles.specs.Floor.{modTurn}
 use Rattle.angles.proofs.Known.{Known, plainly, read, cast, fits, kept, plus, times}
-use Rattle.arguments.proofs.Reduced.{longitude-reduced}
+use Rattle.arguments.proofs.Reduced.{cycle, span, longitude-reduced}
 use mir.ValLaws.{toZ-ofZ}
 use lib.Signed.{remZ}
 
 -- 216 times the drift, and the sum with the start
-module _ (r : ℤ) (short : natAbs r < 3650000000000) (card : ℕ) where
-  product : Known (pos 216 *ℤ toZ w64 (ofZ w64 r)) (pos 216 *ℤ r) (216 * 3650000000000)
-  product = times (plainly (pos 216) (le-refl 216)) (read r {A = 3650000000000} (omega arith) (lit< tt))
+module _ (r : ℤ) (short : natAbs r < span) (card : ℕ) where
+  product : Known (pos 216 *ℤ toZ w64 (ofZ w64 r)) (pos 216 *ℤ r) (216 * span)
+  product = times (plainly (pos 216) (le-refl 216)) (read r {A = span} (omega arith) (lit< tt))
 
-  sum : Known (toZ w64 (78840 * (card % 10000000000)) +ℤ toZ w64 (ofZ w64 (pos 216 *ℤ toZ w64 (ofZ w64 r)))) (pos (78840 * (card % 10000000000)) +ℤ pos 216 *ℤ r) (turn + 216 * 3650000000000)
-  sum = plus (cast (78840 * (card % 10000000000)) {A = turn} (omega arith) (lit< tt)) (kept product (lit< tt))
+  sum : Known (toZ w64 (tenBillionth * (card % cycle)) +ℤ toZ w64 (ofZ w64 (pos 216 *ℤ toZ w64 (ofZ w64 r)))) (pos (tenBillionth * (card % cycle)) +ℤ pos 216 *ℤ r) (turn + 216 * span)
+  sum = plus (cast (tenBillionth * (card % cycle)) {A = turn} (omega arith) (lit< tt)) (kept product (lit< tt))
 
 mul-start : tie.Need-mul-start
 mul-start c = search needs
@@ -59,10 +59,10 @@ mod-turn-requires c κs = search needs
 returns : tie.Need-returns
 returns c =
     let a = c .before .before .before .before .args in
-    let d : c .before .drift .result ≡ remZ (a .days *ℤ pos (getD (a .increases .now) (a .k) 0 % 3650000000000)) (pos 3650000000000) = rw (toZ-ofZ w64 (a .days) (c .before .before .before .before .fits .days)) at (c .before .drift .ensures .0) in
+    let d : c .before .drift .result ≡ remZ (a .days *ℤ pos (getD (a .increases .now) (a .k) 0 % span)) (pos span) = rw (toZ-ofZ w64 (a .days) (c .before .before .before .before .fits .days)) at (c .before .drift .ensures .0) in
     c .mod-turn .ensures .0
     ∙ ap modTurn (kept (sum (c .before .drift .result) (c .before .drift .ensures .1) (getD (a .cards .now) (a .k) 0)) (lit< tt) .is)
-    ∙ ap (λ (z : ℤ). modTurn (pos (78840 * (getD (a .cards .now) (a .k) 0 % 10000000000)) +ℤ pos 216 *ℤ z)) d
+    ∙ ap (λ (z : ℤ). modTurn (pos (tenBillionth * (getD (a .cards .now) (a .k) 0 % cycle)) +ℤ pos 216 *ℤ z)) d
     ∙ longitude-reduced (a .days) (getD (a .cards .now) (a .k) 0) (getD (a .increases .now) (a .k) 0)
 
 pub longitude-on-spec : {M : Type 1} → statement M
