@@ -1,6 +1,6 @@
 -- What stands at a place, worked out from the rows of the code's table: V and the pair of the first main's row, or of the first shallow
 -- constituent's, are those of the definition. From `Search`, and the laws of rows of `arguments` and `nodal`.
-use mathlib.Core.Path.{_≡_, refl, sym, ap, _∙_}
+use mathlib.Core.Path.{_≡_, sym, ap, _∙_}
 use mathlib.Core.List.{List}
 use Prim.Native.Nat.{ℕ, _≤_, _<_}
 use native.Mathlib.Omega.{arith}
@@ -18,7 +18,6 @@ use Rattle.nodal.specs.declared.shallow.Corrected as code
 use Rattle.nodal.proofs.OfTable.{main-of-row}
 use Rattle.month.specs.Month.{Definition, main, shallow, undefined, firstWith, definitionAt, nodal, argumentOf, correctionOf}
 use Rattle.month.specs.View.{mainsOf, shallowsOf, placeIn, firstRow, IsWorked}
-use Rattle.month.specs.declared.Worked.{Worked}
 use Rattle.month.proofs.Search.{row-found, row-missing}
 
 module _ (g : Factors) (l : Longitudes) (maincards : List ℕ) (mainangles satelliteangles : List ℤ) (satelliteratios : List ℕ) (mains : ℕ) (shallowcards : List ℕ) (coefficients : List ℤ) (shallows place : ℕ) where

@@ -2,7 +2,7 @@
 -- By the definitions' clauses.
 use mathlib.Core.Path.{_≡_, refl, sym, ap, subst, _∙_}
 use mathlib.Core.List.{List, [], _∷_, _++_, append-nil, append-assoc}
-use Prim.Native.Nat.{ℕ, zero, suc, _+_, _-_, _^_, _≤_, _<_}
+use Prim.Native.Nat.{ℕ, suc, _+_, _-_, _^_, _≤_, _<_}
 use native.Mathlib.Omega.{arith}
 use native.Mathlib.Nat.{sub-zero}
 use lib.ListN.{getD}
@@ -12,24 +12,25 @@ use Rattle.station.specs.Rows.{recordFrom, recordsFrom}
 use Rattle.arguments.specs.Longitudes.{Longitudes}
 use Rattle.nodal.specs.Latitude.{Factors}
 use Rattle.nodal.specs.Satellites.{Pair}
-use Rattle.nodal.specs.Shallow.{Corrected, tooLarge, pair}
+use Rattle.nodal.specs.Shallow as pairs
+use Rattle.nodal.specs.Shallow.{pair}
 use Rattle.nodal.specs.Ranges.{Small, Sized}
 use Rattle.nodal.specs.View.{pairOf, correctedOf}
 use Rattle.nodal.specs.declared.satellites.Pair as code
 use Rattle.nodal.specs.declared.shallow.Corrected.the-variants.{TooLarge, Within}
-use Rattle.month.specs.Month.{Prepared, refused, prepared, before, recordThen, recordsPrepared, definitionAt, argumentOf, correctionOf, weight, constituent}
+use Rattle.month.specs.Month.{Prepared, tooLarge, prepared, before, recordThen, recordsPrepared, definitionAt, argumentOf, correctionOf, weight, constituent}
 use Rattle.month.specs.View.{IsWorked}
 use Rattle.month.specs.declared.Worked.{Worked}
 
 -- what is done goes before what is left
 joined : (cs : List Constituent) (c : Constituent) (rest : Prepared) → before cs (before (c ∷ []) rest) ≡ before (cs ++ (c ∷ [])) rest
 unfolding before
-joined cs c (refused k) = refl
+joined cs c (tooLarge k) = refl
 joined cs c (prepared rest) = ap prepared (sym (append-assoc cs (c ∷ []) rest))
 
 nothing : (rest : Prepared) → before [] rest ≡ rest
 unfolding before
-nothing (refused k) = refl
+nothing (tooLarge k) = refl
 nothing (prepared rest) = refl
 
 module _ (frequencies : List ℕ) (mains : List Main) (shallows : List Shallow) (g : Factors) (l : Longitudes) (places amplitudes lags : List ℕ) where
@@ -46,7 +47,7 @@ module _ (frequencies : List ℕ) (mains : List Main) (shallows : List Shallow) 
   left-none k n h = let e : n - k ≡ 0 = omega arith in rw e
 
   -- a record that is refused ends the work
-  pub ends-refused : (cs : List Constituent) (k n : ℕ) → k < n → correctionOf g l mains (definitionAt mains shallows (recordFrom places amplitudes lags k .place)) ≡ tooLarge → before cs (left n k) ≡ refused (k + 1)
+  pub ends-refused : (cs : List Constituent) (k n : ℕ) → k < n → correctionOf g l mains (definitionAt mains shallows (recordFrom places amplitudes lags k .place)) ≡ pairs.tooLarge → before cs (left n k) ≡ tooLarge (k + 1)
   unfolding before recordThen
   ends-refused cs k n h e = rw (left-more k n h, e)
 
@@ -68,7 +69,7 @@ module _ (frequencies : List ℕ) (mains : List Main) (shallows : List Shallow) 
   -- ---- with what was worked out at record k
 
   module _ (cs : List Constituent) (k n : ℕ) (whole : Prepared) (inv : before cs (left n k) ≡ whole) (h : k < n) (w : Worked) (is : IsWorked g l mains shallows (getD places k 0) w) where
-    pub refused-at : w .corrected ≡ TooLarge → refused (k + 1) ≡ whole
+    pub refused-at : w .corrected ≡ TooLarge → tooLarge (k + 1) ≡ whole
     refused-at e = sym (ends-refused cs k n h (sym (is .correction) ∙ ap correctedOf e)) ∙ inv
 
     module _ (xy : code.Pair) (e : w .corrected ≡ Within xy) where

@@ -10,12 +10,14 @@ use Rattle.angles.specs.Floor.{floorDiv}
 use Rattle.calendar.specs.Calendar.{dayCount}
 use Rattle.table.specs.Table.{Main, Shallow, Table}
 use Rattle.prepared.specs.Prepared.{Constituent}
+use Rattle.station.specs.Station.{Station}
 use Rattle.station.specs.declared.Record.{Record}
 use Rattle.arguments.specs.Longitudes.{Longitudes, longitudesOn}
 use Rattle.arguments.specs.Arguments.{mainArgument, shallowArgument}
 use Rattle.nodal.specs.Latitude.{Factors, factorsAt}
 use Rattle.nodal.specs.Satellites.{Pair}
-use Rattle.nodal.specs.Shallow.{Corrected, tooLarge, pair, mainCorrected, shallowCorrected}
+use Rattle.nodal.specs.Shallow as pairs
+use Rattle.nodal.specs.Shallow.{Corrected, pair, mainCorrected, shallowCorrected}
 
 -- "The month's instant is 00:00 on the 16th; d is its day count from 1 January 1976."
 unfoldable pub monthDay : ℕ → ℕ → ℤ
@@ -71,24 +73,24 @@ constituent frequencies r v xy =
       lag = r .phase;
       frequency = getD frequencies (r .place) 0;
       p = weight (r .amplitude) (xy .x);
-      q = weight (r .amplitude) (xy .y)
+      q = weight (r .amplitude) (xy .y);
     }
 
 -- ---- the month
 
 -- Every record's constituent, or the first record, from 1, that is refused by 11.
 pub data Prepared : Type 0 where
-  refused : ℕ → Prepared
+  tooLarge : ℕ → Prepared
   prepared : List Constituent → Prepared
 
 -- constituents before those of the records that are left
 unfoldable pub before : List Constituent → Prepared → Prepared
-before cs (refused k) = refused k
+before cs (tooLarge k) = tooLarge k
 before cs (prepared rest) = prepared (cs ++ rest)
 
 -- 11: "asked record by record"
 unfoldable pub recordThen : Corrected → ℕ → (Pair → Constituent) → Prepared → Prepared
-recordThen tooLarge k c rest = refused k
+recordThen pairs.tooLarge k c rest = tooLarge k
 recordThen (pair xy) k c rest = before (c xy ∷ []) rest
 
 -- the records from number k on
@@ -99,8 +101,13 @@ recordsPrepared frequencies mains shallows g l k (r ∷ rs) =
     (constituent frequencies r (argumentOf l mains (definitionAt mains shallows (r .place))))
     (recordsPrepared frequencies mains shallows g l (k + 1) rs)
 
--- A month of a station, from its table, its latitude in signed minutes, its records and the date.
-unfoldable pub monthOf : Table → ℤ → List Record → ℕ → ℕ → Prepared
-monthOf t latitude records year month =
-    recordsPrepared (map (λ f. f .frequency) (t .frequencies)) (t .mains) (t .shallows) (factorsAt latitude)
-    (longitudesOn (monthDay year month) (t .longitudes) (t .increases)) 1 records
+-- the frequencies of the table, by place
+abbrev pub frequenciesIn : Table → List ℕ
+frequenciesIn t = map (λ f. f .frequency) (t .frequencies)
+
+-- "Its V, X, Y, P, Q [..] follow [..] from those cards, that latitude and those records, as lent when accepted, and that date":
+-- the month of a station, from its table and the date
+unfoldable pub monthOf : Table → Station → ℕ → ℕ → Prepared
+monthOf t s year month =
+    recordsPrepared (frequenciesIn t) (t .mains) (t .shallows) (factorsAt (s .latitude))
+    (longitudesOn (monthDay year month) (t .longitudes) (t .increases)) 1 (s .records)

@@ -19,16 +19,16 @@ use Rattle.arguments.specs.Longitudes.{Longitudes}
 use Rattle.nodal.specs.Latitude.{Factors}
 use Rattle.nodal.specs.Ranges.{Small}
 use Rattle.nodal.specs.View.{correctedOf}
-use Rattle.month.specs.Month.{Prepared, refused, prepared, definitionAt, argumentOf, correctionOf, recordsPrepared}
+use Rattle.month.specs.Month.{Prepared, tooLarge, prepared, definitionAt, argumentOf, correctionOf, recordsPrepared}
 use Rattle.month.specs.declared.Worked.{Worked}
-use Rattle.month.specs.declared.Answer.{Answer}
-use Rattle.month.specs.declared.Answer.the-variants.{TooLarge, Done}
+use Rattle.month.specs.declared.Preparation.{Preparation}
+use Rattle.month.specs.declared.Preparation.the-variants.{Ready, TooLarge}
 use Rattle.month.specs.declared.Prepared as code
 
 -- "A refusal returns its number and a place": number 11, and the record
-abbrev pub answeredWith : Answer → Month → Prepared
-answeredWith (TooLarge place) m = refused place
-answeredWith Done m = prepared (constituentsOf m)
+abbrev pub answeredWith : Preparation → Month → Prepared
+answeredWith Ready m = prepared (constituentsOf m)
+answeredWith (TooLarge place) m = tooLarge place
 
 abbrev pub preparedOf : code.Prepared → Prepared
 preparedOf r = answeredWith (r .answer) (r .month)

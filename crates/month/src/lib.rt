@@ -16,19 +16,20 @@ use nodal::shallow::shallow_pair;
 use prepared::Month;
 use prepared::held;
 use prepared::no_constituents;
+use station::Station;
 use table::Table;
 use table::at_u16;
 use table::at_u64;
 ghost use mathlib.Core.Path.{_≡_};
 ghost use mathlib.Core.Bool.{true};
 ghost use mathlib.Core.List.{[], _∷_, _++_};
-ghost use Prim.Native.Nat.{_+_, _<_, _≤_, _^_, min};
+ghost use Prim.Native.Nat.{_+_, _<_, _≤_, _^_};
 ghost use lib.IntN.{natAbs};
 ghost use lib.ListN.{getD};
 ghost use Rattle.calendar.specs.Calendar.{inRange};
 ghost use Rattle.cosine.specs.Fixed.{IsTable};
 ghost use Rattle.table.specs.View.{tableOf};
-ghost use Rattle.station.specs.Rows.{recordsFrom};
+ghost use Rattle.station.specs.Rows.{recordsFrom, stationOf};
 ghost use Rattle.arguments.specs.View.{longitudesOf};
 ghost use Rattle.nodal.specs.Ranges.{AreAngles, AreFactors, Sized};
 ghost use Rattle.nodal.specs.View.{factorsOf};
@@ -36,15 +37,15 @@ ghost use Rattle.nodal.specs.View as nodalView;
 ghost use Rattle.month.specs.Month.{prepared, nodal, weight, monthOf};
 ghost use Rattle.month.specs.View.{preparedOf, heldUpto, frequenciesOf, mainsOf, shallowsOf, placeIn, firstRow, rowsPrepared, Reduced, IsWorked};
 
-// What preparing a month says: that it is done, or the record that refusal 11 fits.
-pub enum Answer {
+// What preparing a month says: that it is ready, or the record, from 1, that is refused by 11.
+pub enum Preparation {
+    Ready,
     TooLarge(usize),
-    Done,
 }
 
-// The answer, and the month where it is done.
+// The answer, and the month where it is ready.
 pub struct Prepared {
-    pub answer: Answer,
+    pub answer: Preparation,
     pub month: Month,
 }
 
@@ -67,7 +68,11 @@ fn main_place(cards: &[u16; 192], row: usize) -> u16
     ensures { λ r. ⌜ r ≡ placeIn 3 (now (cards .entry)) row ⌝ }
 {
     let numbers: &[u16] = cards;
-    if row < numbers.len() { at_u16(numbers, 3 * row) } else { 0 }
+    if row < numbers.len() {
+        at_u16(numbers, 3 * row)
+    } else {
+        0
+    }
 }
 
 // The row of the first main with a place, or the number of mains.
@@ -99,7 +104,15 @@ fn first_shallow(cards: &[u16; 768], shallows: usize, place: u8) -> usize
 }
 
 // The month with a constituent at place k, after those of the places before.
-fn with_constituent(month: Month, k: usize, argument: u64, lag: u16, frequency: u64, p: i32, q: i32) -> Month
+fn with_constituent(
+    month: Month,
+    k: usize,
+    argument: u64,
+    lag: u16,
+    frequency: u64,
+    p: i32,
+    q: i32,
+) -> Month
     requires { ⌜ k < 146 ⌝ }
     ensures { λ r. ⌜ heldUpto r (k + 1) ≡ heldUpto month k ++ (record { argument = argument; lag = lag; frequency = frequency; p = p; q = q } ∷ []) ⌝ }
 {
@@ -113,7 +126,15 @@ fn with_constituent(month: Month, k: usize, argument: u64, lag: u16, frequency: 
 }
 
 // The month with a record's constituent at place k, weighted by its amplitude.
-fn with_record(month: Month, k: usize, argument: u64, frequency: u64, xy: Pair, amplitude: u16, lag: u16) -> Month
+fn with_record(
+    month: Month,
+    k: usize,
+    argument: u64,
+    frequency: u64,
+    xy: Pair,
+    amplitude: u16,
+    lag: u16,
+) -> Month
     requires { ⌜ k < 146 ⌝ }
     requires { ⌜ Sized (2 ^ 22) xy ⌝ }
     ensures { λ r. ⌜ heldUpto r (k + 1) ≡ heldUpto month k ++ (record { argument = argument; lag = lag; frequency = frequency; p = weight amplitude (xy .x); q = weight amplitude (xy .y) } ∷ []) ⌝ }
@@ -131,7 +152,7 @@ fn finished(month: Month, n: usize) -> Prepared
     let mut out = month;
     out.count = n;
     Prepared {
-        answer: Answer::Done,
+        answer: Preparation::Ready,
         month: out,
     }
 }
@@ -140,7 +161,11 @@ fn finished(month: Month, n: usize) -> Prepared
 fn frequency_at(speeds: &[u64; 160], frequencies: usize, place: u8) -> u64
     ensures { λ r. ⌜ r ≡ getD (frequenciesOf (now (speeds .entry)) frequencies) place 0 ⌝ }
 {
-    if (place as usize) < frequencies { at_u64(speeds, place as usize) } else { 0 }
+    if (place as usize) < frequencies {
+        at_u64(speeds, place as usize)
+    } else {
+        0
+    }
 }
 
 // The longitudes that satellites go by.
@@ -181,14 +206,33 @@ fn work_out<'a>(
     if main < mains {
         return Worked {
             argument: main_argument(mainangles, main, l),
-            corrected: main_pair(cosines, maincards, satelliteangles, satelliteratios, main, g, n),
+            corrected: main_pair(
+                cosines,
+                maincards,
+                satelliteangles,
+                satelliteratios,
+                main,
+                g,
+                n,
+            ),
         };
     }
     let shallow = first_shallow(shallowcards, shallows, place);
     if shallow < shallows {
         return Worked {
             argument: shallow_argument(mains, mainangles, shallowcards, coefficients, shallow, l),
-            corrected: shallow_pair(cosines, maincards, satelliteangles, satelliteratios, mains, shallowcards, coefficients, shallow, g, n),
+            corrected: shallow_pair(
+                cosines,
+                maincards,
+                satelliteangles,
+                satelliteratios,
+                mains,
+                shallowcards,
+                coefficients,
+                shallow,
+                g,
+                n,
+            ),
         };
     }
     Worked {
@@ -235,7 +279,7 @@ fn prepare_records<'a>(
         match c {
             Corrected::TooLarge => {
                 return Prepared {
-                    answer: Answer::TooLarge(k + 1),
+                    answer: Preparation::TooLarge(k + 1),
                     month,
                 };
             }
@@ -250,23 +294,29 @@ fn prepare_records<'a>(
 }
 
 // A station's month: every record's constituent, or the first record, from 1, that is refused by 11.
-pub fn prepare<'a>(
-    cosines: &'a [u32; 1025],
+pub fn prepare(
+    cosines: &[u32; 1025],
     table: Table,
-    latitude: i32,
-    count: usize,
-    places: &'a [u8; 146],
-    amplitudes: &'a [u16; 146],
-    lags: &'a [u16; 146],
+    station: Station,
     year: u32,
     month: u32,
 ) -> Prepared
     requires { ⌜ IsTable (now cosines) ⌝ }
     requires { ⌜ inRange year month ≡ true ⌝ }
-    ensures { λ r. ⌜ preparedOf r ≡ monthOf (tableOf table) latitude (recordsFrom (now (places .entry)) (now (amplitudes .entry)) (now (lags .entry)) 0 (min count 146)) year month ⌝ }
+    ensures { λ r. ⌜ preparedOf r ≡ monthOf (tableOf table) (stationOf station) year month ⌝ }
 {
     let days = day_count(year, month, 16);
     let l = longitudes_on(days, &table.longitudes, &table.increases);
-    let g = latitude_factors(cosines, latitude);
-    prepare_records(cosines, table, g, l, held(count), places, amplitudes, lags)
+    let g = latitude_factors(cosines, station.latitude);
+    let n = held(station.count);
+    prepare_records(
+        cosines,
+        table,
+        g,
+        l,
+        n,
+        &station.places,
+        &station.amplitudes,
+        &station.lags,
+    )
 }

@@ -1,11 +1,9 @@
+-- `month::first_main` meets its contract. The invariant: the rows that are left give the first row of all.
 use borrow.Author.Needs.{needs}
 use Rattle.month.proofs.first_main.Statement.{statement}
 use Rattle.month.proofs.first_main.Tie as tie
-use Rattle.month.proofs.first_main.Reads as reads
-use Rattle.month.proofs.first_main.Lts as lts
-use Rattle.month.proofs.main_place.Reads as main-place-reads
-use mathlib.Core.Path.{_≡_, refl, sym, _∙_}
-use Prim.Native.Nat.{ℕ, _+_, _-_, _<_, _≤_}
+use mathlib.Core.Path.{_≡_}
+use Prim.Native.Nat.{_-_}
 use native.Mathlib.Nat.{sub-zero}
 use native.Mathlib.Omega.{arith}
 use borrow.Author.Tests.{eq-eqb, ne-eqb}
@@ -18,37 +16,30 @@ Inv-loop cards mains place row₀ row = firstRow (placeIn 3 cards) place row (ma
 abbrev μ-loop : tie.MeasureT-loop
 μ-loop cards mains place row₀ row = mains - row
 
--- src/lib.rt:35:5
 loop-holds : tie.Need-loop-holds Inv-loop μ-loop
 loop-holds c = simp sub-zero
 
--- src/lib.rt:36:12
 main-place-requires : tie.Need-main-place-requires Inv-loop μ-loop
 main-place-requires c κs = search needs
 
--- src/lib.rt:37:13
 returns : tie.Need-returns Inv-loop μ-loop
 returns c =
     let a = c .before .before .before .before .args in
     let s = c .before .before .before in
     rw (first-more (placeIn 3 (a .cards .now)) (a .place) (s .loop .row) (a .mains) (c .before .before .loop-test .taken), ← c .before .main-place .ensures, eq-eqb (c .before .main-place .result) (a .place) (c .if1 .taken)) at (s .loop .inv)
 
--- src/lib.rt:39:9
 add-row : tie.Need-add-row Inv-loop μ-loop
 add-row c = search needs
 
--- src/lib.rt:35:5
 loop-less : tie.Need-loop-less Inv-loop μ-loop
 loop-less c = omega arith
 
--- src/lib.rt:35:5
 loop-again : tie.Need-loop-again Inv-loop μ-loop
 loop-again c =
     let a = c .before .before .before .before .args in
     let s = c .before .before .before in
     rw (first-more (placeIn 3 (a .cards .now)) (a .place) (s .loop .row) (a .mains) (c .before .before .loop-test .taken), ← c .before .main-place .ensures, ne-eqb (c .before .main-place .result) (a .place) (c .if1 .left)) at (s .loop .inv)
 
--- src/lib.rt:31:1
 returns-2 : tie.Need-returns-2 Inv-loop μ-loop
 returns-2 c =
     let a = c .before .before .args in

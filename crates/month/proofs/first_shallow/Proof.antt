@@ -1,11 +1,9 @@
+-- `month::first_shallow` meets its contract. The invariant: the rows that are left give the first row of all.
 use borrow.Author.Needs.{needs}
 use Rattle.month.proofs.first_shallow.Statement.{statement}
 use Rattle.month.proofs.first_shallow.Tie as tie
-use Rattle.month.proofs.first_shallow.Reads as reads
-use Rattle.month.proofs.first_shallow.Lts as lts
-use Rattle.arguments.proofs.shallow_card.Reads as shallow-card-reads
-use mathlib.Core.Path.{_≡_, refl, sym, _∙_}
-use Prim.Native.Nat.{ℕ, _+_, _-_, _<_, _≤_}
+use mathlib.Core.Path.{_≡_}
+use Prim.Native.Nat.{_-_}
 use native.Mathlib.Nat.{sub-zero}
 use native.Mathlib.Omega.{arith}
 use borrow.Author.Tests.{eq-eqb, ne-eqb}
@@ -18,37 +16,30 @@ Inv-loop cards shallows place row₀ row = firstRow (placeIn 6 cards) place row 
 abbrev μ-loop : tie.MeasureT-loop
 μ-loop cards shallows place row₀ row = shallows - row
 
--- src/lib.rt:49:5
 loop-holds : tie.Need-loop-holds Inv-loop μ-loop
 loop-holds c = simp sub-zero
 
--- src/lib.rt:50:12
 shallow-card-requires : tie.Need-shallow-card-requires Inv-loop μ-loop
 shallow-card-requires c κs = search needs
 
--- src/lib.rt:51:13
 returns : tie.Need-returns Inv-loop μ-loop
 returns c =
     let a = c .before .before .before .before .args in
     let s = c .before .before .before in
     rw (first-more (placeIn 6 (a .cards .now)) (a .place) (s .loop .row) (a .shallows) (c .before .before .loop-test .taken), ← c .before .shallow-card .ensures, eq-eqb (c .before .shallow-card .result) (a .place) (c .if1 .taken)) at (s .loop .inv)
 
--- src/lib.rt:53:9
 add-row : tie.Need-add-row Inv-loop μ-loop
 add-row c = search needs
 
--- src/lib.rt:49:5
 loop-less : tie.Need-loop-less Inv-loop μ-loop
 loop-less c = omega arith
 
--- src/lib.rt:49:5
 loop-again : tie.Need-loop-again Inv-loop μ-loop
 loop-again c =
     let a = c .before .before .before .before .args in
     let s = c .before .before .before in
     rw (first-more (placeIn 6 (a .cards .now)) (a .place) (s .loop .row) (a .shallows) (c .before .before .loop-test .taken), ← c .before .shallow-card .ensures, ne-eqb (c .before .shallow-card .result) (a .place) (c .if1 .left)) at (s .loop .inv)
 
--- src/lib.rt:45:1
 returns-2 : tie.Need-returns-2 Inv-loop μ-loop
 returns-2 c =
     let a = c .before .before .args in

@@ -1,33 +1,25 @@
+-- `month::main_place` meets its contract: where the place stands, or that the row stands past the array.
 use borrow.Author.Needs.{needs}
 use Rattle.month.proofs.main_place.Statement.{statement}
 use Rattle.month.proofs.main_place.Tie as tie
-use Rattle.month.proofs.main_place.Reads as reads
-use Rattle.month.proofs.main_place.Lts as lts
-use Rattle.table.proofs.at_u16.Reads as at-u16-reads
-use mathlib.Core.Path.{_≡_, sym, _∙_, ap}
-use Prim.Native.Nat.{ℕ, _+_, _*_, _≤_}
+use mathlib.Core.Path.{sym, _∙_}
 use native.Mathlib.Nat.{add-zero}
 use native.Mathlib.Omega.{arith}
 use lib.Dec.{lit<}
-use lib.ListN.{length, getD}
 use Rattle.table.proofs.Rows.{row-at}
 use Rattle.arguments.proofs.Rows.{row-past-end}
 
--- src/lib.rt:27:46
 mul-at-u16 : tie.Need-mul-at-u16
 mul-at-u16 c = search needs
 
--- src/lib.rt:27:30
 at-u16-requires : tie.Need-at-u16-requires
 at-u16-requires c κs = search needs
 
--- src/lib.rt:23:1
 returns : tie.Need-returns
 returns c =
     let a = c .before .before .before .args in
     c .at-u16 .ensures ∙ sym (rw add-zero at (row-at 0 3 (a .cards .now) (a .row) 0 (lit< tt)))
 
--- src/lib.rt:23:1
 returns-2 : tie.Need-returns-2
 returns-2 c =
     let a = c .before .before .args in

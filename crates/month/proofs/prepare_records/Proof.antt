@@ -1,31 +1,23 @@
+-- `month::prepare_records` meets its contract. The invariant: what is done before what is left gives the whole. Each arm of the match
+-- cites what was worked out at the record (`Records`).
 use borrow.Author.Needs.{needs}
 use Rattle.month.proofs.prepare_records.Statement.{statement}
 use Rattle.month.proofs.prepare_records.Tie as tie
-use Rattle.month.proofs.prepare_records.Reads as reads
-use Rattle.month.proofs.prepare_records.Lts as lts
-use Rattle.month.proofs.finished.Reads as finished-reads
-use Rattle.month.proofs.frequency_at.Reads as frequency-at-reads
-use Rattle.month.proofs.with_record.Reads as with-record-reads
-use Rattle.month.proofs.work_out.Reads as work-out-reads
-use Rattle.prepared.proofs.no_constituents.Reads as no-constituents-reads
-use mathlib.Core.Path.{_≡_, refl, sym, ap, _∙_}
-use Prim.Native.Nat.{ℕ, _+_, _-_, _<_, _≤_}
+use mathlib.Core.Path.{_≡_, sym, ap, _∙_}
+use Prim.Native.Nat.{ℕ, _+_, _-_, _≤_}
 use native.Mathlib.Omega.{arith}
 use Rattle.arguments.specs.View.{longitudesOf}
 use Rattle.nodal.specs.View.{factorsOf}
-use Rattle.month.specs.Month.{before}
+use Rattle.month.specs.Month.{before, Prepared, prepared}
 use Rattle.month.specs.View.{heldUpto, frequenciesOf, mainsOf, shallowsOf, rowsPrepared}
 use Rattle.station.specs.Rows.{recordsFrom}
-use Rattle.month.proofs.Records.{left, ends-refused, goes-on, all-done, none-done}
+use Rattle.month.proofs.Records.{left, all-done, none-done, refused-at, small-at, accepted-at}
 use Rattle.table.specs.declared.Table.{Table}
 use Rattle.prepared.specs.View.{constituentsAfter}
 use mathlib.Core.List.{List}
 use Rattle.arguments.specs.Longitudes.{Longitudes}
 use Rattle.nodal.specs.Latitude.{Factors}
-use Rattle.month.specs.Month.{Prepared}
 use Rattle.table.specs.Table.{Main, Shallow}
-use Rattle.month.proofs.Records.{refused-at, small-at, accepted-at}
-use Rattle.month.specs.Month.{prepared}
 
 -- the table's lists
 abbrev frequenciesIn : Table → List ℕ
@@ -48,34 +40,27 @@ Inv-loop cosines g l n places amplitudes lags table month₀ k₀ month k =
 abbrev μ-loop : tie.MeasureT-loop
 μ-loop cosines g l n places amplitudes lags table month₀ k₀ month k = n - k
 
--- src/lib.rt:217:9
 no-constituents-requires : tie.Need-no-constituents-requires Inv-loop μ-loop
 no-constituents-requires c κs = search needs
 
--- src/lib.rt:219:5
 loop-holds : tie.Need-loop-holds Inv-loop μ-loop
 unfolding constituentsAfter
 loop-holds c =
     let a = c .before .args in
     (none-done (frequenciesIn (a .t2)) (mainsIn (a .t2)) (shallowsIn (a .t2)) (factorsOf (a .g)) (longitudesOf (a .l)) (a .places .now) (a .amplitudes .now) (a .lags .now) (a .n), omega arith)
 
--- src/lib.rt:230:13
 element-copy-out-work-out : tie.Need-element-copy-out-work-out Inv-loop μ-loop
 element-copy-out-work-out c = search needs
 
--- src/lib.rt:220:13
 work-out-requires : tie.Need-work-out-requires Inv-loop μ-loop
 work-out-requires c κs = search needs
 
--- src/lib.rt:238:46
 enum-told : tie.Need-enum-told Inv-loop μ-loop
 enum-told c = search needs
 
--- src/lib.rt:238:46
 add-t28 : tie.Need-add-t28 Inv-loop μ-loop
 add-t28 c = search needs
 
--- src/lib.rt:237:17
 returns : tie.Need-returns Inv-loop μ-loop
 returns c =
     let a = c .before .before .before .before .before .before .before .before .before .before .before .before .before .before .args in
@@ -83,65 +68,55 @@ returns c =
     refused-at (frequenciesIn (a .t2)) (mainsIn (a .t2)) (shallowsIn (a .t2)) (factorsOf (a .g)) (longitudesOf (a .l)) (a .places .now) (a .amplitudes .now) (a .lags .now)
     (heldUpto (s .loop .month) (s .loop .k)) (s .loop .k) (a .n) _ (s .loop .inv .0) (c .before .before .before .before .before .before .before .before .before .before .before .loop-test .taken) (c .before .before .work-out .result) (c .before .before .work-out .ensures) (c .enum-told .given .1)
 
--- src/lib.rt:242:31
 enum-known-c : tie.Need-enum-known-c Inv-loop μ-loop
 enum-known-c c = search needs
 
--- src/lib.rt:243:80
 element-copy-out-frequency-at : tie.Need-element-copy-out-frequency-at Inv-loop μ-loop
 element-copy-out-frequency-at c = search needs
 
--- src/lib.rt:243:21
 frequency-at-requires : tie.Need-frequency-at-requires Inv-loop μ-loop
 frequency-at-requires c κs = search needs
 
--- src/lib.rt:244:74
 mul-with-record : tie.Need-mul-with-record Inv-loop μ-loop
 mul-with-record c = omega (arith, c .before .before .before .before .before .before .before .before .before .before .before .before .before .before .before .before .loop-test .taken, c .before .before .before .before .before .before .before .before .before .before .before .before .before .before .before .before .before .before .before .pre .1 .1 .1)
 
--- src/lib.rt:244:74
 element-copy-out-with-record : tie.Need-element-copy-out-with-record Inv-loop μ-loop
 element-copy-out-with-record c = omega (arith, c .before .before .before .before .before .before .before .before .before .before .before .before .before .before .before .before .loop-test .taken, c .before .before .before .before .before .before .before .before .before .before .before .before .before .before .before .before .before .before .before .pre .1 .1 .1)
 
--- src/lib.rt:244:89
 mul-with-record-2 : tie.Need-mul-with-record-2 Inv-loop μ-loop
 mul-with-record-2 c = omega (arith, c .before .before .before .before .before .before .before .before .before .before .before .before .before .before .before .before .before .loop-test .taken, c .before .before .before .before .before .before .before .before .before .before .before .before .before .before .before .before .before .before .before .before .pre .1 .1 .1)
 
--- src/lib.rt:244:89
 element-copy-out-with-record-2 : tie.Need-element-copy-out-with-record-2 Inv-loop μ-loop
 element-copy-out-with-record-2 c = omega (arith, c .before .before .before .before .before .before .before .before .before .before .before .before .before .before .before .before .before .loop-test .taken, c .before .before .before .before .before .before .before .before .before .before .before .before .before .before .before .before .before .before .before .before .pre .1 .1 .1)
 
--- src/lib.rt:244:17
 with-record-requires : tie.Need-with-record-requires Inv-loop μ-loop
 with-record-requires c κs =
     let a = c .before .before .before .before .before .before .before .before .before .before .before .before .before .before .before .before .before .before .before .before .before .args in
-    let s = c .before .before .before .before .before .before .before .before .before .before .before .before .before .before .before .before .before .before .before in
-    (omega (arith, c .before .before .before .before .before .before .before .before .before .before .before .before .before .before .before .before .before .before .loop-test .taken, c .before .before .before .before .before .before .before .before .before .before .before .before .before .before .before .before .before .before .before .before .before .pre .1 .1 .1),
-    small-at (frequenciesIn (a .t2)) (mainsIn (a .t2)) (shallowsIn (a .t2)) (factorsOf (a .g)) (longitudesOf (a .l)) (a .places .now) (a .amplitudes .now) (a .lags .now)
-    (heldUpto (s .loop .month) (s .loop .k)) (s .loop .k) (a .n) _ (s .loop .inv .0) (c .before .before .before .before .before .before .before .before .before .before .before .before .before .before .before .before .before .before .loop-test .taken) (c .before .before .before .before .before .before .before .before .before .work-out .result) (c .before .before .before .before .before .before .before .before .before .work-out .ensures) (c .before .before .before .before .before .before .before .c .given .0 .0) (c .before .before .before .before .before .before .before .c .given .1))
+    let s = c .before .before .before .before .before .before .before .before .before .before .before .before .before .before .before .before .before .before .before in (
+      omega (arith, c .before .before .before .before .before .before .before .before .before .before .before .before .before .before .before .before .before .before .loop-test .taken, c .before .before .before .before .before .before .before .before .before .before .before .before .before .before .before .before .before .before .before .before .before .pre .1 .1 .1),
+      small-at (frequenciesIn (a .t2)) (mainsIn (a .t2)) (shallowsIn (a .t2)) (factorsOf (a .g)) (longitudesOf (a .l)) (a .places .now) (a .amplitudes .now) (a .lags .now)
+          (heldUpto (s .loop .month) (s .loop .k)) (s .loop .k) (a .n) _ (s .loop .inv .0) (c .before .before .before .before .before .before .before .before .before .before .before .before .before .before .before .before .before .before .loop-test .taken) (c .before .before .before .before .before .before .before .before .before .work-out .result) (c .before .before .before .before .before .before .before .before .before .work-out .ensures) (c .before .before .before .before .before .before .before .c .given .0 .0) (c .before .before .before .before .before .before .before .c .given .1),
+    )
 
--- src/lib.rt:245:17
 add-k : tie.Need-add-k Inv-loop μ-loop
 add-k c = omega (arith, c .before .before .before .before .before .before .before .before .before .before .before .before .before .before .before .before .before .before .before .loop-test .taken, c .before .before .before .before .before .before .before .before .before .before .before .before .before .before .before .before .before .before .before .before .before .before .pre .1 .1 .1)
 
--- src/lib.rt:219:5
 loop-less : tie.Need-loop-less Inv-loop μ-loop
 loop-less c = omega (arith, c .before .before .before .before .before .before .before .before .before .before .before .before .before .before .before .before .before .before .before .loop-test .taken)
 
--- src/lib.rt:219:5
 loop-again : tie.Need-loop-again Inv-loop μ-loop
 loop-again c =
     let a = c .before .before .before .before .before .before .before .before .before .before .before .before .before .before .before .before .before .before .before .before .before .before .args in
-    let s = c .before .before .before .before .before .before .before .before .before .before .before .before .before .before .before .before .before .before .before .before in
-    (accepted-at (frequenciesIn (a .t2)) (mainsIn (a .t2)) (shallowsIn (a .t2)) (factorsOf (a .g)) (longitudesOf (a .l)) (a .places .now) (a .amplitudes .now) (a .lags .now)
-    (heldUpto (s .loop .month) (s .loop .k)) (s .loop .k) (a .n) _ (s .loop .inv .0) (c .before .before .before .before .before .before .before .before .before .before .before .before .before .before .before .before .before .before .before .loop-test .taken) (c .before .before .before .before .before .before .before .before .before .before .work-out .result) (c .before .before .before .before .before .before .before .before .before .before .work-out .ensures) (c .before .before .before .before .before .before .before .before .c .given .0 .0) (c .before .before .before .before .before .before .before .before .c .given .1)
-    (c .before .before .before .frequency-at .result) (heldUpto (c .with-record .result) (s .loop .k + 1)) (c .before .before .before .frequency-at .ensures) (c .with-record .ensures), omega (arith, c .before .before .before .before .before .before .before .before .before .before .before .before .before .before .before .before .before .before .before .loop-test .taken))
+    let s = c .before .before .before .before .before .before .before .before .before .before .before .before .before .before .before .before .before .before .before .before in (
+      accepted-at (frequenciesIn (a .t2)) (mainsIn (a .t2)) (shallowsIn (a .t2)) (factorsOf (a .g)) (longitudesOf (a .l)) (a .places .now) (a .amplitudes .now) (a .lags .now)
+          (heldUpto (s .loop .month) (s .loop .k)) (s .loop .k) (a .n) _ (s .loop .inv .0) (c .before .before .before .before .before .before .before .before .before .before .before .before .before .before .before .before .before .before .before .loop-test .taken) (c .before .before .before .before .before .before .before .before .before .before .work-out .result) (c .before .before .before .before .before .before .before .before .before .before .work-out .ensures) (c .before .before .before .before .before .before .before .before .c .given .0 .0) (c .before .before .before .before .before .before .before .before .c .given .1)
+          (c .before .before .before .frequency-at .result) (heldUpto (c .with-record .result) (s .loop .k + 1)) (c .before .before .before .frequency-at .ensures) (c .with-record .ensures),
+      omega (arith, c .before .before .before .before .before .before .before .before .before .before .before .before .before .before .before .before .before .before .before .loop-test .taken),
+    )
 
--- src/lib.rt:249:5
 finished-requires : tie.Need-finished-requires Inv-loop μ-loop
 finished-requires c κs = search needs
 
--- src/lib.rt:201:1
 returns-2 : tie.Need-returns-2 Inv-loop μ-loop
 returns-2 c =
     let a = c .before .before .before .before .args in

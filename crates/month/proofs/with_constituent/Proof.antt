@@ -1,8 +1,7 @@
+-- `month::with_constituent` meets its contract: five stores at place k leave the places before it.
 use borrow.Author.Needs.{needs}
 use Rattle.month.proofs.with_constituent.Statement.{statement}
 use Rattle.month.proofs.with_constituent.Tie as tie
-use Rattle.month.proofs.with_constituent.Reads as reads
-use Rattle.month.proofs.with_constituent.Lts as lts
 use mathlib.Core.Path.{_≡_}
 use Prim.Native.Nat.{_<_}
 use native.Mathlib.Omega.{arith}
@@ -11,47 +10,36 @@ use mir.Syntax.{w32}
 use mir.ValLaws.{toZ-ofZ}
 use Rattle.month.proofs.Put.{put-last}
 
--- src/lib.rt:77:5
 mul-out : tie.Need-mul-out
 mul-out c = search needs
 
--- src/lib.rt:77:5
 element-write-out : tie.Need-element-write-out
 element-write-out c = search needs
 
--- src/lib.rt:78:5
 mul-out-2 : tie.Need-mul-out-2
 mul-out-2 c = search needs
 
--- src/lib.rt:78:5
 element-write-out-2 : tie.Need-element-write-out-2
 element-write-out-2 c = search needs
 
--- src/lib.rt:79:5
 mul-out-3 : tie.Need-mul-out-3
 mul-out-3 c = search needs
 
--- src/lib.rt:79:5
 element-write-out-3 : tie.Need-element-write-out-3
 element-write-out-3 c = search needs
 
--- src/lib.rt:80:5
 mul-p : tie.Need-mul-p
 mul-p c = search needs
 
--- src/lib.rt:80:5
 element-set-from-p : tie.Need-element-set-from-p
 element-set-from-p c = search needs
 
--- src/lib.rt:81:5
 mul-q : tie.Need-mul-q
 mul-q c = search needs
 
--- src/lib.rt:81:5
 element-set-from-q : tie.Need-element-set-from-q
 element-set-from-q c = search needs
 
--- src/lib.rt:72:1
 returns : tie.Need-returns
 returns c =
     let a = c .args in

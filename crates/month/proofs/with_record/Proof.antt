@@ -1,31 +1,22 @@
+-- `month::with_record` meets its contract: from those of the functions that it calls.
 use borrow.Author.Needs.{needs}
 use Rattle.month.proofs.with_record.Statement.{statement}
 use Rattle.month.proofs.with_record.Tie as tie
-use Rattle.month.proofs.with_record.Reads as reads
-use Rattle.month.proofs.with_record.Lts as lts
-use Rattle.month.proofs.weight_of.Reads as weight-of-reads
-use Rattle.month.proofs.with_constituent.Reads as with-constituent-reads
-use mathlib.Core.Path.{_≡_}
 use mir.Syntax.{w32, w64}
 use mir.Val.{SFits}
 use mir.ValLaws.{toZ-ofZ}
-use lib.IntN.{ℤ, natAbs}
 use native.Mathlib.Omega.{arith}
 use Rattle.angles.proofs.Machine.{fits-below}
 
--- src/lib.rt:121:9
 weight-of-requires : tie.Need-weight-of-requires
 weight-of-requires c κs = search needs
 
--- src/lib.rt:122:9
 weight-of-requires-2 : tie.Need-weight-of-requires-2
 weight-of-requires-2 c κs = search needs
 
--- src/lib.rt:123:5
 with-constituent-requires : tie.Need-with-constituent-requires
 with-constituent-requires c κs = search needs
 
--- src/lib.rt:116:1
 returns : tie.Need-returns
 returns c =
     let a = c .before .before .before .before .before .args in
