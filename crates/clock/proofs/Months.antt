@@ -17,7 +17,8 @@ use Rattle.prepared.specs.View.{constituentAt, constituentsAfter, constituentsF
 use Rattle.calendar.specs.Calendar.{monthMinutes}
 use Rattle.calendar.proofs.Months.{minutes-short}
 use Rattle.month.specs.Month as specs
-use Rattle.month.specs.Month.{monthOf, tooLarge, prepared, preparedOf}
+use Rattle.month.specs.Month.{monthOf, tooLarge, prepared}
+use Rattle.month.specs.View.{preparedOf}
 use Rattle.month.specs.declared.Prepared.{Prepared}
 use Rattle.month.specs.declared.Preparation.the-variants as preparation
 use Rattle.month.proofs.Ranges.{prepared-in-range}

@@ -6,6 +6,8 @@ ghost use mathlib.Core.Path.{_≡_};
 ghost use Prim.Native.Nat.{_≤_, _<_};
 ghost use lib.Dec.{ltb};
 ghost use Rattle.clock.specs.Calls.{lastMinute};
+ghost use mathlib.Core.Bool.{true};
+ghost use Rattle.calendar.specs.Calendar.{inRange};
 ghost use Rattle.clock.specs.View.{Made};
 ghost use Rattle.clock.specs.Posts.{NewPost, CardsPost, StationPost, DatePost, HeightPost, SeriesPost, TurnsPost, PreparedPost};
 ghost use Rattle.station.specs.Posts.{recordsOf};
@@ -180,7 +182,7 @@ pub fn set_station(clock: Clock, latitude: i32, records: &[Record]) -> After
 
 // The month of a date that is in range.
 fn prepare_month(clock: Clock, year: u32, month: u32) -> After
-    requires { ⌜ Made clock ⌝ }
+    requires { ⌜ Made clock × (inRange year month ≡ true) ⌝ }
     ensures { λ r. ⌜ PreparedPost clock year month (r .answer) (r .clock) ⌝ }
 {
     let table = clock.table;

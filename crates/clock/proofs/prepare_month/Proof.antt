@@ -36,13 +36,13 @@ enum-known-answer c = search needs
 returns : tie.Need-returns
 returns c =
     let s = c .before .before .before .before .before .before .before .before .before .before in
-    rw (c .with-month .ensures, c .before .before .before .before .before .before .before .month-minutes .ensures) (month-ready (s .args .t1) (s .args .year) (s .args .month) (c .before .before .before .before .prepare .result) (s .pre) (c .before .before .before .before .prepare .ensures) (c .before .before .enum-told .given .1))
+    rw (c .with-month .ensures, c .before .before .before .before .before .before .before .month-minutes .ensures) (month-ready (s .args .t1) (s .args .year) (s .args .month) (c .before .before .before .before .prepare .result) (s .pre .0) (c .before .before .before .before .prepare .ensures) (c .before .before .enum-told .given .1))
 
 -- src/lib.rt:161:1
 returns-2 : tie.Need-returns-2
 returns-2 c =
     let s = c .before .before .before .before .before .before .before .before .before in
-    month-refused (s .args .t1) (s .args .year) (s .args .month) (c .before .before .before .prepare .result) (s .pre) (c .before .before .before .prepare .ensures) _ (c .before .answer .given .1)
+    month-refused (s .args .t1) (s .args .year) (s .args .month) (c .before .before .before .prepare .result) (s .pre .0) (c .before .before .before .prepare .ensures) _ (c .before .answer .given .1)
 
 pub prepare-month-spec : {M : Type 1} → statement M
 prepare-month-spec =

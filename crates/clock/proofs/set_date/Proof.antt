@@ -27,7 +27,7 @@ returns-3 c = let s = c .before .before .before .before .before .before in date-
 
 -- src/lib.rt:209:5
 prepare-month-requires : tie.Need-prepare-month-requires
-prepare-month-requires c κs = search needs
+prepare-month-requires c κs = (c .before .before .before .before .before .before .pre, sym (c .before .in-range .ensures) ∙ not-false (c .before .in-range .result) (c .if3 .left))
 
 -- src/lib.rt:187:1
 returns-4 : tie.Need-returns-4
