@@ -3,3 +3,4 @@ pub mod Floors
 pub mod Angles
 pub mod Machine
 pub mod Known
+pub mod Sums

@@ -7,25 +7,26 @@ use native.Mathlib.Nat.{lt-of-le-of-lt, not-suc-le-zero, zero-add}
 use native.Mathlib.Omega.{arith}
 use borrow.Author.Tests.{ltb-true, le-ltb}
 use lib.Dec.{T}
-use lib.IntN.{ℤ, pos, negsuc, negℤ, natAbs, _-ℤ_, +ℤ-idl}
+use lib.IntN.{ℤ, pos, negsuc, natAbs, _-ℤ_}
 use lib.Signed.{mag, ltZ, nonNeg}
 use mir.Syntax.{w64}
 use mir.Val.{Fits, SFits, toZ, ofZ}
 use mir.ValLaws.{toZ-ofZ, toZ-pos}
 use Rattle.angles.proofs.Ints.{mag-natAbs}
 
--- a size up to 2^62 fits
+-- what a register gives back of z
+abbrev pub held : ℤ → ℤ
+held z = toZ w64 (ofZ w64 z)
+
+-- a size below 2^63 fits
 pub fits-below : (z : ℤ) → natAbs z < 2 ^ 63 → SFits w64 z
 fits-below z h = record { sfits = lt-of-le-of-lt (mag-natAbs z) h }
-
-pub fits-within : (z : ℤ) → natAbs z ≤ 2 ^ 62 → SFits w64 z
-fits-within z h = fits-below z (omega arith)
 
 pub fits-as : {x y : ℤ} → x ≡ y → SFits w64 y → SFits w64 x
 fits-as e f = subst (SFits w64) (sym e) f
 
--- what a register gives back of x, where x is y and y fits: a chain of operations goes step by step
-pub through : {x y : ℤ} → x ≡ y → SFits w64 y → toZ w64 (ofZ w64 x) ≡ y
+-- where x is y and y fits, y is what it gives back
+pub through : {x y : ℤ} → x ≡ y → SFits w64 y → held x ≡ y
 through {x} e f = toZ-ofZ w64 x (fits-as e f) ∙ e
 
 -- ---- the sign of a number, tested
@@ -74,7 +75,3 @@ signed-is m h = toZ-pos w64 m h
 -- -1 - m of a natural m
 pub below-zero-is : (m : ℕ) → m < 2 ^ 63 → negsuc 0 -ℤ toZ w64 m ≡ negsuc m
 below-zero-is m h = ap (λ (z : ℤ). negsuc 0 -ℤ z) (signed-is m h) ∙ minus-one-less-pos m
-
--- -m of a natural m
-pub negative-is : (m : ℕ) → m < 2 ^ 63 → pos 0 -ℤ toZ w64 m ≡ negℤ (pos m)
-negative-is m h = ap (λ (z : ℤ). pos 0 -ℤ z) (signed-is m h) ∙ +ℤ-idl (negℤ (pos m))

@@ -1,18 +1,17 @@
 // The cosine and sine of an angle in ticks, in units of 2^-30, by a table that is made once and lent.
 ghost use mathlib.Core.Path.{_≡_};
 ghost use Prim.Native.Nat.{_+_, _-_, _*_, _/_, _<_, _≤_};
-ghost use lib.IntN.{pos, natAbs};
+ghost use mathlib.Core.Bool.{cond};
+ghost use lib.IntN.{pos, negℤ, natAbs};
 ghost use Rattle.cosine.specs.Fraction.{inQuadrant};
 ghost use Rattle.cosine.specs.Fixed.{one, entries, step, entry, fixedCosine, fixedSine, IsTable};
 
 mod table;
 
 use table::COSINES;
-
-const STEP: u64 = 192_480_468_750;
-
-// Steps in a quarter turn.
-const STEPS: u64 = 1_024;
+pub use table::ENTRIES;
+use table::STEP;
+use table::STEPS;
 
 pub struct CosineAndSine {
     pub cosine: i64,
@@ -20,14 +19,14 @@ pub struct CosineAndSine {
 }
 
 // The table, to be made once and lent.
-pub fn cosines() -> [u32; 1025]
+pub fn cosines() -> [u32; ENTRIES]
     ensures { λ r. ⌜ IsTable r ⌝ }
 {
     COSINES
 }
 
 // On the line from entry i to the next, r ticks past entry i, rounded.
-fn on_line(table: &[u32; 1025], i: usize, r: u64) -> u64
+fn on_line(table: &[u32; ENTRIES], i: usize, r: u64) -> u64
     requires { ⌜ IsTable (now table) ⌝ }
     requires { ⌜ (i + 1 < entries) × (r ≤ step) ⌝ }
     ensures { λ v. ⌜ v ≡ entry step i - (entry step i - entry step (i + 1)) * r / step ⌝ }
@@ -38,26 +37,36 @@ fn on_line(table: &[u32; 1025], i: usize, r: u64) -> u64
     c - (c - d) * r / STEP
 }
 
-// Of the cosine's size at r past the start of quadrant q, near, and at r before its end, far, the one that counts, with its sign.
+// One of two sizes, without a branch.
+fn either(first: bool, a: u64, b: u64) -> u64
+    ensures { λ r. ⌜ r ≡ cond first a b ⌝ }
+{
+    if first { a } else { b }
+}
+
+fn with_sign(minus: bool, size: u64) -> i64
+    requires { ⌜ size ≤ one ⌝ }
+    ensures { λ z. ⌜ z ≡ cond minus (negℤ (pos size)) (pos size) ⌝ }
+    ensures { λ z. ⌜ natAbs z ≤ one ⌝ }
+{
+    if minus {
+        return -(size as i64);
+    }
+    size as i64
+}
+
+// In quadrant q the cosine has the size near in an even one and far in an odd one, and is negative in the two in the middle.
 fn in_quadrant(q: u64, near: u64, far: u64) -> i64
-    requires { ⌜ (near ≤ one) × (far ≤ one) ⌝ }
+    requires { ⌜ (q < 4) × (near ≤ one) × (far ≤ one) ⌝ }
     ensures { λ z. ⌜ z ≡ inQuadrant q (pos near) (pos far) ⌝ }
     ensures { λ z. ⌜ natAbs z ≤ one ⌝ }
 {
-    if q == 0 {
-        return near as i64;
-    }
-    if q == 1 {
-        return -(far as i64);
-    }
-    if q == 2 {
-        return -(near as i64);
-    }
-    far as i64
+    let size = either(q % 2 == 0, near, far);
+    with_sign((q + 1) % 4 >= 2, size)
 }
 
 // The fixed cosine and the fixed sine of an angle.
-pub fn wave(table: &[u32; 1025], ticks: u64) -> CosineAndSine
+pub fn wave(table: &[u32; ENTRIES], ticks: u64) -> CosineAndSine
     requires { ⌜ IsTable (now table) ⌝ }
     ensures { λ w. ⌜ w .cosine ≡ fixedCosine ticks ⌝ }
     ensures { λ w. ⌜ w .sine ≡ fixedSine ticks ⌝ }

@@ -13,6 +13,7 @@ use Rattle.angles.specs.Floor.{floorDiv}
 use Rattle.angles.proofs.Ints.{natAbs-neg, distrib, distrib-right}
 use Rattle.cosine.specs.Fraction.{quarter, whole, cosine, sine}
 use Rattle.cosine.specs.Fixed.{one, bound, fixedCosine, fixedSine, Within}
+use Rattle.cosine.proofs.Computed.{cosine-within}
 use Rattle.prepared.specs.Prepared.{Constituent}
 use Rattle.heights.specs.Height.{angleAt, share, sharesAt, heightAt}
 use Rattle.heights.specs.Exact.{exactSum, sizes, scale, Near}
@@ -75,11 +76,11 @@ module _ (e : ℕ) (claim : (t : ℕ) → Within e (fixedCosine t) (cosine t)) w
 
 -- ---- at cosine's own bound: both sides are divided by it
 
-pub height-is-near : ((t : ℕ) → Within bound (fixedCosine t) (cosine t)) → (cs : List Constituent) (minute : ℕ) → Near cs minute (heightAt cs minute)
-height-is-near claim cs minute =
+pub height-is-near : (cs : List Constituent) (minute : ℕ) → Near cs minute (heightAt cs minute)
+height-is-near cs minute =
     let h = heightAt cs minute in
     let a = pos (scale * whole) *ℤ h in
     let b = pos (scale / 4_096) *ℤ exactSum cs minute in
     let ea : pos bound *ℤ a ≡ pos (whole * one * 4_096) *ℤ h = sym (times-assoc (pos bound) (pos (scale * whole)) h) ∙ ap (λ (n : ℕ). pos n *ℤ h) (omega arith) in
     let eb : pos bound *ℤ b ≡ pos one *ℤ exactSum cs minute = sym (times-assoc (pos bound) (pos (scale / 4_096)) (exactSum cs minute)) in
-    omega (arith, apart-times (pos bound) a b, ap₂ (λ (x y : ℤ). natAbs (x -ℤ y)) ea eb, height-near bound claim cs minute)
+    omega (arith, apart-times (pos bound) a b, ap₂ (λ (x y : ℤ). natAbs (x -ℤ y)) ea eb, height-near bound cosine-within cs minute)

@@ -4,12 +4,15 @@
 use Prim.Native.Nat.{ℕ, zero, suc, _+_, _-_, _*_, _/_, _%_, _≤_, _<_}
 use native.Mathlib.Omega.{arith}
 use native.Mathlib.Nat.{div-add-mod}
-use mathlib.Core.Path.{_≡_, refl, sym, ap, _∙_}
+use mathlib.Core.Path.{_≡_, refl, sym, ap, ap₂, _∙_}
+use mathlib.Core.List.{List}
+use lib.ListN.{getD}
 use lib.IntN.{ℤ, pos, negsuc, negℤ, subℕ, _+ℤ_, _-ℤ_, _*ℤ_, +ℤ-assoc, +ℤ-comm, negℤ-+ℤ}
 use Rattle.angles.specs.Ticks.{turn, centidegree}
 use Rattle.angles.specs.Floor.{modTurn}
 use Rattle.angles.proofs.Ints.{by-order, distrib, four}
 use Rattle.heights.specs.Height.{angle}
+use Rattle.heights.specs.Angles.{Angles, Advances, Below}
 
 -- ---- remainders of differences
 
@@ -84,3 +87,17 @@ advance-is f s = advance-of f (f / lap) (f % lap) s (f % lap * s / lap) (f % lap
   where
     advance-of : (f r x s t w : ℕ) → lap * r + x ≡ f → lap * t + w ≡ x * s → w < lap → w * 1_314 ≡ 1_314 * f * s % turn
     advance-of f r x s t w ef ew h = omega (arith, ap (λ (k : ℕ). k * s) ef)
+
+-- ---- arrays of angles
+
+module _ (arguments lags frequencies angles ticks : List ℕ) (count minute step : ℕ) (now : Angles arguments lags frequencies count minute angles) (each : Advances frequencies count step ticks) where
+  pub angles-later : (later : List ℕ) → ((k : ℕ) → k < count → getD later k 0 ≡ (getD angles k 0 + getD ticks k 0) % turn) → Angles arguments lags frequencies count (minute + step) later
+  angles-later later moved k h =
+      moved k h
+      ∙ (ap₂ (λ (a b : ℕ). (a + b) % turn) (now k h) (each k h) ∙ sym (angle-later (getD arguments k 0) (getD lags k 0) (getD frequencies k 0) minute step))
+
+  pub angles-below : Below count angles
+  angles-below k h = rw (now k h) (angle-below (getD arguments k 0) (getD lags k 0) (getD frequencies k 0) minute)
+
+  pub ticks-below : Below count ticks
+  ticks-below k h = rw (each k h) (omega arith)

@@ -1,14 +1,12 @@
--- `cosine::in_quadrant` meets its contract: the quadrant's case, and the size that is negated or not.
+-- `cosine::in_quadrant` meets its contract: the four quadrants, each computed.
 -- Assumes nothing.
-use mathlib.Core.Path.{_≡_, refl, sym, _∙_, subst}
-use Prim.Native.Nat.{ℕ, zero, suc, _≤_, _<_, _^_}
-use native.Mathlib.Nat.{le-of-eq, le-trans}
+use mathlib.Core.Path.{_≡_, refl, sym, _∙_, ap, subst}
+use mathlib.Core.Bool.{Bool, true, false, cond}
+use Prim.Native.Nat.{ℕ, zero, suc, _+_, _%_, _≤_, _<_}
 use native.Mathlib.Omega.{arith}
-use lib.IntN.{ℤ, pos, negℤ, natAbs, _-ℤ_}
-use mir.Syntax.{w64}
-use mir.Val.{SFits, toZ, ofZ}
-use Rattle.angles.proofs.Ints.{natAbs-neg}
-use Rattle.angles.proofs.Machine.{fits-below, fits-as, through, signed-is, negative-is}
+use lib.Dec.{eqb, leb, lit<}
+use lib.IntN.{ℤ, pos, negℤ}
+use Rattle.angles.proofs.Known.{known, kept, says}
 use Rattle.cosine.specs.Fraction.{inQuadrant}
 use Rattle.cosine.specs.Fixed.{one}
 use borrow.Author.Needs.{needs}
@@ -16,75 +14,40 @@ use Rattle.cosine.proofs.in_quadrant.Statement.{statement}
 use Rattle.cosine.proofs.in_quadrant.Tie as tie
 use Rattle.cosine.proofs.in_quadrant.Reads as reads
 use Rattle.cosine.proofs.in_quadrant.Lts as lts
+use Rattle.cosine.proofs.either.Reads as either-reads
+use Rattle.cosine.proofs.with_sign.Reads as with-sign-reads
 
--- z is y, and no larger than one
-abbrev Is : ℤ → ℤ → Type 0
-Is z y = (z ≡ y) × (natAbs z ≤ one)
+either-small : (t : Bool) (a b : ℕ) → a ≤ one → b ≤ one → cond t a b ≤ one
+either-small true a b h k = h
+either-small false a b h k = k
 
-kept : (m : ℕ) → m ≤ one → Is (toZ w64 m) (pos m)
-kept m h = let e = signed-is m (omega arith) in (e, subst (λ (z : ℤ). natAbs z ≤ one) (sym e) h)
+abbrev signed : ℕ → ℕ → ℤ
+signed q size = cond (leb 2 ((q + 1) % 4)) (negℤ (pos size)) (pos size)
 
-small-negative : (m : ℕ) → m ≤ one → natAbs (negℤ (pos m)) ≤ one
-small-negative m h = le-trans (le-of-eq (natAbs-neg (pos m))) h
+size-and-sign : (q near far : ℕ) → q < 4 → signed q (cond (eqb (q % 2) 0) near far) ≡ inQuadrant q (pos near) (pos far)
+size-and-sign zero near far h = refl
+size-and-sign (suc zero) near far h = refl
+size-and-sign (suc (suc zero)) near far h = refl
+size-and-sign (suc (suc (suc zero))) near far h = refl
+size-and-sign (suc (suc (suc (suc q)))) near far h = let no : ⊥ = omega arith in absurd no
 
-negative-fits : (m : ℕ) → m ≤ one → SFits w64 (pos 0 -ℤ toZ w64 m)
-negative-fits m h = let k = small-negative m h in fits-as (negative-is m (omega arith)) (fits-below (negℤ (pos m)) (omega arith))
+either-requires : tie.Need-either-requires
+either-requires c κs = search needs
 
-negated : (m : ℕ) → m ≤ one → Is (toZ w64 (ofZ w64 (pos 0 -ℤ toZ w64 m))) (negℤ (pos m))
-negated m h =
-    let k = small-negative m h in
-    let e = through (negative-is m (omega arith)) (fits-below (negℤ (pos m)) (omega arith)) in
-    (e, subst (λ (z : ℤ). natAbs z ≤ one) (sym e) k)
+add-with-sign : tie.Need-add-with-sign
+add-with-sign c = search needs
 
-last-quadrant : (q : ℕ) (near far : ℤ) → (q ≡ 0 → ⊥) → (q ≡ 1 → ⊥) → (q ≡ 2 → ⊥) → inQuadrant q near far ≡ far
-last-quadrant zero near far a b c = absurd (a refl)
-last-quadrant (suc zero) near far a b c = absurd (b refl)
-last-quadrant (suc (suc zero)) near far a b c = absurd (c refl)
-last-quadrant (suc (suc (suc q))) near far a b c = refl
-
-cast-result : tie.Need-cast-result
-cast-result c = search needs
+with-sign-requires : tie.Need-with-sign-requires
+with-sign-requires c κs =
+    let a = c .before .args in
+    rw (c .either .ensures) (either-small (eqb (a .q % 2) 0) (a .near) (a .far) (c .before .pre .1) (c .before .pre .2))
 
 returns : tie.Need-returns
-returns c = rw (c .if1 .taken) (kept (c .before .args .near) (c .before .pre .0))
-
-cast-result-2 : tie.Need-cast-result-2
-cast-result-2 c = search needs
-
-sub-result : tie.Need-sub-result
-sub-result c = negative-fits (c .before .before .args .far) (c .before .before .pre .1)
-
-returns-2 : tie.Need-returns-2
-returns-2 c = rw (c .if2 .taken) (negated (c .before .before .args .far) (c .before .before .pre .1))
-
-cast-result-3 : tie.Need-cast-result-3
-cast-result-3 c = search needs
-
-sub-result-2 : tie.Need-sub-result-2
-sub-result-2 c = negative-fits (c .before .before .before .args .near) (c .before .before .before .pre .0)
-
-returns-3 : tie.Need-returns-3
-returns-3 c = rw (c .if3 .taken) (negated (c .before .before .before .args .near) (c .before .before .before .pre .0))
-
-cast-result-4 : tie.Need-cast-result-4
-cast-result-4 c = search needs
-
-returns-4 : tie.Need-returns-4
-returns-4 c =
-    let a = c .before .before .before .args in
-    rw (last-quadrant (a .q) (pos (a .near)) (pos (a .far)) (c .before .before .if1 .left) (c .before .if2 .left) (c .if3 .left)) (kept (a .far) (c .before .before .before .pre .1))
+returns c =
+    let a = c .before .before .args in
+    let e = c .with-sign .ensures in
+    let is = e .0 ∙ ap (signed (a .q)) (c .before .either .ensures) ∙ size-and-sign (a .q) (a .near) (a .far) (c .before .before .pre .0) in
+    says (kept (known is (e .1)) (lit< tt))
 
 pub in-quadrant-spec : {M : Type 1} → statement M
-in-quadrant-spec =
-    tie.close
-    (tie.spec
-    cast-result
-    returns
-    cast-result-2
-    sub-result
-    returns-2
-    cast-result-3
-    sub-result-2
-    returns-3
-    cast-result-4
-    returns-4)
+in-quadrant-spec = tie.close (tie.spec either-requires add-with-sign with-sign-requires returns)

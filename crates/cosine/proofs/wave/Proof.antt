@@ -1,14 +1,9 @@
 -- `cosine::wave` meets its contract: the two lines are the fixed cosine on both sides of the quadrant (`Quadrants`).
 -- Assumes nothing.
-use mathlib.Core.Path.{_≡_, sym, _∙_, subst}
-use Prim.Native.Nat.{ℕ, _≤_}
-use native.Mathlib.Omega.{arith}
-use lib.IntN.{ℤ, natAbs}
-use mir.Syntax.{w64}
-use mir.Val.{toZ, ofZ}
-use mir.ValLaws.{toZ-ofZ}
-use Rattle.angles.proofs.Machine.{fits-below}
-use Rattle.cosine.specs.Fixed.{one, fixedCosine}
+use mathlib.Core.Path.{_∙_}
+use lib.Dec.{lit<}
+use Rattle.angles.proofs.Known.{known, kept, says}
+use Rattle.cosine.specs.Fixed.{fixedCosine}
 use Rattle.cosine.proofs.Computed.{passed}
 use Rattle.cosine.proofs.Quadrants.{cosine-is, sine-is}
 use borrow.Author.Needs.{needs}
@@ -18,12 +13,6 @@ use Rattle.cosine.proofs.wave.Reads as reads
 use Rattle.cosine.proofs.wave.Lts as lts
 use Rattle.cosine.proofs.in_quadrant.Reads as in-quadrant-reads
 use Rattle.cosine.proofs.on_line.Reads as on-line-reads
-
-read-back : (z : ℤ) → natAbs z ≤ one → toZ w64 (ofZ w64 z) ≡ z
-read-back z h = toZ-ofZ w64 z (fits-below z (omega arith))
-
-small : (z : ℤ) → natAbs z ≤ one → natAbs (toZ w64 (ofZ w64 z)) ≤ one
-small z h = subst (λ (y : ℤ). natAbs y ≤ one) (sym (read-back z h)) h
 
 on-line-requires : tie.Need-on-line-requires
 on-line-requires c κs = search needs
@@ -55,14 +44,11 @@ returns c =
     let t = c .before .before .before .before .args .ticks in
     let near = c .before .before .before .on-line .ensures .0 in
     let far = c .before .before .on-line2 .ensures .0 in
-    let x = c .before .in-quadrant in
-    let y = c .in-quadrant2 in (
-      read-back (x .result) (x .ensures .1) ∙ x .ensures .0 ∙ cosine-is passed t near far,
-      (
-        read-back (y .result) (y .ensures .1) ∙ y .ensures .0 ∙ sine-is passed t near far,
-        (small (x .result) (x .ensures .1), small (y .result) (y .ensures .1)),
-      ),
-    )
+    let x = c .before .in-quadrant .ensures in
+    let y = c .in-quadrant2 .ensures in
+    let cosine = says (kept (known (x .0 ∙ cosine-is passed t near far) (x .1)) (lit< tt)) in
+    let sine = says (kept (known (y .0 ∙ sine-is passed t near far) (y .1)) (lit< tt)) in
+    (cosine .0, (sine .0, (cosine .1, sine .1)))
 
 pub wave-spec : {M : Type 1} → statement M
 wave-spec =

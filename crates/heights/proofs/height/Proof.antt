@@ -1,0 +1,25 @@
+-- `heights::height` meets its contract: the sum over the angles at the minute. Assumes nothing.
+use mathlib.Core.Path.{_∙_}
+use mir.Syntax.{w64}
+use mir.Val.{SFits}
+use mir.ValLaws.{toZ-ofZ}
+use borrow.Author.Needs.{needs}
+use Rattle.heights.proofs.height.Statement.{statement}
+use Rattle.heights.proofs.height.Tie as tie
+use Rattle.heights.proofs.height.Reads as reads
+use Rattle.heights.proofs.height.Lts as lts
+use Rattle.heights.proofs.angles_at.Reads as angles-at-reads
+use Rattle.heights.proofs.height_of.Reads as height-of-reads
+
+angles-at-requires : tie.Need-angles-at-requires
+angles-at-requires c κs = search needs
+
+height-of-requires : tie.Need-height-of-requires
+height-of-requires c κs = search needs
+
+returns : tie.Need-returns
+returns c = let a = c .before .before .before .args in let f : SFits w64 (c .height-of .result) = search needs in
+    toZ-ofZ w64 (c .height-of .result) f ∙ c .height-of .ensures (a .arguments .now) (a .lags .now) (a .frequencies .now) (a .minute) (c .before .before .angles-at .ensures)
+
+pub height-spec : {M : Type 1} → statement M
+height-spec = tie.close (tie.spec angles-at-requires height-of-requires returns)
