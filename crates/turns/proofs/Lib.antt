@@ -1,2 +1,3 @@
 pub mod Cuts
 pub mod Strides
+pub mod Onward

@@ -9,8 +9,9 @@ use native.Mathlib.Omega.{arith}
 use borrow.Author.Tests.{ltb-false, lt-ltb, le-ltb}
 use lib.Dec.{ltb}
 use lib.IntN.{ℤ}
+use lib.ListN.{length}
 use Rattle.turns.specs.Search.{Turn, differ, laterEnd, turnIn, turnsFrom, turnsOf}
-use Rattle.turns.proofs.Cuts.{same-else, end-within}
+use Rattle.turns.proofs.Cuts.{by-test, same-else, end-within}
 
 module _ (slope : ℕ → ℤ) (stride : ℕ) (some : 0 < stride) (last : ℕ) where
   -- ---- more strides than minutes
@@ -25,6 +26,20 @@ module _ (slope : ℕ → ℤ) (stride : ℕ) (some : 0 < stride) (last : ℕ) w
       (λ e. let l = ltb-false last (minute + stride) e in
       let w = end-within slope minute stride some in
       rw (strides-enough m n (laterEnd slope minute stride) (omega arith) (omega arith), strides-enough m n (minute + stride) (omega arith) (omega arith)))
+
+  -- ---- no more turns than minutes
+
+  turns-few-in : (n minute : ℕ) → length (turnsFrom slope stride last n minute) ≤ n
+  unfolding turnsFrom
+  turns-few-in zero minute = le-refl 0
+  turns-few-in (suc n) minute =
+      let one = turns-few-in n (laterEnd slope minute stride) in
+      let same = turns-few-in n (minute + stride) in
+      by-test (λ ts. length ts ≤ suc n) (ltb last (minute + stride)) [] _ (λ e. omega arith)
+      (λ e. by-test (λ ts. length ts ≤ suc n) (differ (slope minute) (slope (minute + stride))) (turnIn slope minute stride ∷ turnsFrom slope stride last n (laterEnd slope minute stride)) (turnsFrom slope stride last n (minute + stride)) (λ d. omega arith) (λ d. omega arith))
+
+  pub turns-few : (minute : ℕ) → length (turnsOf slope stride minute last) ≤ last
+  turns-few minute = let few = turns-few-in (last - minute) minute in omega arith
 
   -- ---- one stride
 

@@ -1,7 +1,9 @@
 // Turns of the water: where its slope changes sense, in a prepared month. The table of cosines and the arrays are lent.
 ghost use mathlib.Core.Path.{_≡_};
+ghost use mathlib.Core.Bool.{cond};
 ghost use mathlib.Core.List.{List, []};
 ghost use Prim.Native.Nat.{ℕ, _+_, _*_, _≤_, _<_, _^_};
+ghost use lib.Dec.{ltb};
 ghost use lib.IntN.{ℤ, natAbs};
 ghost use lib.ListN.{length};
 ghost use Rattle.cosine.specs.Fixed.{IsTable};
@@ -10,7 +12,8 @@ ghost use Rattle.heights.specs.Height.{angle, heightAt};
 ghost use Rattle.turns.specs.Slope.{fall, fallsAt, slopeAt, rising, InRange};
 ghost use Rattle.turns.specs.Stride.{strideOf};
 ghost use Rattle.turns.specs.Search.{differ, earlierEnd, smaller, turnsOf};
-ghost use Rattle.turns.specs.Written.{given, returnedOf};
+ghost use Rattle.turns.specs.Written.{firstHigh, given, returnedOf, Given};
+ghost use Rattle.turns.specs.Posts.{slopeOf, heightOf, BracketPost, NextPost};
 
 // How many turns were found, and whether the first is high.
 pub struct Summary {
@@ -29,6 +32,15 @@ struct Bracket {
     minute: u64,
     early: i64,
     late: i64,
+}
+
+// A turn, whether it is high, the minute from which the search resumes and the slope there.
+struct Next {
+    found: bool,
+    turn: u64,
+    high: bool,
+    later: u64,
+    slope: i64,
 }
 
 // The minutes between a station's trials for a turn, by the amplitudes of K1, O1, M2, S2.
@@ -69,4 +81,238 @@ fn size(slope: i64) -> u64
         return (-1 - slope) as u64 + 1;
     }
     slope as u64
+}
+
+// The slope at a minute.
+pub fn slope<'a>(
+    table: &'a [u32; 1025],
+    arguments: &'a [u64; 146],
+    lags: &'a [u16; 146],
+    frequencies: &'a [u64; 146],
+    ps: &'a [i32; 146],
+    qs: &'a [i32; 146],
+    count: usize,
+    minute: u64,
+) -> i64
+    requires { ⌜ IsTable (now table) × ((count ≤ 146) × InRange count (now frequencies)) ⌝ }
+    requires { ⌜ minute ≤ 44_640 ⌝ }
+    ensures { λ r. ⌜ r ≡ slopeOf (now (arguments .entry)) (now (lags .entry)) (now (frequencies .entry)) (now (ps .entry)) (now (qs .entry)) count minute ⌝ }
+{
+    0
+}
+
+fn height<'a>(
+    table: &'a [u32; 1025],
+    arguments: &'a [u64; 146],
+    lags: &'a [u16; 146],
+    frequencies: &'a [u64; 146],
+    ps: &'a [i32; 146],
+    qs: &'a [i32; 146],
+    count: usize,
+    minute: u64,
+) -> i64
+    requires { ⌜ IsTable (now table) × ((count ≤ 146) × (minute ≤ 44_640)) ⌝ }
+    ensures { λ r. ⌜ r ≡ heightOf (now (arguments .entry)) (now (lags .entry)) (now (frequencies .entry)) (now (ps .entry)) (now (qs .entry)) count minute ⌝ }
+{
+    0
+}
+
+// Halves a bracket whose ends' slopes are given until its ends are one minute apart.
+fn bisect<'a>(
+    table: &'a [u32; 1025],
+    arguments: &'a [u64; 146],
+    lags: &'a [u16; 146],
+    frequencies: &'a [u64; 146],
+    ps: &'a [i32; 146],
+    qs: &'a [i32; 146],
+    count: usize,
+    start: u64,
+    length: u64,
+    early: i64,
+    late: i64,
+) -> Bracket
+    requires { ⌜ IsTable (now table) × ((count ≤ 146) × InRange count (now frequencies)) ⌝ }
+    requires { ⌜ (0 < length) × (start + length ≤ 44_640) ⌝ }
+    requires { ⌜ (early ≡ slopeOf (now arguments) (now lags) (now frequencies) (now ps) (now qs) count start) × (late ≡ slopeOf (now arguments) (now lags) (now frequencies) (now ps) (now qs) count (start + length)) ⌝ }
+    ensures { λ r. ⌜ BracketPost (slopeOf (now (arguments .entry)) (now (lags .entry)) (now (frequencies .entry)) (now (ps .entry)) (now (qs .entry)) count) start length r ⌝ }
+{
+    if length <= 1 {
+        return Bracket {
+            minute: start,
+            early: early,
+            late: late,
+        };
+    }
+    let half = length / 2;
+    let middle = slope(
+        table,
+        arguments,
+        lags,
+        frequencies,
+        ps,
+        qs,
+        count,
+        start + half,
+    );
+    if differs(early, middle) {
+        return bisect(
+            table,
+            arguments,
+            lags,
+            frequencies,
+            ps,
+            qs,
+            count,
+            start,
+            half,
+            early,
+            middle,
+        );
+    }
+    bisect(
+        table,
+        arguments,
+        lags,
+        frequencies,
+        ps,
+        qs,
+        count,
+        start + half,
+        length - half,
+        middle,
+        late,
+    )
+}
+
+// The end with the smaller slope size, the earlier if equal.
+fn turn_of(b: Bracket) -> u64
+    requires { ⌜ b .minute < 44_640 ⌝ }
+    ensures { λ r. ⌜ r ≡ cond (ltb (natAbs (b .late)) (natAbs (b .early))) (b .minute + 1) (b .minute) ⌝ }
+{
+    if size(b.late) < size(b.early) {
+        return b.minute + 1;
+    }
+    b.minute
+}
+
+// Strides from a minute until the ends' slopes differ in sense, and finds the turn between them.
+fn next_turn<'a>(
+    table: &'a [u32; 1025],
+    arguments: &'a [u64; 146],
+    lags: &'a [u16; 146],
+    frequencies: &'a [u64; 146],
+    ps: &'a [i32; 146],
+    qs: &'a [i32; 146],
+    count: usize,
+    stride: u64,
+    last: u64,
+    minute: u64,
+    here: i64,
+) -> Next
+    requires { ⌜ IsTable (now table) × ((count ≤ 146) × InRange count (now frequencies)) ⌝ }
+    requires { ⌜ (0 < stride) × ((stride ≤ 720) × ((minute ≤ last) × (last ≤ 44_640))) ⌝ }
+    requires { ⌜ here ≡ slopeOf (now arguments) (now lags) (now frequencies) (now ps) (now qs) count minute ⌝ }
+    ensures { λ r. ⌜ NextPost (slopeOf (now (arguments .entry)) (now (lags .entry)) (now (frequencies .entry)) (now (ps .entry)) (now (qs .entry)) count) stride last minute r ⌝ }
+{
+    let mut from = minute;
+    let mut behind = here;
+    while from + stride <= last {
+        let ahead = slope(
+            table,
+            arguments,
+            lags,
+            frequencies,
+            ps,
+            qs,
+            count,
+            from + stride,
+        );
+        if differs(behind, ahead) {
+            let b = bisect(
+                table,
+                arguments,
+                lags,
+                frequencies,
+                ps,
+                qs,
+                count,
+                from,
+                stride,
+                behind,
+                ahead,
+            );
+            return Next {
+                found: true,
+                turn: turn_of(b),
+                high: rises(behind),
+                later: b.minute + 1,
+                slope: b.late,
+            };
+        }
+        from = from + stride;
+        behind = ahead;
+    }
+    Next {
+        found: false,
+        turn: last,
+        high: false,
+        later: from,
+        slope: behind,
+    }
+}
+
+// How many turns there are, and whether the first is high.
+fn count_turns<'a>(
+    table: &'a [u32; 1025],
+    arguments: &'a [u64; 146],
+    lags: &'a [u16; 146],
+    frequencies: &'a [u64; 146],
+    ps: &'a [i32; 146],
+    qs: &'a [i32; 146],
+    count: usize,
+    stride: u64,
+    first: u64,
+    last: u64,
+) -> Summary
+    requires { ⌜ IsTable (now table) × ((count ≤ 146) × InRange count (now frequencies)) ⌝ }
+    requires { ⌜ (0 < stride) × ((stride ≤ 720) × ((first ≤ last) × (last ≤ 44_640))) ⌝ }
+    ensures { λ r. ⌜ r .count ≡ length (turnsOf (slopeOf (now (arguments .entry)) (now (lags .entry)) (now (frequencies .entry)) (now (ps .entry)) (now (qs .entry)) count) stride first last) ⌝ }
+    ensures { λ r. ⌜ r .high ≡ firstHigh (turnsOf (slopeOf (now (arguments .entry)) (now (lags .entry)) (now (frequencies .entry)) (now (ps .entry)) (now (qs .entry)) count) stride first last) ⌝ }
+{
+    let here = slope(table, arguments, lags, frequencies, ps, qs, count, first);
+    let mut next = next_turn(
+        table,
+        arguments,
+        lags,
+        frequencies,
+        ps,
+        qs,
+        count,
+        stride,
+        last,
+        first,
+        here,
+    );
+    let high = next.high;
+    let mut found: usize = 0;
+    while next.found {
+        found = found + 1;
+        next = next_turn(
+            table,
+            arguments,
+            lags,
+            frequencies,
+            ps,
+            qs,
+            count,
+            stride,
+            last,
+            next.later,
+            next.slope,
+        );
+    }
+    Summary {
+        count: found,
+        high: high,
+    }
 }
