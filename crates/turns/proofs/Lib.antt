@@ -1,3 +1,4 @@
+pub mod Falls
 pub mod Cuts
 pub mod Strides
 pub mod Onward

@@ -79,7 +79,7 @@ module _ (slope : ℕ → ℤ) (stride : ℕ) (some : 0 < stride) (last minute f
           high = s ∙ sym (ap firstHigh one);
           turn = turn-within;
           later = omega arith;
-          there = e ∙ p .late
+          there = e ∙ p .late;
         }
 
 -- ---- the turns that are left, once the next is known

@@ -1,17 +1,19 @@
 -- What the functions of the search promise.
 -- Assumes nothing.
-use Prim.Native.Nat.{ℕ, _+_, _≤_}
+use Prim.Native.Nat.{ℕ, _+_, _≤_, _<_}
 use mathlib.Core.Path.{_≡_}
 use mathlib.Core.Bool.{cond}
 use mathlib.Core.List.{List, [], _∷_}
 use lib.IntN.{ℤ}
+use lib.ListN.{length, getD, take}
 use Rattle.prepared.specs.View.{constituentsFrom}
 use Rattle.heights.specs.Height.{heightAt}
 use Rattle.turns.specs.Slope.{slopeAt}
 use Rattle.turns.specs.Search.{Turn, earlierEnd, turnsOf}
-use Rattle.turns.specs.Written.{firstHigh}
+use Rattle.turns.specs.Written.{firstHigh, minutesOf}
 use Rattle.turns.specs.declared.Bracket.{Bracket}
 use Rattle.turns.specs.declared.Next.{Next}
+use Rattle.turns.specs.declared.Summary.{Summary}
 
 -- the slope of the constituents that five lists hold
 abbrev pub slopeOf : List ℕ → List ℕ → List ℕ → List ℤ → List ℤ → ℕ → ℕ → ℤ
@@ -39,3 +41,14 @@ pub record NextPost (slope : ℕ → ℤ) (stride last minute : ℕ) (r : Next) 
   pub turn : r .turn ≤ last
   pub later : r .later ≤ last
   pub there : r .slope ≡ slope (r .later)
+
+-- the first n minutes kept are minutes of a month
+abbrev pub Kept : ℕ → List ℕ → Type 0
+Kept n kept = (length kept ≡ 44_640) × ((n ≤ 44_640) × ((k : ℕ) → k < n → getD kept k 0 ≤ 44_640))
+
+-- all turns: how many, whether the first is high, and their minutes kept
+pub record FoundPost (turns : List Turn) (kept : List ℕ) (r : Summary) : Type 0 where
+  pub count : r .count ≡ length turns
+  pub high : r .high ≡ firstHigh turns
+  pub minutes : take (r .count) kept ≡ minutesOf turns
+  pub within : Kept (r .count) kept

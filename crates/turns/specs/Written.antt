@@ -7,15 +7,15 @@ use lib.Dec.{ltb}
 use lib.IntN.{ℤ}
 use lib.ListN.{length, drop}
 use Rattle.turns.specs.Search.{Turn}
-use Rattle.turns.specs.declared.Turns.{Turns}
-use Rattle.turns.specs.declared.Turns.the-variants.{Found, TooMany}
+use Rattle.turns.specs.declared.Searched.{Searched}
+use Rattle.turns.specs.declared.Searched.the-variants.{Found, TooMany}
 
 -- "returned: how many, and whether the first is high"; or a refusal's number
 pub data Returned : Type 0 where
   found : ℕ → Bool → Returned
   refused : ℕ → Returned
 
-abbrev pub returnedOf : Turns → Returned
+abbrev pub returnedOf : Searched → Returned
 returnedOf (Found s) = found (s .count) (s .high)
 returnedOf TooMany = refused 10
 
@@ -24,6 +24,9 @@ pub record Given : Type 0 where
   pub returned : Returned
   pub minutes : List ℕ
   pub heights : List ℤ
+
+abbrev pub givenOf : Searched → List ℕ → List ℤ → Given
+givenOf r minutes heights = record { returned = returnedOf r; minutes = minutes; heights = heights }
 
 -- "whether the first is high .. (false if none)"
 abbrev pub firstHigh : List Turn → Bool
@@ -34,13 +37,17 @@ firstHigh (t ∷ ts) = t .high
 abbrev pub inFront : {A : Type 0} → List A → List A → List A
 inFront new old = new ++ drop (length new) old
 
--- "Written: minutes, heights" (the height at each turn's minute); refused: "more turns than either lent buffer holds"
+-- the minutes of turns
+abbrev pub minutesOf : List Turn → List ℕ
+minutesOf turns = map (λ (t : Turn). t .minute) turns
+
+-- "Written: minutes, heights" (of each turn's minute), "from the front"; refused: "more turns than either lent buffer holds"
 unfoldable pub given : (ℕ → ℤ) → List Turn → List ℕ → List ℤ → Given
 given height turns minutes heights =
     cond (ltb (length minutes) (length turns) || ltb (length heights) (length turns))
     (record { returned = refused 10; minutes = minutes; heights = heights })
     (record {
       returned = found (length turns) (firstHigh turns);
-      minutes = inFront (map (λ (t : Turn). t .minute) turns) minutes;
-      heights = inFront (map (λ (t : Turn). height (t .minute)) turns) heights;
+      minutes = inFront (minutesOf turns) minutes;
+      heights = inFront (map height (minutesOf turns)) heights;
     })

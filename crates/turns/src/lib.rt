@@ -1,19 +1,19 @@
 // Turns of the water: where its slope changes sense, in a prepared month. The table of cosines and the arrays are lent.
 ghost use mathlib.Core.Path.{_≡_};
 ghost use mathlib.Core.Bool.{cond};
-ghost use mathlib.Core.List.{List, []};
+ghost use mathlib.Core.List.{map};
 ghost use Prim.Native.Nat.{ℕ, _+_, _*_, _≤_, _<_, _^_};
 ghost use lib.Dec.{ltb};
 ghost use lib.IntN.{ℤ, natAbs};
-ghost use lib.ListN.{length};
+ghost use lib.ListN.{length, take};
 ghost use Rattle.cosine.specs.Fixed.{IsTable};
 ghost use Rattle.prepared.specs.View.{constituentsFrom};
 ghost use Rattle.heights.specs.Height.{angle, heightAt};
 ghost use Rattle.turns.specs.Slope.{fall, fallsAt, slopeAt, rising, InRange};
 ghost use Rattle.turns.specs.Stride.{strideOf};
 ghost use Rattle.turns.specs.Search.{differ, earlierEnd, smaller, turnsOf};
-ghost use Rattle.turns.specs.Written.{firstHigh, given, returnedOf, Given};
-ghost use Rattle.turns.specs.Posts.{slopeOf, heightOf, BracketPost, NextPost};
+ghost use Rattle.turns.specs.Written.{inFront, given, givenOf};
+ghost use Rattle.turns.specs.Posts.{slopeOf, heightOf, BracketPost, NextPost, FoundPost, Kept};
 
 // How many turns were found, and whether the first is high.
 pub struct Summary {
@@ -22,7 +22,7 @@ pub struct Summary {
 }
 
 // What a search returns.
-pub enum Turns {
+pub enum Searched {
     Found(Summary),
     TooMany,
 }
@@ -83,6 +83,25 @@ fn size(slope: i64) -> u64
     slope as u64
 }
 
+fn angle_at(argument: u64, lag: u16, frequency: u64, minute: u64) -> u64
+    requires { ⌜ minute ≤ 44_640 ⌝ }
+    ensures { λ r. ⌜ r ≡ angle argument lag frequency minute ⌝ }
+{
+    0
+}
+
+// What a constituent of weights P and Q takes from the slope at an angle.
+fn fall_at(table: &[u32; 1025], angle: u64, p: i32, q: i32, frequency: u64) -> i64
+    requires { ⌜ IsTable (now table) ⌝ }
+    requires { ⌜ frequency ≤ 4_999_999_999 ⌝ }
+    ensures { λ r. ⌜ r ≡ fall p q frequency angle ⌝ }
+    ensures { λ r. ⌜ natAbs r ≤ 2 ^ 32 * 4_999_999 ⌝ }
+{
+    let w = cosine::wave(table, angle);
+    let whole = (heights::weigh(p, w.sine) + heights::weigh(q, w.cosine)) >> 30;
+    whole * (frequency / 1_000) as i64
+}
+
 // The slope at a minute.
 pub fn slope<'a>(
     table: &'a [u32; 1025],
@@ -98,23 +117,14 @@ pub fn slope<'a>(
     requires { ⌜ minute ≤ 44_640 ⌝ }
     ensures { λ r. ⌜ r ≡ slopeOf (now (arguments .entry)) (now (lags .entry)) (now (frequencies .entry)) (now (ps .entry)) (now (qs .entry)) count minute ⌝ }
 {
-    0
-}
-
-fn height<'a>(
-    table: &'a [u32; 1025],
-    arguments: &'a [u64; 146],
-    lags: &'a [u16; 146],
-    frequencies: &'a [u64; 146],
-    ps: &'a [i32; 146],
-    qs: &'a [i32; 146],
-    count: usize,
-    minute: u64,
-) -> i64
-    requires { ⌜ IsTable (now table) × ((count ≤ 146) × (minute ≤ 44_640)) ⌝ }
-    ensures { λ r. ⌜ r ≡ heightOf (now (arguments .entry)) (now (lags .entry)) (now (frequencies .entry)) (now (ps .entry)) (now (qs .entry)) count minute ⌝ }
-{
-    0
+    let mut falls: i64 = 0;
+    let mut k: usize = 0;
+    while k < count {
+        let angle = angle_at(arguments[k], lags[k], frequencies[k], minute);
+        falls = falls + fall_at(table, angle, ps[k], qs[k], frequencies[k]);
+        k = k + 1;
+    }
+    -falls
 }
 
 // Halves a bracket whose ends' slopes are given until its ends are one minute apart.
@@ -261,8 +271,25 @@ fn next_turn<'a>(
     }
 }
 
-// How many turns there are, and whether the first is high.
-fn count_turns<'a>(
+fn height<'a>(
+    table: &'a [u32; 1025],
+    arguments: &'a [u64; 146],
+    lags: &'a [u16; 146],
+    frequencies: &'a [u64; 146],
+    ps: &'a [i32; 146],
+    qs: &'a [i32; 146],
+    count: usize,
+    minute: u64,
+) -> i64
+    requires { ⌜ IsTable (now table) × ((count ≤ 146) × (minute ≤ 44_640)) ⌝ }
+    ensures { λ r. ⌜ r ≡ heightOf (now (arguments .entry)) (now (lags .entry)) (now (frequencies .entry)) (now (ps .entry)) (now (qs .entry)) count minute ⌝ }
+    ensures { λ r. ⌜ natAbs r ≤ 2 ^ 28 ⌝ }
+{
+    0
+}
+
+// Finds every turn, and keeps the minutes.
+fn find_turns<'a>(
     table: &'a [u32; 1025],
     arguments: &'a [u64; 146],
     lags: &'a [u16; 146],
@@ -273,11 +300,12 @@ fn count_turns<'a>(
     stride: u64,
     first: u64,
     last: u64,
+    kept: &mut [u16; 44640],
 ) -> Summary
     requires { ⌜ IsTable (now table) × ((count ≤ 146) × InRange count (now frequencies)) ⌝ }
     requires { ⌜ (0 < stride) × ((stride ≤ 720) × ((first ≤ last) × (last ≤ 44_640))) ⌝ }
-    ensures { λ r. ⌜ r .count ≡ length (turnsOf (slopeOf (now (arguments .entry)) (now (lags .entry)) (now (frequencies .entry)) (now (ps .entry)) (now (qs .entry)) count) stride first last) ⌝ }
-    ensures { λ r. ⌜ r .high ≡ firstHigh (turnsOf (slopeOf (now (arguments .entry)) (now (lags .entry)) (now (frequencies .entry)) (now (ps .entry)) (now (qs .entry)) count) stride first last) ⌝ }
+    requires { ⌜ length (now kept) ≡ 44_640 ⌝ }
+    ensures { λ r. ⌜ FoundPost (turnsOf (slopeOf (now (arguments .entry)) (now (lags .entry)) (now (frequencies .entry)) (now (ps .entry)) (now (qs .entry)) count) stride first last) (now (kept .exit)) r ⌝ }
 {
     let here = slope(table, arguments, lags, frequencies, ps, qs, count, first);
     let mut next = next_turn(
@@ -296,6 +324,7 @@ fn count_turns<'a>(
     let high = next.high;
     let mut found: usize = 0;
     while next.found {
+        kept[found] = next.turn as u16;
         found = found + 1;
         next = next_turn(
             table,
@@ -315,4 +344,88 @@ fn count_turns<'a>(
         count: found,
         high: high,
     }
+}
+
+// Writes the kept minutes and their heights from the front of the lent buffers.
+fn write_turns<'a>(
+    table: &'a [u32; 1025],
+    arguments: &'a [u64; 146],
+    lags: &'a [u16; 146],
+    frequencies: &'a [u64; 146],
+    ps: &'a [i32; 146],
+    qs: &'a [i32; 146],
+    count: usize,
+    kept: &'a [u16; 44640],
+    found: usize,
+    minutes: &mut [u32],
+    heights: &mut [i64],
+)
+    requires { ⌜ IsTable (now table) × (count ≤ 146) ⌝ }
+    requires { ⌜ Kept found (now kept) × ((found ≤ length (now minutes)) × (found ≤ length (now heights))) ⌝ }
+    ensures { λ r. ⌜ now (minutes .exit) ≡ inFront (take found (now (kept .entry))) (now (minutes .entry)) ⌝ }
+    ensures { λ r. ⌜ now (heights .exit) ≡ inFront (map (heightOf (now (arguments .entry)) (now (lags .entry)) (now (frequencies .entry)) (now (ps .entry)) (now (qs .entry)) count) (take found (now (kept .entry)))) (now (heights .entry)) ⌝ }
+{
+    let mut i: usize = 0;
+    while i < found {
+        let minute = kept[i] as u64;
+        minutes[i] = minute as u32;
+        heights[i] = height(table, arguments, lags, frequencies, ps, qs, count, minute);
+        i = i + 1;
+    }
+}
+
+// The turns from the first minute to the last: how many, whether the first is high, and in the lent buffers their minutes and heights.
+pub fn turns<'a>(
+    table: &'a [u32; 1025],
+    arguments: &'a [u64; 146],
+    lags: &'a [u16; 146],
+    frequencies: &'a [u64; 146],
+    ps: &'a [i32; 146],
+    qs: &'a [i32; 146],
+    count: usize,
+    stride: u64,
+    first: u64,
+    last: u64,
+    minutes: &mut [u32],
+    heights: &mut [i64],
+) -> Searched
+    requires { ⌜ IsTable (now table) × ((count ≤ 146) × InRange count (now frequencies)) ⌝ }
+    requires { ⌜ (0 < stride) × ((stride ≤ 720) × ((first ≤ last) × (last ≤ 44_640))) ⌝ }
+    ensures { λ r. ⌜ givenOf r (now (minutes .exit)) (now (heights .exit)) ≡ given (heightOf (now (arguments .entry)) (now (lags .entry)) (now (frequencies .entry)) (now (ps .entry)) (now (qs .entry)) count) (turnsOf (slopeOf (now (arguments .entry)) (now (lags .entry)) (now (frequencies .entry)) (now (ps .entry)) (now (qs .entry)) count) stride first last) (now (minutes .entry)) (now (heights .entry)) ⌝ }
+{
+    let mut kept = [0u16; 44640];
+    let found = find_turns(
+        table,
+        arguments,
+        lags,
+        frequencies,
+        ps,
+        qs,
+        count,
+        stride,
+        first,
+        last,
+        &mut kept,
+    );
+    let many = found.count;
+    if minutes.len() < many {
+        return Searched::TooMany;
+    }
+    if heights.len() < many {
+        return Searched::TooMany;
+    }
+    write_turns(
+        table,
+        arguments,
+        lags,
+        frequencies,
+        ps,
+        qs,
+        count,
+        &kept,
+        many,
+        minutes,
+        heights,
+    );
+    Searched::Found(found)
 }
