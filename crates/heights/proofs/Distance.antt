@@ -10,14 +10,14 @@ use lib.Dec.{lit<}
 use lib.IntN.{ℤ, pos, negℤ, natAbs, _+ℤ_, _-ℤ_, _*ℤ_, *ℤ-comm}
 use lib.ListN.{length}
 use Rattle.angles.specs.Floor.{floorDiv}
-use Rattle.angles.proofs.Ints.{natAbs-neg, distrib, distrib-right}
+use Rattle.angles.proofs.Ints.{natAbs-neg, neg-mul, assoc, distrib, distrib-right}
 use Rattle.cosine.specs.Fraction.{quarter, whole, cosine, sine}
 use Rattle.cosine.specs.Fixed.{one, bound, fixedCosine, fixedSine, Within}
 use Rattle.cosine.proofs.Computed.{cosine-within}
 use Rattle.prepared.specs.Prepared.{Constituent}
 use Rattle.heights.specs.Height.{angleAt, share, sharesAt, heightAt}
 use Rattle.heights.specs.Exact.{exactSum, sizes, scale, Near}
-use Rattle.heights.proofs.Apart.{neg-times, times-assoc, apart-sums, apart-through, apart-times, apart-floor, apart-nearest}
+use Rattle.heights.proofs.Apart.{apart-sums, apart-through, apart-times, apart-floor, apart-nearest}
 
 -- a weight times a fixed number f that is near k × c / w
 weighted : (p f c : ℤ) (w k d : ℕ) → natAbs (f *ℤ pos w -ℤ pos k *ℤ c) ≤ d → natAbs (p *ℤ f *ℤ pos w -ℤ pos k *ℤ (p *ℤ c)) ≤ natAbs p * d
@@ -26,7 +26,7 @@ weighted p f c w k d h =
   where
     same : p *ℤ f *ℤ pos w -ℤ pos k *ℤ (p *ℤ c) ≡ p *ℤ (f *ℤ pos w) -ℤ p *ℤ (pos k *ℤ c)
     same =
-        ap₂ _-ℤ_ (times-assoc p f (pos w)) (sym (times-assoc (pos k) p c) ∙ (ap (λ (z : ℤ). z *ℤ c) (*ℤ-comm (pos k) p) ∙ times-assoc p (pos k) c))
+        ap₂ _-ℤ_ (assoc p f (pos w)) (sym (assoc (pos k) p c) ∙ (ap (λ (z : ℤ). z *ℤ c) (*ℤ-comm (pos k) p) ∙ assoc p (pos k) c))
 
 -- the sum of two
 both : (p q f g c s : ℤ) (w k d : ℕ) → natAbs (f *ℤ pos w -ℤ pos k *ℤ c) ≤ d → natAbs (g *ℤ pos w -ℤ pos k *ℤ s) ≤ d → natAbs ((p *ℤ f +ℤ q *ℤ g) *ℤ pos w -ℤ pos k *ℤ (p *ℤ c +ℤ q *ℤ s)) ≤ (natAbs p + natAbs q) * d
@@ -36,7 +36,7 @@ both p q f g c s w k d hf hg =
 
 -- P × cosine - Q × sine
 difference : (p q f g c s : ℤ) (w k d : ℕ) → natAbs (f *ℤ pos w -ℤ pos k *ℤ c) ≤ d → natAbs (g *ℤ pos w -ℤ pos k *ℤ s) ≤ d → natAbs ((p *ℤ f -ℤ q *ℤ g) *ℤ pos w -ℤ pos k *ℤ (p *ℤ c -ℤ q *ℤ s)) ≤ (natAbs p + natAbs q) * d
-difference p q f g c s w k d hf hg = rw (neg-times q g, neg-times q s, natAbs-neg q) at (both p (negℤ q) f g c s w k d hf hg)
+difference p q f g c s w k d hf hg = rw (neg-mul q g, neg-mul q s, natAbs-neg q) at (both p (negℤ q) f g c s w k d hf hg)
 
 -- the floor of x / k, times k, against y, where x × w is near y
 floored : (x y : ℤ) (w k d : ℕ) → 0 < k → natAbs (x *ℤ pos w -ℤ y) ≤ d → natAbs (pos w *ℤ (pos k *ℤ floorDiv x k) -ℤ y) ≤ k * w + d
@@ -44,7 +44,7 @@ floored x y w k d hk h =
     omega (arith, apart-through (pos w *ℤ (pos k *ℤ floorDiv x k)) (pos w *ℤ x) y, apart-times (pos w) (pos k *ℤ floorDiv x k) x, mul-le-mul-left w (apart-floor x k hk), (rw (*ℤ-comm x (pos w)) at h))
 
 scaled-thrice : (a b c : ℕ) (z : ℤ) → pos (a * b * c) *ℤ z ≡ pos a *ℤ (pos b *ℤ (pos c *ℤ z))
-scaled-thrice a b c z = times-assoc (pos (a * b)) (pos c) z ∙ times-assoc (pos a) (pos b) (pos c *ℤ z)
+scaled-thrice a b c z = assoc (pos (a * b)) (pos c) z ∙ assoc (pos a) (pos b) (pos c *ℤ z)
 
 -- ---- over any bound e of the fixed cosine
 
@@ -81,6 +81,6 @@ height-is-near cs minute =
     let h = heightAt cs minute in
     let a = pos (scale * whole) *ℤ h in
     let b = pos (scale / 4_096) *ℤ exactSum cs minute in
-    let ea : pos bound *ℤ a ≡ pos (whole * one * 4_096) *ℤ h = sym (times-assoc (pos bound) (pos (scale * whole)) h) ∙ ap (λ (n : ℕ). pos n *ℤ h) (omega arith) in
-    let eb : pos bound *ℤ b ≡ pos one *ℤ exactSum cs minute = sym (times-assoc (pos bound) (pos (scale / 4_096)) (exactSum cs minute)) in
+    let ea : pos bound *ℤ a ≡ pos (whole * one * 4_096) *ℤ h = sym (assoc (pos bound) (pos (scale * whole)) h) ∙ ap (λ (n : ℕ). pos n *ℤ h) (omega arith) in
+    let eb : pos bound *ℤ b ≡ pos one *ℤ exactSum cs minute = sym (assoc (pos bound) (pos (scale / 4_096)) (exactSum cs minute)) in
     omega (arith, apart-times (pos bound) a b, ap₂ (λ (x y : ℤ). natAbs (x -ℤ y)) ea eb, height-near bound cosine-within cs minute)

@@ -1,57 +1,58 @@
+-- `heights::angle_at` meets its contract: `angle-is`. Assumes nothing.
+use Prim.Native.Nat.{ℕ, _+_, _-_, _*_, _%_, _≤_, _<_}
+use mathlib.Core.Path.{_≡_, sym, ap, _∙_}
+use native.Mathlib.Omega.{arith}
+use native.Mathlib.Nat.{mul-le-mul}
 use borrow.Author.Needs.{needs}
+use Rattle.angles.specs.Ticks.{turn, centidegree}
+use Rattle.heights.specs.Height.{angle}
+use Rattle.heights.proofs.Turning.{lap, angle-is}
 use Rattle.heights.proofs.angle_at.Statement.{statement}
 use Rattle.heights.proofs.angle_at.Tie as tie
 use Rattle.heights.proofs.angle_at.Reads as reads
 use Rattle.heights.proofs.angle_at.Lts as lts
 use Rattle.heights.proofs.wide.Reads as wide-reads
 
--- src/lib.rt:40:16
-mul-laps : tie.Need-mul-laps
-mul-laps c = ?
+-- the laps fit
+within : (f m : ℕ) → m ≤ 44_640 → f % lap * m ≤ lap * 44_640
+within f m h = mul-le-mul {n₁ = f % lap} {m₁ = m} {n₂ = lap} {m₂ = 44_640} (omega arith) h
 
--- src/lib.rt:40:30
+mul-laps : tie.Need-mul-laps
+mul-laps c = record { fits = omega (arith, within (c .args .frequency) (c .args .minute) (c .pre)) }
+
 sub-laps : tie.Need-sub-laps
 sub-laps c = search needs
 
--- src/lib.rt:40:29
 mul-laps-2 : tie.Need-mul-laps-2
 mul-laps-2 c = search needs
 
--- src/lib.rt:40:16
 add-laps : tie.Need-add-laps
-add-laps c = ?
+add-laps c = record { fits = omega (arith, within (c .args .frequency) (c .args .minute) (c .pre)) }
 
--- src/lib.rt:41:25
 mul-result : tie.Need-mul-result
 mul-result c = search needs
 
--- src/lib.rt:41:36
 wide-requires : tie.Need-wide-requires
 wide-requires c κs = search needs
 
--- src/lib.rt:41:36
 mul-result-2 : tie.Need-mul-result-2
 mul-result-2 c = search needs
 
--- src/lib.rt:41:25
 sub-result : tie.Need-sub-result
 sub-result c = search needs
 
--- src/lib.rt:41:6
 add-result : tie.Need-add-result
 add-result c = search needs
 
--- src/lib.rt:41:63
 mul-result-3 : tie.Need-mul-result-3
 mul-result-3 c = search needs
 
--- src/lib.rt:41:6
 add-result-2 : tie.Need-add-result-2
 add-result-2 c = search needs
 
--- src/lib.rt:35:1
 returns : tie.Need-returns
-returns c = ?
+returns c = let a = c .before .args in let lag = c .wide .result in
+    sym (angle-is (a .argument) lag (a .frequency) (a .minute) (omega arith)) ∙ ap (λ (n : ℕ). angle (a .argument) n (a .frequency) (a .minute)) (c .wide .ensures .0)
 
 pub angle-at-spec : {M : Type 1} → statement M
 angle-at-spec =

@@ -1,3 +1,13 @@
+-- `heights::angles_at` meets its contract: the places below k are right. Assumes nothing.
+use Prim.Native.Nat.{ℕ, _+_, _-_, _≤_, _<_}
+use native.Mathlib.Omega.{arith}
+use mathlib.Core.Path.{_≡_, refl, _∙_}
+use borrow.Author.Needs.{needs}
+use borrow.Author.Count.{below-none}
+use lib.ListN.{length, getD, length-set}
+use Rattle.heights.specs.Height.{angle}
+use Rattle.heights.specs.Angles.{Angles}
+use Rattle.heights.proofs.Filling.{filled-more}
 use Rattle.heights.proofs.angles_at.Statement.{statement}
 use Rattle.heights.proofs.angles_at.Tie as tie
 use Rattle.heights.proofs.angles_at.Reads as reads
@@ -5,66 +15,53 @@ use Rattle.heights.proofs.angles_at.Lts as lts
 use Rattle.heights.proofs.angle_at.Reads as angle-at-reads
 
 abbrev Inv-loop : tie.InvT-loop
-Inv-loop arguments lags frequencies count minute angles₀ k₀ angles k = ?
+Inv-loop arguments lags frequencies count minute angles₀ k₀ angles k = (k ≤ count) × ((length angles ≡ 146) × Angles arguments lags frequencies k minute angles)
 
 abbrev μ-loop : tie.MeasureT-loop
-μ-loop arguments lags frequencies count minute angles₀ k₀ angles k = ?
+μ-loop arguments lags frequencies count minute angles₀ k₀ angles k = count - k
 
--- src/lib.rt:57:5
 loop-holds : tie.Need-loop-holds Inv-loop μ-loop
-loop-holds c = ?
+loop-holds c = (omega arith, (refl, below-none _))
 
--- src/lib.rt:58:30
 mul-angle-at : tie.Need-mul-angle-at Inv-loop μ-loop
-mul-angle-at c = ?
+mul-angle-at c = search needs
 
--- src/lib.rt:58:30
 element-copy-out-angle-at : tie.Need-element-copy-out-angle-at Inv-loop μ-loop
-element-copy-out-angle-at c = ?
+element-copy-out-angle-at c = search needs
 
--- src/lib.rt:58:44
 mul-angle-at-2 : tie.Need-mul-angle-at-2 Inv-loop μ-loop
-mul-angle-at-2 c = ?
+mul-angle-at-2 c = search needs
 
--- src/lib.rt:58:44
 element-copy-out-angle-at-2 : tie.Need-element-copy-out-angle-at-2 Inv-loop μ-loop
-element-copy-out-angle-at-2 c = ?
+element-copy-out-angle-at-2 c = search needs
 
--- src/lib.rt:58:53
 mul-angle-at-3 : tie.Need-mul-angle-at-3 Inv-loop μ-loop
-mul-angle-at-3 c = ?
+mul-angle-at-3 c = search needs
 
--- src/lib.rt:58:53
 element-copy-out-angle-at-3 : tie.Need-element-copy-out-angle-at-3 Inv-loop μ-loop
-element-copy-out-angle-at-3 c = ?
+element-copy-out-angle-at-3 c = search needs
 
--- src/lib.rt:58:21
 angle-at-requires : tie.Need-angle-at-requires Inv-loop μ-loop
-angle-at-requires c κs = ?
+angle-at-requires c κs = search needs
 
--- src/lib.rt:58:9
 mul-angles : tie.Need-mul-angles Inv-loop μ-loop
-mul-angles c = ?
+mul-angles c = search needs
 
--- src/lib.rt:58:9
 array-write-angles : tie.Need-array-write-angles Inv-loop μ-loop
-array-write-angles c = ?
+array-write-angles c = search needs
 
--- src/lib.rt:59:13
 add-k : tie.Need-add-k Inv-loop μ-loop
-add-k c = ?
+add-k c = search needs
 
--- src/lib.rt:57:5
 loop-less : tie.Need-loop-less Inv-loop μ-loop
-loop-less c = ?
+loop-less c = search needs
 
--- src/lib.rt:57:5
 loop-again : tie.Need-loop-again Inv-loop μ-loop
-loop-again c = ?
+loop-again c = let s = c .before .before .before .before .before .loop in let a = c .before .before .before .before .before .before .args in let l : s .k < length (s .angles) = omega arith in
+    (omega arith, (length-set (s .angles) (s .k) (c .angle-at .result) ∙ s .inv .1 .0, filled-more (s .angles) (s .k) (c .angle-at .result) (λ k. angle (getD (a .arguments .now) k 0) (getD (a .lags .now) k 0) (getD (a .frequencies .now) k 0) (a .minute)) l (s .inv .1 .1) (c .angle-at .ensures)))
 
--- src/lib.rt:45:1
 returns : tie.Need-returns Inv-loop μ-loop
-returns c = ?
+returns c = λ k h. c .before .loop .inv .1 .1 k (omega arith)
 
 pub angles-at-spec : {M : Type 1} → statement M
 angles-at-spec =

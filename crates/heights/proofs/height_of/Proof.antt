@@ -1,28 +1,31 @@
 -- `heights::height_of` meets its contract: the sum so far and the shares that are left give the sum of all. Assumes nothing.
-use borrow.Author.Needs.{needs}
 use Prim.Native.Nat.{ℕ, _+_, _-_, _*_, _^_, _≤_, _<_}
 use native.Mathlib.Omega.{arith}
 use native.Mathlib.Nat.{sub-zero}
-use mathlib.Core.Path.{_≡_, refl, sym, subst, ap, ap₂, _∙_}
+use mathlib.Core.Path.{_≡_, refl, sym, ap, ap₂, _∙_}
 use mathlib.Core.List.{List}
+use borrow.Author.Needs.{needs}
+use lib.Dec.{lit<, lit≤}
 use lib.IntN.{ℤ, pos, natAbs, _+ℤ_, +ℤ-idl, +ℤ-idr, +ℤ-assoc}
 use lib.ListN.{getD}
 use mir.Syntax.{w32, w64}
 use mir.Val.{SFits, toZ, ofZ}
 use mir.ValLaws.{toZ-ofZ}
 use Rattle.angles.specs.Floor.{floorDiv}
-use Rattle.angles.proofs.Ints.{triangle}
-use Rattle.angles.proofs.Machine.{fits-below, fits-as, through}
+use Rattle.angles.proofs.Known.{Known, plainly, read, plus, bounded, shifted, kept, fits, known, says}
 use Rattle.prepared.specs.View.{constituentsAfter, constituentsFrom}
-use Rattle.heights.specs.Height.{angle, share, sharesAt, heightAt}
+use Rattle.heights.specs.Height.{share, sharesAt, heightAt}
 use Rattle.heights.specs.Angles.{Angles}
-use Rattle.heights.proofs.Words.{shift-is, sum-is, sum-size, sum-fits}
 use Rattle.heights.proofs.Shares.{shares-more, shares-none}
 use Rattle.heights.proofs.height_of.Statement.{statement}
 use Rattle.heights.proofs.height_of.Tie as tie
 use Rattle.heights.proofs.height_of.Reads as reads
 use Rattle.heights.proofs.height_of.Lts as lts
 use Rattle.heights.proofs.share_at.Reads as share-at-reads
+
+-- a sum of k shares, in a register, and one share more
+one-more : (z r : ℤ) (k : ℕ) → k < 146 → natAbs z ≤ k * 2 ^ 32 → natAbs r ≤ 2 ^ 32 → Known (z +ℤ toZ w64 (ofZ w64 r)) (z +ℤ r) ((k + 1) * 2 ^ 32)
+one-more z r k h hz hr = bounded (plus (plainly z hz) (read r hr (lit< tt))) (omega (arith, plus (plainly z hz) (plainly r hr) .size))
 
 abbrev Inv-loop : tie.InvT-loop
 Inv-loop table angles ps qs count sum₀ k₀ sum k = (k ≤ count)
@@ -59,8 +62,8 @@ share-at-requires : tie.Need-share-at-requires Inv-loop μ-loop
 share-at-requires c κs = search needs
 
 add-sum : tie.Need-add-sum Inv-loop μ-loop
-add-sum c = let s = c .before .before .before .before .before .loop in let r = c .share-at in let hk : s .k < 146 = omega arith in
-    fits-as (sum-is (toZ w64 (s .sum)) (r .result) (s .k) hk (s .inv .1 .0) (r .ensures .1)) (sum-fits (toZ w64 (s .sum)) (r .result) (s .k) hk (s .inv .1 .0) (r .ensures .1))
+add-sum c = let s = c .before .before .before .before .before .loop in let r = c .share-at in
+    fits (one-more (toZ w64 (s .sum)) (r .result) (s .k) (omega arith) (s .inv .1 .0) (r .ensures .1)) (omega arith)
 
 add-k : tie.Need-add-k Inv-loop μ-loop
 add-k c = search needs
@@ -69,24 +72,27 @@ loop-less : tie.Need-loop-less Inv-loop μ-loop
 loop-less c = search needs
 
 loop-again : tie.Need-loop-again Inv-loop μ-loop
-loop-again c = let s = c .before .before .before .before .before .loop in let a = c .before .before .before .before .before .before .args in let r = c .share-at in let z = toZ w64 (s .sum) in let hk : s .k < 146 = omega arith in
-    let e : toZ w64 (ofZ w64 (z +ℤ toZ w64 (ofZ w64 (r .result)))) ≡ z +ℤ r .result = through (sum-is z (r .result) (s .k) hk (s .inv .1 .0) (r .ensures .1)) (sum-fits z (r .result) (s .k) hk (s .inv .1 .0) (r .ensures .1)) in
+loop-again c = let s = c .before .before .before .before .before .loop in let a = c .before .before .before .before .before .before .args in let r = c .share-at in let z = toZ w64 (s .sum) in
     let p : SFits w32 (getD (a .ps .now) (s .k) (pos 0)) = search needs in
-    let q : SFits w32 (getD (a .qs .now) (s .k) (pos 0)) = search needs in (
+    let q : SFits w32 (getD (a .qs .now) (s .k) (pos 0)) = search needs in
+    let more = says (kept (one-more z (r .result) (s .k) (omega arith) (s .inv .1 .0) (r .ensures .1)) (omega arith)) in (
       omega arith,
       (
-        subst (λ (y : ℤ). natAbs y ≤ (s .k + 1) * 2 ^ 32) (sym e) (sum-size z (r .result) (s .k) hk (s .inv .1 .0) (r .ensures .1)),
-        λ vs ls fs m h. ap (λ (y : ℤ). y +ℤ sharesAt (constituentsAfter vs ls fs (a .ps .now) (a .qs .now) (s .k + 1) (a .count - (s .k + 1))) m) e ∙ (+ℤ-assoc z (r .result) _ ∙ (ap (λ (y : ℤ). z +ℤ (y +ℤ sharesAt (constituentsAfter vs ls fs (a .ps .now) (a .qs .now) (s .k + 1) (a .count - (s .k + 1))) m)) (r .ensures .0 ∙ (ap₂ (λ (x y : ℤ). share x y (getD (a .angles .now) (s .k) 0)) (toZ-ofZ w32 (getD (a .ps .now) (s .k) (pos 0)) p) (toZ-ofZ w32 (getD (a .qs .now) (s .k) (pos 0)) q) ∙ ap (λ (t : ℕ). share (getD (a .ps .now) (s .k) (pos 0)) (getD (a .qs .now) (s .k) (pos 0)) t) (h (s .k) (omega arith)))) ∙ (ap (λ (y : ℤ). z +ℤ y) (sym (shares-more vs ls fs (a .ps .now) (a .qs .now) m (s .k) (a .count) (omega arith))) ∙ s .inv .1 .1 vs ls fs m h))),
+        more .1,
+        λ vs ls fs m h. let left = sharesAt (constituentsAfter vs ls fs (a .ps .now) (a .qs .now) (s .k + 1) (a .count - (s .k + 1))) m in
+            let same = r .ensures .0 ∙ (ap₂ (λ (x y : ℤ). share x y (getD (a .angles .now) (s .k) 0)) (toZ-ofZ w32 (getD (a .ps .now) (s .k) (pos 0)) p) (toZ-ofZ w32 (getD (a .qs .now) (s .k) (pos 0)) q) ∙ ap (λ (t : ℕ). share (getD (a .ps .now) (s .k) (pos 0)) (getD (a .qs .now) (s .k) (pos 0)) t) (h (s .k) (omega arith))) in
+            ap (λ (y : ℤ). y +ℤ left) (more .0) ∙ (+ℤ-assoc z (r .result) left ∙ (ap (λ (y : ℤ). z +ℤ y) (ap (λ (y : ℤ). y +ℤ left) same ∙ sym (shares-more vs ls fs (a .ps .now) (a .qs .now) m (s .k) (a .count) (omega arith))) ∙ s .inv .1 .1 vs ls fs m h)),
       ),
     )
 
 add-result : tie.Need-add-result Inv-loop μ-loop
-add-result c = let s = c .before .loop in fits-below (toZ w64 (s .sum) +ℤ pos 2_048) (omega (arith, triangle (toZ w64 (s .sum)) (pos 2_048)))
+add-result c = let z = toZ w64 (c .before .loop .sum) in fits (plus (plainly z {A = 146 * 2 ^ 32} (omega arith)) (plainly (pos 2_048) {A = 2_048} (lit≤ tt))) (lit< tt)
 
 returns : tie.Need-returns Inv-loop μ-loop
 unfolding heightAt
 returns c = let s = c .before .loop in let a = c .before .before .args in let z = toZ w64 (s .sum) in
-    λ vs ls fs m h. shift-is (z +ℤ pos 2_048) 4_096 refl (fits-below (z +ℤ pos 2_048) (omega (arith, triangle z (pos 2_048)))) ∙ ap (λ (y : ℤ). floorDiv (y +ℤ pos 2_048) 4_096) (sym (ap (λ (y : ℤ). z +ℤ y) (shares-none vs ls fs (a .ps .now) (a .qs .now) m (s .k) (a .count) (omega arith)) ∙ +ℤ-idr z) ∙ s .inv .1 .1 vs ls fs m h)
+    let height = says (kept (shifted (kept (plus (plainly z {A = 146 * 2 ^ 32} (omega arith)) (plainly (pos 2_048) {A = 2_048} (lit≤ tt))) (lit< tt)) 4_096 (2 ^ 28) (lit< tt) (lit≤ tt)) (lit< tt)) in
+    (λ vs ls fs m h. height .0 ∙ ap (λ (y : ℤ). floorDiv (y +ℤ pos 2_048) 4_096) (sym (ap (λ (y : ℤ). z +ℤ y) (shares-none vs ls fs (a .ps .now) (a .qs .now) m (s .k) (a .count) (omega arith)) ∙ +ℤ-idr z) ∙ s .inv .1 .1 vs ls fs m h), height .1)
 
 pub height-of-spec : {M : Type 1} → statement M
 height-of-spec =

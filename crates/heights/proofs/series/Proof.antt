@@ -6,13 +6,12 @@ use native.Mathlib.Omega.{arith}
 use native.Mathlib.Nat.{sub-zero}
 use mathlib.Core.Path.{_≡_, refl, sym, subst, ap, _∙_}
 use mathlib.Core.List.{List, [], _∷_}
-use lib.IntN.{ℤ}
+use lib.Dec.{lit<}
 use lib.ListN.{length, getD, set, length-set}
 use lib.Seq.{sets}
 use mir.Syntax.{w64}
-use mir.Val.{SFits, toZ, ofZ}
-use mir.ValLaws.{toZ-ofZ}
-use Rattle.angles.specs.Ticks.{turn}
+use mir.Val.{toZ, ofZ}
+use Rattle.angles.proofs.Known.{known, kept}
 use Rattle.prepared.specs.View.{constituentsFrom}
 use Rattle.heights.specs.Height.{heightAt, seriesFrom, seriesOf}
 use Rattle.heights.specs.Angles.{Angles}
@@ -89,8 +88,7 @@ loop-less c = search needs
 loop-again : tie.Need-loop-again Inv-loop μ-loop
 loop-again c = let s = c .before .before .before .before .before .before .loop in let a = c .before .before .before .before .before .before .before .before .before .args in let ticks = c .before .before .before .before .before .before .before .advances in let h = c .before .before .before .height-of in let cs = constituentsFrom (a .arguments .now) (a .lags .now) (a .frequencies .now) (a .ps .now) (a .qs .now) (a .count) in
     let minute = a .start + s .n * a .step in let here = s .inv .1 .1 .1 .0 in
-    let f : SFits w64 (h .result) = search needs in
-    let height = toZ-ofZ w64 (h .result) f ∙ h .ensures (a .arguments .now) (a .lags .now) (a .frequencies .now) minute here in
+    let height = kept (known (h .ensures .0 (a .arguments .now) (a .lags .now) (a .frequencies .now) minute here) (h .ensures .1)) (lit< tt) .is in
     let e : minute + a .step ≡ a .start + (s .n + 1) * a .step = omega arith in (
       omega arith,
       (

@@ -1,29 +1,22 @@
--- `heights::weigh` meets its contract: a weight has 32 bits, and a wave at most 2^30. Assumes nothing.
-use borrow.Author.Needs.{needs}
-use Prim.Native.Nat.{_^_, _≤_}
-use mathlib.Core.Path.{_≡_, refl, sym, subst, ap, ap₂, _∙_}
-use lib.IntN.{ℤ, natAbs, _*ℤ_}
-use mir.Syntax.{w32, w64}
-use mir.Val.{SFits, toZ, ofZ}
-use mir.ValLaws.{toZ-ofZ}
-use Rattle.angles.proofs.Machine.{fits-below, fits-as, through}
-use Rattle.heights.proofs.Words.{size-32, widened, product-size, product-is, product-fits}
+-- `heights::weigh` meets its contract: the product of a number of 32 bits and one of at most 2^30. Assumes nothing.
+use Prim.Native.Nat.{_^_, _*_}
+use lib.Dec.{lit<}
+use lib.IntN.{_*ℤ_}
+use mir.Syntax.{w32}
+use Rattle.angles.proofs.Known.{Known, read, read-narrow, times, kept, fits, says}
 use Rattle.heights.proofs.weigh.Statement.{statement}
 use Rattle.heights.proofs.weigh.Tie as tie
 use Rattle.heights.proofs.weigh.Reads as reads
 use Rattle.heights.proofs.weigh.Lts as lts
 
 cast-result : tie.Need-cast-result
-cast-result c = widened (c .args .weight) (c .fits .weight)
+cast-result c = fits (read-narrow w32 (c .args .weight) (c .fits .weight)) (lit< tt)
 
 mul-result : tie.Need-mul-result
-mul-result c = let a = c .args in let f = c .fits in
-    fits-as (product-is (a .weight) (a .wave) (f .weight) (f .wave) (c .pre)) (product-fits (a .weight) (a .wave) (f .weight) (f .wave) (c .pre))
+mul-result c = fits (times (kept (read-narrow w32 (c .args .weight) (c .fits .weight)) (lit< tt)) (read (c .args .wave) (c .pre) (lit< tt))) (lit< tt)
 
 returns : tie.Need-returns
-returns c = let a = c .args in let f = c .fits in
-    let e = through (product-is (a .weight) (a .wave) (f .weight) (f .wave) (c .pre)) (product-fits (a .weight) (a .wave) (f .weight) (f .wave) (c .pre)) in
-    (e, subst (λ (z : ℤ). natAbs z ≤ 2 ^ 61) (sym e) (product-size (a .weight) (a .wave) (size-32 (a .weight) (f .weight)) (c .pre)))
+returns c = says (kept (times (kept (read-narrow w32 (c .args .weight) (c .fits .weight)) (lit< tt)) (read (c .args .wave) (c .pre) (lit< tt))) (lit< tt))
 
 pub weigh-spec : {M : Type 1} → statement M
 weigh-spec = tie.close (tie.spec cast-result mul-result returns)
