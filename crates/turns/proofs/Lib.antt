@@ -2,3 +2,4 @@ pub mod Falls
 pub mod Cuts
 pub mod Strides
 pub mod Onward
+pub mod Front

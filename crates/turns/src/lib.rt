@@ -83,13 +83,6 @@ fn size(slope: i64) -> u64
     slope as u64
 }
 
-fn angle_at(argument: u64, lag: u16, frequency: u64, minute: u64) -> u64
-    requires { ⌜ minute ≤ 44_640 ⌝ }
-    ensures { λ r. ⌜ r ≡ angle argument lag frequency minute ⌝ }
-{
-    0
-}
-
 // What a constituent of weights P and Q takes from the slope at an angle.
 fn fall_at(table: &[u32; 1025], angle: u64, p: i32, q: i32, frequency: u64) -> i64
     requires { ⌜ IsTable (now table) ⌝ }
@@ -120,7 +113,7 @@ pub fn slope<'a>(
     let mut falls: i64 = 0;
     let mut k: usize = 0;
     while k < count {
-        let angle = angle_at(arguments[k], lags[k], frequencies[k], minute);
+        let angle = heights::angle_at(arguments[k], lags[k], frequencies[k], minute);
         falls = falls + fall_at(table, angle, ps[k], qs[k], frequencies[k]);
         k = k + 1;
     }
@@ -271,23 +264,6 @@ fn next_turn<'a>(
     }
 }
 
-fn height<'a>(
-    table: &'a [u32; 1025],
-    arguments: &'a [u64; 146],
-    lags: &'a [u16; 146],
-    frequencies: &'a [u64; 146],
-    ps: &'a [i32; 146],
-    qs: &'a [i32; 146],
-    count: usize,
-    minute: u64,
-) -> i64
-    requires { ⌜ IsTable (now table) × ((count ≤ 146) × (minute ≤ 44_640)) ⌝ }
-    ensures { λ r. ⌜ r ≡ heightOf (now (arguments .entry)) (now (lags .entry)) (now (frequencies .entry)) (now (ps .entry)) (now (qs .entry)) count minute ⌝ }
-    ensures { λ r. ⌜ natAbs r ≤ 2 ^ 28 ⌝ }
-{
-    0
-}
-
 // Finds every turn, and keeps the minutes.
 fn find_turns<'a>(
     table: &'a [u32; 1025],
@@ -369,7 +345,7 @@ fn write_turns<'a>(
     while i < found {
         let minute = kept[i] as u64;
         minutes[i] = minute as u32;
-        heights[i] = height(table, arguments, lags, frequencies, ps, qs, count, minute);
+        heights[i] = heights::height(table, arguments, lags, frequencies, ps, qs, count, minute);
         i = i + 1;
     }
 }

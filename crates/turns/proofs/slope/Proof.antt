@@ -2,7 +2,7 @@ use Rattle.turns.proofs.slope.Statement.{statement}
 use Rattle.turns.proofs.slope.Tie as tie
 use Rattle.turns.proofs.slope.Reads as reads
 use Rattle.turns.proofs.slope.Lts as lts
-use Rattle.turns.proofs.angle_at.Reads as angle-at-reads
+use Rattle.heights.proofs.angle_at.Reads as angle-at-reads
 use Rattle.turns.proofs.fall_at.Reads as fall-at-reads
 use borrow.Author.Needs.{needs}
 use Prim.Native.Nat.{ℕ, _+_, _-_, _*_, _^_, _≤_, _<_}
