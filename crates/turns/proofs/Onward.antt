@@ -20,7 +20,7 @@ use Rattle.turns.specs.Posts.{BracketPost, NextPost, onwards}
 use Rattle.turns.specs.declared.Bracket.{Bracket}
 use Rattle.turns.specs.declared.Next.{Next}
 use Rattle.turns.proofs.Cuts.{by-test, end-within, cut-done, cut-early, cut-late}
-use Rattle.turns.proofs.Strides.{turns-none, turns-same, turns-one}
+use Rattle.turns.proofs.Strides.{turns-few, turns-none, turns-same, turns-one}
 
 -- a number kept in a register, where it is known to be another
 pub kept : {x y : ℤ} → SFits w64 x → x ≡ y → toZ w64 (ofZ w64 x) ≡ y
@@ -94,3 +94,7 @@ module _ (slope : ℕ → ℤ) (stride last : ℕ) where
   -- how many are left, before a turn and after it
   pub one-more : (r s : Next) → r .found ≡ true → NextPost slope stride last (r .later) s → length (onwards slope stride last r) ≡ 1 + length (onwards slope stride last s)
   one-more r s e p = ap length (onwards-found r e) ∙ (ap (λ (ts : List Turn). suc (length ts)) (p .turns) ∙ omega arith)
+
+  -- a turn that is found is one of those from the first minute on, so there are fewer before it than minutes
+  pub room-left : 0 < stride → (first n : ℕ) (r : Next) → r .found ≡ true → n + length (onwards slope stride last r) ≡ length (turnsOf slope stride first last) → n < last
+  room-left some first n r e is = let few = turns-few slope stride some last first in let one = ap length (onwards-found r e) in omega arith

@@ -14,67 +14,67 @@ abbrev μ-loop : tie.MeasureT-loop
 
 -- src/lib.rt:345:5
 loop-holds : tie.Need-loop-holds Inv-loop μ-loop
-loop-holds c = ?
+loop-holds c = search needs
 
 -- src/lib.rt:346:22
 mul-minute : tie.Need-mul-minute Inv-loop μ-loop
-mul-minute c = ?
+mul-minute c = search needs
 
 -- src/lib.rt:346:22
 element-copy-out-minute : tie.Need-element-copy-out-minute Inv-loop μ-loop
-element-copy-out-minute c = ?
+element-copy-out-minute c = search needs
 
 -- src/lib.rt:346:22
 cast-minute : tie.Need-cast-minute Inv-loop μ-loop
-cast-minute c = ?
+cast-minute c = search needs
 
 -- src/lib.rt:347:22
 cast-minutes : tie.Need-cast-minutes Inv-loop μ-loop
-cast-minutes c = ?
+cast-minutes c = search needs
 
 -- src/lib.rt:347:9
 mul-minutes : tie.Need-mul-minutes Inv-loop μ-loop
-mul-minutes c = ?
+mul-minutes c = search needs
 
 -- src/lib.rt:347:9
 slice-write-minutes : tie.Need-slice-write-minutes Inv-loop μ-loop
-slice-write-minutes c = ?
+slice-write-minutes c = search needs
 
 -- src/lib.rt:348:22
 height-requires : tie.Need-height-requires Inv-loop μ-loop
-height-requires c κs = ?
+height-requires c κs = search needs
 
 -- src/lib.rt:348:9
 mul-t15 : tie.Need-mul-t15 Inv-loop μ-loop
-mul-t15 c = ?
+mul-t15 c = search needs
 
 -- src/lib.rt:348:9
 slice-set-from-heights : tie.Need-slice-set-from-heights Inv-loop μ-loop
-slice-set-from-heights c = ?
+slice-set-from-heights c = search needs
 
 -- src/lib.rt:349:13
 add-i : tie.Need-add-i Inv-loop μ-loop
-add-i c = ?
+add-i c = search needs
 
 -- src/lib.rt:345:5
 loop-less : tie.Need-loop-less Inv-loop μ-loop
-loop-less c = ?
+loop-less c = search needs
 
 -- src/lib.rt:345:5
 loop-again : tie.Need-loop-again Inv-loop μ-loop
-loop-again c = ?
+loop-again c = search needs
 
 -- src/lib.rt:326:1
 same-length : tie.Need-same-length Inv-loop μ-loop
-same-length c = ?
+same-length c = search needs
 
 -- src/lib.rt:326:1
 same-length-2 : tie.Need-same-length-2 Inv-loop μ-loop
-same-length-2 c = ?
+same-length-2 c = search needs
 
 -- src/lib.rt:326:1
 returns : tie.Need-returns Inv-loop μ-loop
-returns c = ?
+returns c = search needs
 
 pub write-turns-spec : {M : Type 1} → statement M
 write-turns-spec =
