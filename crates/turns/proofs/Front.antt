@@ -11,10 +11,10 @@ use lib.Dec.{ltb}
 use lib.IntN.{ℤ, natAbs}
 use borrow.Author.Needs.{zero≤}
 use lib.ListN.{length, getD, set, take, drop, length-map, drop-of-length-le, List·getD-append}
-use lib.Seq.{sets, sets-eq, drop-cons, take-at, length-sets}
-use borrow.Author.Tests.{ltb-false}
+use lib.Seq.{sets, sets-eq, drop-cons, take-at, length-sets, length-take-le, getD-take}
+use borrow.Author.Tests.{ltb-false, lt-ltb, le-ltb}
 use Rattle.turns.specs.Search.{Turn, differ, earlierEnd, laterEnd, smaller, turnIn, turnsFrom, turnsOf}
-use Rattle.turns.specs.Written.{inFront, firstHigh, minutesOf}
+use Rattle.turns.specs.Written.{found, refused, inFront, firstHigh, minutesOf, given}
 use Rattle.turns.specs.Posts.{NextPost, FoundPost, onwards}
 use Rattle.turns.specs.declared.Next.{Next}
 use Rattle.turns.proofs.Cuts.{by-test, end-within}
@@ -24,12 +24,19 @@ use Rattle.turns.proofs.Onward.{onwards-found}
 pub stored-all : {A : Type 0} (vs l : List A) → length vs ≤ length l → sets l 0 vs ≡ inFront vs l
 stored-all vs l h = let e = zero-add (length vs) in sets-eq vs l 0 (omega arith) ∙ rw e
 
-module _ {A : Type 0} (f : ℕ → A) (ks : List ℕ) (l : List A) (i : ℕ) where
-  pub store-more : i < length ks → sets (set l i (f (getD ks i 0))) (i + 1) (map f (drop (i + 1) ks)) ≡ sets l i (map f (drop i ks))
-  store-more h = rw (drop-cons ks i 0 h, add-one i)
+-- the first n of a list, each by a rule
+module _ {A : Type 0} (f : ℕ → A) (n : ℕ) (ks : List ℕ) (fit : n ≤ length ks) (l : List A) where
+  many-taken : length (take n ks) ≡ n
+  many-taken = length-take-le n ks fit
 
-  pub store-none : length ks ≤ i → sets l i (map f (drop i ks)) ≡ l
-  store-none h = rw (drop-of-length-le ks h)
+  pub store-more : (i : ℕ) → i < n → sets (set l i (f (getD ks i 0))) (i + 1) (map f (drop (i + 1) (take n ks))) ≡ sets l i (map f (drop i (take n ks)))
+  store-more i h = let m = many-taken in rw (drop-cons (take n ks) i 0 (omega arith), add-one i, getD-take n ks i 0 h)
+
+  pub store-none : (i : ℕ) → n ≤ i → sets l i (map f (drop i (take n ks))) ≡ l
+  store-none i h = let m = many-taken in rw (drop-of-length-le (take n ks) {i = i} (omega arith))
+
+  pub stored : n ≤ length l → sets l 0 (map f (take n ks)) ≡ inFront (map f (take n ks)) l
+  stored h = let m = many-taken in let e = length-map (take n ks) f in stored-all (map f (take n ks)) l (omega arith)
 
 -- ---- the minutes of turns
 
@@ -76,5 +83,23 @@ module _ (turns : List Turn) (few : length turns ≤ 44_640) (within : (k : ℕ)
         high = h;
         minutes = rw in-front (take-at (minutesOf turns) rest n (omega arith));
         within =
-            (ap length is ∙ (length-sets kept₀ 0 (minutesOf turns) ∙ room), (omega arith, λ k l. rw (in-front, List·getD-append (minutesOf turns) rest 0 k (omega arith)) (within k)))
+            (ap length is ∙ (length-sets kept₀ 0 (minutesOf turns) ∙ room), (omega arith, λ k l. rw (in-front, List·getD-append (minutesOf turns) rest 0 k (omega arith)) (within k)));
       }
+
+-- ---- what is given, by the buffers' room
+
+module _ (height : ℕ → ℤ) (turns : List Turn) (minutes : List ℕ) (heights : List ℤ) where
+  pub few-minutes : length minutes < length turns → record { returned = refused 10; minutes = minutes; heights = heights } ≡ given height turns minutes heights
+  unfolding given
+  few-minutes h = simp (lt-ltb _ _ h)
+
+  pub few-heights : length turns ≤ length minutes → length heights < length turns → record { returned = refused 10; minutes = minutes; heights = heights } ≡ given height turns minutes heights
+  unfolding given
+  few-heights l h = simp (le-ltb _ _ l, lt-ltb _ _ h)
+
+  room-for-all : length turns ≤ length minutes → length turns ≤ length heights → record { returned = found (length turns) (firstHigh turns); minutes = inFront (minutesOf turns) minutes; heights = inFront (map height (minutesOf turns)) heights } ≡ given height turns minutes heights
+  unfolding given
+  room-for-all l k = simp (le-ltb _ _ l, le-ltb _ _ k)
+
+  pub all-given : {n : ℕ} {high : Bool} {ks ms : List ℕ} {hs : List ℤ} → n ≡ length turns → high ≡ firstHigh turns → ks ≡ minutesOf turns → ms ≡ inFront ks minutes → hs ≡ inFront (map height ks) heights → length turns ≤ length minutes → length turns ≤ length heights → record { returned = found n high; minutes = ms; heights = hs } ≡ given height turns minutes heights
+  all-given en eh ek em es l k = rw (en, eh, em, es, ek) (room-for-all l k)
