@@ -1,11 +1,11 @@
 -- Halving a bracket: where it ends, and that more cuts than minutes change nothing.
 -- By induction on the cuts: half of two minutes or more is a minute or more, and less than the whole. Assumes nothing.
-use mathlib.Core.Path.{_≡_, refl, sym, _∙_}
+use mathlib.Core.Path.{_≡_, refl}
 use mathlib.Core.Bool.{Bool, true, false, cond}
 use Prim.Native.Nat.{ℕ, zero, suc, _+_, _-_, _/_, _≤_, _<_}
 use native.Mathlib.Nat.{le-refl}
 use native.Mathlib.Omega.{arith}
-use borrow.Author.Tests.{leb-false, leb-true, le-leb, lt-leb}
+use borrow.Author.Tests.{leb-false, le-leb, lt-leb}
 use lib.Dec.{leb}
 use lib.IntN.{ℤ}
 use Rattle.turns.specs.Search.{differ, cutFrom, earlierEnd}
