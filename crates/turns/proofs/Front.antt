@@ -24,13 +24,18 @@ module _ {A : Type 0} (f : ℕ → A) (n : ℕ) (ks : List ℕ) (fit : n ≤ len
   many-taken = length-take-le n ks fit
 
   pub store-more : (i : ℕ) → i < n → sets (set l i (f (getD ks i 0))) (i + 1) (map f (drop (i + 1) (take n ks))) ≡ sets l i (map f (drop i (take n ks)))
-  store-more i h = let m = many-taken in rw (drop-cons (take n ks) i 0 (omega arith), add-one i, getD-take n ks i 0 h)
+  store-more i h =
+      let m = many-taken in
+      rw (drop-cons (take n ks) i 0 (omega arith), add-one i, getD-take n ks i 0 h)
 
   pub store-none : (i : ℕ) → n ≤ i → sets l i (map f (drop i (take n ks))) ≡ l
   store-none i h = let m = many-taken in rw (drop-of-length-le (take n ks) {i = i} (omega arith))
 
   pub stored : n ≤ length l → sets l 0 (map f (take n ks)) ≡ inFront (map f (take n ks)) l
-  stored h = let m = many-taken in let e = length-map (take n ks) f in stored-all (map f (take n ks)) l (omega arith)
+  stored h =
+      let m = many-taken in
+      let e = length-map (take n ks) f in
+      stored-all (map f (take n ks)) l (omega arith)
 
 -- ---- what is given, by the buffers' room
 

@@ -19,11 +19,21 @@ rises-requires-3 c κs = search needs
 
 returns : tie.Need-returns
 unfolding differ
-returns c = let s = c .before .before .before in let fa = s .fits .a in let fb = s .fits .b in let ra : rising (s .args .a) ≡ true = sym (simp toZ-ofZ at (c .before .before .rises .ensures)) ∙ c .before .if1 .taken in rw ra (ap not (simp toZ-ofZ at (c .rises2 .ensures)))
+returns c =
+    let s = c .before .before .before in
+    let fa = s .fits .a in
+    let fb = s .fits .b in
+    let ra : rising (s .args .a) ≡ true = sym (simp toZ-ofZ at (c .before .before .rises .ensures)) ∙ c .before .if1 .taken in
+    rw ra (ap not (simp toZ-ofZ at (c .rises2 .ensures)))
 
 returns-2 : tie.Need-returns-2
 unfolding differ
-returns-2 c = let s = c .before .before .before in let fa = s .fits .a in let fb = s .fits .b in let ra : rising (s .args .a) ≡ false = sym (simp toZ-ofZ at (c .before .before .rises .ensures)) ∙ c .before .if1 .left in rw ra (simp toZ-ofZ at (c .rises3 .ensures))
+returns-2 c =
+    let s = c .before .before .before in
+    let fa = s .fits .a in
+    let fb = s .fits .b in
+    let ra : rising (s .args .a) ≡ false = sym (simp toZ-ofZ at (c .before .before .rises .ensures)) ∙ c .before .if1 .left in
+    rw ra (simp toZ-ofZ at (c .rises3 .ensures))
 
 pub differs-spec : {M : Type 1} → statement M
 differs-spec =

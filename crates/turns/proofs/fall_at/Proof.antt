@@ -20,13 +20,20 @@ weigh-requires-2 : tie.Need-weigh-requires-2
 weigh-requires-2 c κs = search needs
 
 add-whole : tie.Need-add-whole
-add-whole c = let a = c .before .before .weigh in let b = c .weigh2 in fits (plus (read (a .result) (a .ensures .1) (lit< tt)) (read (b .result) (b .ensures .1) (lit< tt))) (lit< tt)
+add-whole c =
+    let a = c .before .before .weigh in
+    let b = c .weigh2 in
+    fits (plus (read (a .result) (a .ensures .1) (lit< tt)) (read (b .result) (b .ensures .1) (lit< tt))) (lit< tt)
 
 cast-result : tie.Need-cast-result
 cast-result c = search needs
 
 mul-result : tie.Need-mul-result
-mul-result c = let a = c .before .before .weigh in let b = c .weigh2 in let s = c .before .before .before .before .before in fits (term (s .args .frequency) (s .pre .1) (read (a .result) (a .ensures .1) (lit< tt)) (read (b .result) (b .ensures .1) (lit< tt))) (lit< tt)
+mul-result c =
+    let a = c .before .before .weigh in
+    let b = c .weigh2 in
+    let s = c .before .before .before .before .before in
+    fits (term (s .args .frequency) (s .pre .1) (read (a .result) (a .ensures .1) (lit< tt)) (read (b .result) (b .ensures .1) (lit< tt))) (lit< tt)
 
 returns : tie.Need-returns
 unfolding fall

@@ -40,19 +40,39 @@ differs-requires : tie.Need-differs-requires Inv-loop μ-loop
 differs-requires c κs = search needs
 
 bisect-requires : tie.Need-bisect-requires Inv-loop μ-loop
-bisect-requires c κs = let l = c .before .before .before .before .loop in let s = c .before .before .before .before .before in (s .pre .0, ((s .pre .1 .0 .0, omega arith), (l .inv .1 .0, kept-result (c .before .before .slope .ok) (c .before .before .slope .ensures))))
+bisect-requires c κs =
+    let l = c .before .before .before .before .loop in
+    let s = c .before .before .before .before .before in
+    (s .pre .0, ((s .pre .1 .0 .0, omega arith), (l .inv .1 .0, kept-result (c .before .before .slope .ok) (c .before .before .slope .ensures))))
 
 turn-of-requires : tie.Need-turn-of-requires Inv-loop μ-loop
-turn-of-requires c κs = let l = c .before .before .before .before .before .loop in let s = c .before .before .before .before .before .before in let w = bracket-within _ (l .from) (s .args .stride) (s .pre .1 .0 .0) (c .bisect .ensures) in omega arith
+turn-of-requires c κs =
+    let l = c .before .before .before .before .before .loop in
+    let s = c .before .before .before .before .before .before in
+    let w = bracket-within _ (l .from) (s .args .stride) (s .pre .1 .0 .0) (c .bisect .ensures) in
+    omega arith
 
 rises-requires : tie.Need-rises-requires Inv-loop μ-loop
 rises-requires c κs = search needs
 
 add-t21 : tie.Need-add-t21 Inv-loop μ-loop
-add-t21 c = let l = c .before .before .before .before .before .before .before .before .loop in let s = c .before .before .before .before .before .before .before .before .before in let w = bracket-within _ (l .from) (s .args .stride) (s .pre .1 .0 .0) (c .before .before .before .bisect .ensures) in record { fits = omega arith }
+add-t21 c =
+    let l = c .before .before .before .before .before .before .before .before .loop in
+    let s = c .before .before .before .before .before .before .before .before .before in
+    let w = bracket-within _ (l .from) (s .args .stride) (s .pre .1 .0 .0) (c .before .before .before .bisect .ensures) in
+    record { fits = omega arith }
 
 returns : tie.Need-returns Inv-loop μ-loop
-returns c = let l = c .before .before .before .before .before .before .before .before .before .loop in let s = c .before .before .before .before .before .before .before .before .before .before in let f : SFits w64 (c .before .before .before .before .bisect .result .late) = search needs in turn-found _ (s .args .stride) (s .pre .1 .0 .0) (s .args .last) (s .args .minute) (l .from) (l .inv .1 .1) (c .before .before .before .before .before .before .before .before .loop-test .taken) (sense-of (l .inv .1 .0) (kept-result (c .before .before .before .before .before .before .before .slope .ok) (c .before .before .before .before .before .before .before .slope .ensures)) (c .before .before .before .before .before .before .differs .ensures) (c .before .before .before .before .before .if1 .taken)) (c .before .before .before .before .bisect .ensures) (c .before .before .before .turn-of .ensures) (c .before .before .rises .ensures ∙ ap rising (l .inv .1 .0)) (toZ-ofZ w64 (c .before .before .before .before .bisect .result .late) f)
+returns c =
+    let s = c .before .before .before .before .before .before .before .before .before .before in
+    let l = c .before .before .before .before .before .before .before .before .before .loop in
+    let b = c .before .before .before .before .bisect in
+    let f : SFits w64 (b .result .late) = search needs in
+    let ahead = kept-result (c .before .before .before .before .before .before .before .slope .ok) (c .before .before .before .before .before .before .before .slope .ensures) in
+    let sense = sense-of (l .inv .1 .0) ahead (c .before .before .before .before .before .before .differs .ensures) (c .before .before .before .before .before .if1 .taken) in
+    let high = c .before .before .rises .ensures ∙ ap rising (l .inv .1 .0) in
+    turn-found _ (s .args .stride) (s .pre .1 .0 .0) (s .args .last) (s .args .minute) (l .from) (l .inv .1 .1)
+    (c .before .before .before .before .before .before .before .before .loop-test .taken) sense (b .ensures) (c .before .before .before .turn-of .ensures) high (toZ-ofZ w64 (b .result .late) f)
 
 add-from : tie.Need-add-from Inv-loop μ-loop
 add-from c = search needs
@@ -61,10 +81,18 @@ loop-less : tie.Need-loop-less Inv-loop μ-loop
 loop-less c = search needs
 
 loop-again : tie.Need-loop-again Inv-loop μ-loop
-loop-again c = let l = c .before .before .before .before .loop in let s = c .before .before .before .before .before in (c .before .before .before .loop-test .taken, (kept-result (c .before .before .slope .ok) (c .before .before .slope .ensures), stride-passed _ (s .args .stride) (s .pre .1 .0 .0) (s .args .last) (s .args .minute) (l .from) (l .inv .1 .1) (c .before .before .before .loop-test .taken) (sense-of (l .inv .1 .0) (kept-result (c .before .before .slope .ok) (c .before .before .slope .ensures)) (c .before .differs .ensures) (c .if1 .left))))
+loop-again c =
+    let s = c .before .before .before .before .before in
+    let l = c .before .before .before .before .loop in
+    let h = c .before .before .before .loop-test .taken in
+    let ahead = kept-result (c .before .before .slope .ok) (c .before .before .slope .ensures) in
+    let sense = sense-of (l .inv .1 .0) ahead (c .before .differs .ensures) (c .if1 .left) in
+    (h, (ahead, stride-passed _ (s .args .stride) (s .pre .1 .0 .0) (s .args .last) (s .args .minute) (l .from) (l .inv .1 .1) h sense))
 
 returns-2 : tie.Need-returns-2 Inv-loop μ-loop
-returns-2 c = let s = c .before in end-reached _ (s .before .args .stride) (s .before .pre .1 .0 .0) (s .before .args .last) (s .before .args .minute) (s .loop .from) (s .loop .inv .1 .1) (s .loop .inv .0) (c .loop-test .left) (s .loop .inv .1 .0)
+returns-2 c =
+    let s = c .before in
+    end-reached _ (s .before .args .stride) (s .before .pre .1 .0 .0) (s .before .args .last) (s .before .args .minute) (s .loop .from) (s .loop .inv .1 .1) (s .loop .inv .0) (c .loop-test .left) (s .loop .inv .1 .0)
 
 pub next-turn-spec : {M : Type 1} → statement M
 next-turn-spec =

@@ -27,7 +27,9 @@ abbrev μ-loop : tie.MeasureT-loop
 μ-loop table arguments lags frequencies ps qs count minute falls₀ k₀ falls k = count - k
 
 loop-holds : tie.Need-loop-holds Inv-loop μ-loop
-loop-holds c = let a = c .args in (omega arith, (omega arith, +ℤ-idl _ ∙ ap (λ (n : ℕ). fallsAt (constituentsAfter (a .arguments .now) (a .lags .now) (a .frequencies .now) (a .ps .now) (a .qs .now) 0 n) (a .minute)) (sub-zero (a .count))))
+loop-holds c =
+    let a = c .args in
+    (omega arith, (omega arith, +ℤ-idl _ ∙ ap (λ (n : ℕ). fallsAt (constituentsAfter (a .arguments .now) (a .lags .now) (a .frequencies .now) (a .ps .now) (a .qs .now) 0 n) (a .minute)) (sub-zero (a .count))))
 
 mul-angle-at : tie.Need-mul-angle-at Inv-loop μ-loop
 mul-angle-at c = search needs
@@ -69,10 +71,17 @@ element-copy-out-fall-at-3 : tie.Need-element-copy-out-fall-at-3 Inv-loop μ-loo
 element-copy-out-fall-at-3 c = search needs
 
 fall-at-requires : tie.Need-fall-at-requires Inv-loop μ-loop
-fall-at-requires c κs = let s = c .before .before .before .before .before .before .before .before .before in (s .pre .0 .0, s .pre .0 .1 .1 (c .before .before .before .before .before .before .before .before .loop .k) (c .before .before .before .before .before .before .before .loop-test .taken))
+fall-at-requires c κs =
+    let s = c .before .before .before .before .before .before .before .before .before in
+    (s .pre .0 .0, s .pre .0 .1 .1 (c .before .before .before .before .before .before .before .before .loop .k) (c .before .before .before .before .before .before .before .loop-test .taken))
 
 add-falls : tie.Need-add-falls Inv-loop μ-loop
-add-falls c = let l = c .before .before .before .before .before .before .before .before .before .loop in let h = c .before .before .before .before .before .before .before .before .loop-test .taken in let n = c .before .before .before .before .before .before .before .before .before .before .pre .0 .1 .0 in let r = c .fall-at in fits (one-term-more (toZ w64 (l .falls)) (r .result) (l .k) (omega arith) (l .inv .1 .0) (r .ensures .1)) (omega arith)
+add-falls c =
+    let l = c .before .before .before .before .before .before .before .before .before .loop in
+    let h = c .before .before .before .before .before .before .before .before .loop-test .taken in
+    let n = c .before .before .before .before .before .before .before .before .before .before .pre .0 .1 .0 in
+    let r = c .fall-at in
+    fits (one-term-more (toZ w64 (l .falls)) (r .result) (l .k) (omega arith) (l .inv .1 .0) (r .ensures .1)) (omega arith)
 
 add-k : tie.Need-add-k Inv-loop μ-loop
 add-k c = search needs
@@ -90,11 +99,17 @@ loop-again c = let l = c .before .before .before .before .before .before .before
     (omega arith, (more .1, ap (λ (y : ℤ). y +ℤ left) (more .0) ∙ (+ℤ-assoc z (r .result) left ∙ (ap (λ (y : ℤ). z +ℤ y) (ap (λ (y : ℤ). y +ℤ left) same ∙ sym (falls-more (a .arguments .now) (a .lags .now) (a .frequencies .now) (a .ps .now) (a .qs .now) (a .minute) (l .k) (a .count) h)) ∙ l .inv .1 .1))))
 
 sub-result : tie.Need-sub-result Inv-loop μ-loop
-sub-result c = let z = toZ w64 (c .before .loop .falls) in fits (negated (plainly z {A = 146 * most} (omega arith))) (lit< tt)
+sub-result c =
+    let z = toZ w64 (c .before .loop .falls) in
+    fits (negated (plainly z {A = 146 * most} (omega arith))) (lit< tt)
 
 returns : tie.Need-returns Inv-loop μ-loop
 unfolding slopeAt
-returns c = let l = c .before .loop in let a = c .before .before .args in let z = toZ w64 (l .falls) in kept (negated (plainly z {A = 146 * most} (omega arith))) (lit< tt) .is ∙ ap negℤ (sym (ap (λ (y : ℤ). z +ℤ y) (falls-none (a .arguments .now) (a .lags .now) (a .frequencies .now) (a .ps .now) (a .qs .now) (a .minute) (l .k) (a .count) (c .loop-test .left)) ∙ +ℤ-idr z) ∙ l .inv .1 .1)
+returns c =
+    let l = c .before .loop in
+    let a = c .before .before .args in
+    let z = toZ w64 (l .falls) in
+    kept (negated (plainly z {A = 146 * most} (omega arith))) (lit< tt) .is ∙ ap negℤ (sym (ap (λ (y : ℤ). z +ℤ y) (falls-none (a .arguments .now) (a .lags .now) (a .frequencies .now) (a .ps .now) (a .qs .now) (a .minute) (l .k) (a .count) (c .loop-test .left)) ∙ +ℤ-idr z) ∙ l .inv .1 .1)
 
 pub slope-spec : {M : Type 1} → statement M
 slope-spec =

@@ -21,10 +21,20 @@ add-result : tie.Need-add-result
 add-result c = search needs
 
 returns : tie.Need-returns
-returns c = let b = c .before .before .before .before .before .before .args .b in let fl : SFits w64 (b .late) = search needs in let fe : SFits w64 (b .early) = search needs in let t : ltb (natAbs (b .late)) (natAbs (b .early)) ≡ true = ap₂ ltb (sym (simp toZ-ofZ at (c .before .before .before .before .size .ensures))) (sym (simp toZ-ofZ at (c .before .before .size2 .ensures))) ∙ lt-ltb _ _ (c .before .if1 .taken) in rw t
+returns c =
+    let b = c .before .before .before .before .before .before .args .b in
+    let fl : SFits w64 (b .late) = search needs in
+    let fe : SFits w64 (b .early) = search needs in
+    let t : ltb (natAbs (b .late)) (natAbs (b .early)) ≡ true = ap₂ ltb (sym (simp toZ-ofZ at (c .before .before .before .before .size .ensures))) (sym (simp toZ-ofZ at (c .before .before .size2 .ensures))) ∙ lt-ltb _ _ (c .before .if1 .taken) in
+    rw t
 
 returns-2 : tie.Need-returns-2
-returns-2 c = let b = c .before .before .before .before .before .args .b in let fl : SFits w64 (b .late) = search needs in let fe : SFits w64 (b .early) = search needs in let t : ltb (natAbs (b .late)) (natAbs (b .early)) ≡ false = ap₂ ltb (sym (simp toZ-ofZ at (c .before .before .before .size .ensures))) (sym (simp toZ-ofZ at (c .before .size2 .ensures))) ∙ le-ltb _ _ (c .if1 .left) in rw t
+returns-2 c =
+    let b = c .before .before .before .before .before .args .b in
+    let fl : SFits w64 (b .late) = search needs in
+    let fe : SFits w64 (b .early) = search needs in
+    let t : ltb (natAbs (b .late)) (natAbs (b .early)) ≡ false = ap₂ ltb (sym (simp toZ-ofZ at (c .before .before .before .size .ensures))) (sym (simp toZ-ofZ at (c .before .size2 .ensures))) ∙ le-ltb _ _ (c .if1 .left) in
+    rw t
 
 pub turn-of-spec : {M : Type 1} → statement M
 turn-of-spec = tie.close (tie.spec size-requires size-requires-2 add-result returns returns-2)
