@@ -90,13 +90,29 @@ loop-less : tie.Need-loop-less Inv-loop μ-loop
 loop-less c = search needs
 
 loop-again : tie.Need-loop-again Inv-loop μ-loop
-loop-again c = let l = c .before .before .before .before .before .before .before .before .before .loop in let h = c .before .before .before .before .before .before .before .before .loop-test .taken in let n = c .before .before .before .before .before .before .before .before .before .before .pre .0 .1 .0 in let a = c .before .before .before .before .before .before .before .before .before .before .args in let r = c .fall-at in let z = toZ w64 (l .falls) in
+loop-again c =
+    let l = c .before .before .before .before .before .before .before .before .before .loop in
+    let h = c .before .before .before .before .before .before .before .before .loop-test .taken in
+    let n = c .before .before .before .before .before .before .before .before .before .before .pre .0 .1 .0 in
+    let a = c .before .before .before .before .before .before .before .before .before .before .args in
+    let r = c .fall-at in
+    let t = c .before .before .before .before .angle-at in
+    let z = toZ w64 (l .falls) in
+    let frequency = getD (a .frequencies .now) (l .k) 0 in
     let p : SFits w32 (getD (a .ps .now) (l .k) (pos 0)) = search needs in
     let q : SFits w32 (getD (a .qs .now) (l .k) (pos 0)) = search needs in
     let left = fallsAt (constituentsAfter (a .arguments .now) (a .lags .now) (a .frequencies .now) (a .ps .now) (a .qs .now) (l .k + 1) (a .count - (l .k + 1))) (a .minute) in
     let more = says (kept (one-term-more z (r .result) (l .k) (omega arith) (l .inv .1 .0) (r .ensures .1)) (omega arith)) in
-    let same = r .ensures .0 ∙ (ap₂ (λ (x y : ℤ). fall x y (getD (a .frequencies .now) (l .k) 0) (c .before .before .before .before .angle-at .result)) (toZ-ofZ w32 (getD (a .ps .now) (l .k) (pos 0)) p) (toZ-ofZ w32 (getD (a .qs .now) (l .k) (pos 0)) q) ∙ ap (λ (t : ℕ). fall (getD (a .ps .now) (l .k) (pos 0)) (getD (a .qs .now) (l .k) (pos 0)) (getD (a .frequencies .now) (l .k) 0) t) (c .before .before .before .before .angle-at .ensures)) in
-    (omega arith, (more .1, ap (λ (y : ℤ). y +ℤ left) (more .0) ∙ (+ℤ-assoc z (r .result) left ∙ (ap (λ (y : ℤ). z +ℤ y) (ap (λ (y : ℤ). y +ℤ left) same ∙ sym (falls-more (a .arguments .now) (a .lags .now) (a .frequencies .now) (a .ps .now) (a .qs .now) (a .minute) (l .k) (a .count) h)) ∙ l .inv .1 .1))))
+    let weights = ap₂ (λ (x y : ℤ). fall x y frequency (t .result)) (toZ-ofZ w32 (getD (a .ps .now) (l .k) (pos 0)) p) (toZ-ofZ w32 (getD (a .qs .now) (l .k) (pos 0)) q) in
+    let same = r .ensures .0 ∙ (weights ∙ ap (λ (u : ℕ). fall (getD (a .ps .now) (l .k) (pos 0)) (getD (a .qs .now) (l .k) (pos 0)) frequency u) (t .ensures)) in
+    let all = falls-more (a .arguments .now) (a .lags .now) (a .frequencies .now) (a .ps .now) (a .qs .now) (a .minute) (l .k) (a .count) h in (
+      omega arith,
+      (
+        more .1,
+        ap (λ (y : ℤ). y +ℤ left) (more .0)
+            ∙ (+ℤ-assoc z (r .result) left ∙ (ap (λ (y : ℤ). z +ℤ y) (ap (λ (y : ℤ). y +ℤ left) same ∙ sym all) ∙ l .inv .1 .1)),
+      ),
+    )
 
 sub-result : tie.Need-sub-result Inv-loop μ-loop
 sub-result c =
