@@ -1,11 +1,11 @@
 -- Division that rounds down: z is n times its floor quotient and a remainder below n, and the only such pair is that of `floorDiv` and `floorRest`.
 -- All else follows from these two laws. Assumes nothing.
-use mathlib.Core.Path.{_≡_, refl, sym, _∙_, ap, ap₂, subst}
+use mathlib.Core.Path.{_≡_, refl, sym, _∙_, ap, subst}
 use Prim.Native.Nat.{ℕ, zero, suc, _+_, _-_, _*_, _/_, _%_, _≤_, _<_}
 use native.Mathlib.Nat.{div-add-mod', mod-lt, mul-comm, mul-add-mod-self-right, mod-eq-of-lt, add-mul-div-right, div-eq-of-lt, div-le-of-le-mul, div-lt-iff-lt-mul, le-trans, le-of-eq, mul-le-mul-left}
 use native.Mathlib.Omega.{arith}
 use borrow.Author.Tests.{lt-ltb}
-use lib.IntN.{ℤ, pos, negsuc, negℤ, natAbs, subℕ, _+ℤ_, _-ℤ_, _*ℤ_, +ℤ-comm, +ℤ-assoc, +ℤ-negℤ-cancel}
+use lib.IntN.{ℤ, pos, negsuc, negℤ, natAbs, _+ℤ_, _-ℤ_, _*ℤ_, +ℤ-comm, +ℤ-negℤ-cancel}
 use lib.Signed.{shrZ}
 use Rattle.angles.specs.Floor.{floorDiv}
 use Rattle.angles.proofs.Ints.{swap, distrib-right}

@@ -5,7 +5,16 @@ ghost use lib.Signed.{mag};
 ghost use Rattle.angles.specs.Ticks.{turn};
 ghost use Rattle.angles.specs.Floor.{floorDiv, modTurn};
 
-const TURN: u64 = 788_400_000_000_000;
+// Ticks in a turn, and in 10^-10 cycle, 0.01 cycle, 0.01 degree and an arc minute.
+pub const TURN: u64 = 788_400_000_000_000;
+
+pub const TEN_BILLIONTH: u64 = 78_840;
+
+pub const CENTICYCLE: u64 = 7_884_000_000_000;
+
+pub const CENTIDEGREE: u64 = 21_900_000_000;
+
+pub const ARC_MINUTE: u64 = 36_500_000_000;
 
 // How far a lies from 0, or from -1 where it is negative.
 fn distance(a: i64) -> u64

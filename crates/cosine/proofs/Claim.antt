@@ -1,17 +1,17 @@
 -- The claim: the fixed cosine is within E of 2^30 times the cosine at every angle, for any table whose entries pass a test.
 -- `Good` is what the test gives, and `claim` is the theorem; it serves every step h that divides the quarter.
--- Assumes nothing.
+-- Rests on `Series` (how far the sums bend), `Line` (a rounded line between nearest entries) and `Signs` (round the quadrants). Assumes nothing.
 use mathlib.Core.Path.{_≡_, refl, sym, _∙_, ap, subst}
 use mathlib.Core.Bool.{Bool, true, false, cond}
-use Prim.Native.Nat.{ℕ, zero, suc, _+_, _-_, _*_, _/_, _%_, _^_, _≤_, _<_}
+use Prim.Native.Nat.{ℕ, zero, _+_, _-_, _*_, _/_, _%_, _≤_, _<_}
 use native.Mathlib.Nat.{one-mul, div-mul-le-self, lt-div-mul-add, div-add-mod', mod-lt, div-lt-iff-lt-mul, mul-mod-left, mul-div-cancel, mul-le-mul-right}
 use native.Mathlib.Omega.{arith}
 use borrow.Author.Tests.{eqb-true, eqb-false, le-ltb}
 use lib.Dec.{eqb, lit≤, lit<}
-use lib.IntN.{ℤ, pos, subℕ, natAbs}
+use lib.IntN.{pos, subℕ, natAbs}
 use lib.Arith.{lt-of-le-ne}
 use Rattle.cosine.specs.Fraction.{quarter, factorial, arc, unit, term, added, taken, whole, base, around, cosine}
-use Rattle.cosine.specs.Fixed.{one, nearest, entry, line, fixedBase, Within, IsNearest}
+use Rattle.cosine.specs.Fixed.{one, nearest, entry, fixedBase, Within, IsNearest}
 use Rattle.cosine.proofs.Line.{Near, Close, between, fallen}
 use Rattle.cosine.proofs.Series.{addedBend, takenBend, added-chorded, taken-chorded}
 use Rattle.cosine.proofs.Signs.{Off, within, apart, in-quadrant}

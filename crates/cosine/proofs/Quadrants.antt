@@ -1,7 +1,7 @@
 -- One division of an angle by the step gives its quadrant, the entry before it and the one before its mirror image in the quarter:
 -- for any step h and any count N of steps in a quarter turn, the lines from those two entries give the fixed cosine and sine.
 -- Rests on the entries' fall (`Rule`). Assumes nothing.
-use mathlib.Core.Path.{_≡_, refl, sym, _∙_, ap, ap₂, subst}
+use mathlib.Core.Path.{_≡_, refl, sym, _∙_, ap}
 use mathlib.Core.Bool.{Bool, true, false, cond}
 use mathlib.Core.Logic.{⊎-elim}
 use Prim.Native.Nat.{ℕ, zero, suc, _+_, _-_, _*_, _/_, _%_, _^_, _≤_, _<_}
@@ -10,7 +10,7 @@ use native.Mathlib.Omega.{arith}
 use borrow.Author.Tests.{eqb-true}
 use lib.Dec.{eqb}
 use lib.Arith.{mod-mul}
-use lib.IntN.{ℤ, pos}
+use lib.IntN.{pos}
 use mir.Syntax.{w64}
 use mir.Val.{Fits}
 use Rattle.cosine.specs.Fraction.{quarter, inQuadrant, around}
@@ -102,23 +102,25 @@ module _ {E h m N : ℕ} (p : Passed E h m N) where
           other-quadrant : (t + 3 * quarter) / quarter % 4 ≡ (t / quarter % 4 + 3) % 4
           other-quadrant = omega arith
 
--- ---- what the code's line needs: c and d are the entries at its ends
+-- ---- what the code's line needs
 
 pub entry-fits : {E h m N : ℕ} (p : Passed E h m N) (i : ℕ) → i ≤ N → {c : ℕ} → c ≡ entry h i → Fits w64 c
 entry-fits p i l e = record { fits = omega (arith, at-most-one p i l) }
 
-module _ {E h m N : ℕ} (p : Passed E h m N) {i r c d : ℕ} (l : i < N) (k : r ≤ h) (hc : c ≡ entry h i) (hd : d ≡ entry h (i + 1)) where
+-- the line from c, the entry i, to d, the next: each step fits, and the end is the line of 01
+pub record Falling (h i r c d : ℕ) : Type 0 where
   pub falls : d ≤ c
-  falls = omega (arith, down p i l)
-
-  pub product-fits : m * h < 2 ^ 64 → Fits w64 ((c - d) * r)
-  product-fits small = record { fits = lt-of-le-of-lt (mul-le-mul (omega (arith, near p i l)) k) small }
-
+  pub product-fits : Fits w64 ((c - d) * r)
   pub fall-below : (c - d) * r / h ≤ c
-  fall-below = le-trans (div-le-of-le-mul h (le-trans (mul-le-mul-left (c - d) k) (omega arith))) (sub-le c d)
+  pub is-line : c - (c - d) * r / h ≡ lineFrom h i r
+  pub at-most : c - (c - d) * r / h ≤ one
 
-  pub line-from : c - (c - d) * r / h ≡ lineFrom h i r
-  line-from = rw (hc, hd)
-
-  pub at-most-one-on-line : c - (c - d) * r / h ≤ one
-  at-most-one-on-line = omega (arith, at-most-one p i (omega arith))
+pub falling-line : {E h m N : ℕ} (p : Passed E h m N) → m * h < 2 ^ 64 → {i r c d : ℕ} → i < N → r ≤ h → c ≡ entry h i → d ≡ entry h (i + 1) → Falling h i r c d
+falling-line {E} {h} p small {i} {r} {c} {d} l k hc hd =
+    record {
+      falls = omega (arith, down p i l);
+      product-fits = record { fits = lt-of-le-of-lt (mul-le-mul (omega (arith, near p i l)) k) small };
+      fall-below = le-trans (div-le-of-le-mul h (le-trans (mul-le-mul-left (c - d) k) (omega arith))) (sub-le c d);
+      is-line = rw (hc, hd);
+      at-most = omega (arith, at-most-one p i (omega arith));
+    }

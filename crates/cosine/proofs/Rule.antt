@@ -1,6 +1,6 @@
 -- The rule of a table: tests that antt computes over all of it, and what they give at each entry.
--- Assumes nothing.
-use mathlib.Core.Path.{_≡_, sym, subst}
+-- Rests on `Every` for the walk over the entries, and gives `Claim` its `Good`. Assumes nothing.
+use mathlib.Core.Path.{_≡_, subst}
 use mathlib.Core.List.{List}
 use mathlib.Core.Bool.{Bool}
 use Prim.Native.Nat.{ℕ, zero, suc, _+_, _*_, _≤_, _<_}

@@ -1,7 +1,7 @@
 -- The two sums of the cosine's series are sums of powers, so their chords are known, up to a quarter turn.
--- Assumes nothing.
-use mathlib.Core.Path.{_≡_, refl, sym, _∙_, ap, subst, fun-ext}
-use Prim.Native.Nat.{ℕ, zero, suc, _+_, _-_, _*_, _/_, _^_, _≤_, _<_}
+-- Rests on `Chord`. Assumes nothing.
+use mathlib.Core.Path.{_≡_, subst, fun-ext}
+use Prim.Native.Nat.{ℕ, zero, suc, _+_, _-_, _*_, _/_, _^_}
 use native.Mathlib.Nat.{pow-zero, pow-suc}
 use native.Mathlib.Omega.{arith}
 use Rattle.cosine.specs.Fraction.{quarter, factorial, arc, unit, term, added, taken}

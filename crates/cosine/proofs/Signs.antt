@@ -1,7 +1,7 @@
 -- From two bounds in ℕ to a distance in ℤ, and round the quadrants with the cosine's signs: a distance is the same with both sides negated.
 -- Rests on the laws of ℤ in `angles`. Assumes nothing.
 use mathlib.Core.Path.{_≡_, sym, _∙_, ap, ap₂, subst}
-use Prim.Native.Nat.{ℕ, zero, suc, _+_, _-_, _*_, _≤_, _<_}
+use Prim.Native.Nat.{ℕ, zero, suc, _+_, _-_, _*_, _≤_}
 use native.Mathlib.Omega.{arith}
 use lib.IntN.{ℤ, pos, negsuc, negℤ, natAbs, subℕ, _+ℤ_, _-ℤ_, _*ℤ_, negℤ-negℤ, negℤ-+ℤ}
 use Rattle.angles.proofs.Ints.{by-order, natAbs-neg, mul-neg, neg-mul}

@@ -13,6 +13,7 @@ pub use table::ENTRIES;
 use table::STEP;
 use table::STEPS;
 
+// A cosine and a sine, in units of 2^-30.
 pub struct CosineAndSine {
     pub cosine: i64,
     pub sine: i64,
@@ -25,7 +26,7 @@ pub fn cosines() -> [u32; ENTRIES]
     COSINES
 }
 
-// On the line from entry i to the next, r ticks past entry i, rounded.
+// The number on the line from entry i to the next, r ticks past entry i: entry i less the fall, rounded down.
 fn on_line(table: &[u32; ENTRIES], i: usize, r: u64) -> u64
     requires { ⌜ IsTable (now table) ⌝ }
     requires { ⌜ (i + 1 < entries) × (r ≤ step) ⌝ }
@@ -44,6 +45,7 @@ fn either(first: bool, a: u64, b: u64) -> u64
     if first { a } else { b }
 }
 
+// A size with its sign.
 fn with_sign(minus: bool, size: u64) -> i64
     requires { ⌜ size ≤ one ⌝ }
     ensures { λ z. ⌜ z ≡ cond minus (negℤ (pos size)) (pos size) ⌝ }
@@ -55,7 +57,7 @@ fn with_sign(minus: bool, size: u64) -> i64
     size as i64
 }
 
-// In quadrant q the cosine has the size near in an even one and far in an odd one, and is negative in the two in the middle.
+// The cosine in quadrant q: of size near in an even quadrant and far in an odd one, negative in the two in the middle.
 fn in_quadrant(q: u64, near: u64, far: u64) -> i64
     requires { ⌜ (q < 4) × (near ≤ one) × (far ≤ one) ⌝ }
     ensures { λ z. ⌜ z ≡ inQuadrant q (pos near) (pos far) ⌝ }
@@ -65,7 +67,8 @@ fn in_quadrant(q: u64, near: u64, far: u64) -> i64
     with_sign((q + 1) % 4 >= 2, size)
 }
 
-// The fixed cosine and the fixed sine of an angle.
+// The fixed cosine and the fixed sine of any number of ticks, by one division into quadrant, entry and remainder.
+// The mirror image of the remainder in its quadrant, on the line before the mirrored entry, serves the odd quadrants.
 pub fn wave(table: &[u32; ENTRIES], ticks: u64) -> CosineAndSine
     requires { ⌜ IsTable (now table) ⌝ }
     ensures { λ w. ⌜ w .cosine ≡ fixedCosine ticks ⌝ }

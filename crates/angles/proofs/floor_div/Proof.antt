@@ -14,9 +14,6 @@ use Rattle.angles.proofs.Machine.{through, fits-as, if-negative, if-not
 use borrow.Author.Needs.{needs}
 use Rattle.angles.proofs.floor_div.Statement.{statement}
 use Rattle.angles.proofs.floor_div.Tie as tie
-use Rattle.angles.proofs.floor_div.Reads as reads
-use Rattle.angles.proofs.floor_div.Lts as lts
-use Rattle.angles.proofs.distance.Reads as distance-reads
 
 quotient-fits : (m n : ℕ) → m < 2 ^ 63 → SFits w64 (pos (m / n))
 quotient-fits m n h = record { sfits = lt-of-le-of-lt (div-le-self m n) h }

@@ -14,9 +14,6 @@ use Rattle.angles.proofs.Machine.{if-negative, if-not-negative}
 use borrow.Author.Needs.{needs}
 use Rattle.angles.proofs.mod_turn.Statement.{statement}
 use Rattle.angles.proofs.mod_turn.Tie as tie
-use Rattle.angles.proofs.mod_turn.Reads as reads
-use Rattle.angles.proofs.mod_turn.Lts as lts
-use Rattle.angles.proofs.distance.Reads as distance-reads
 
 mod-negative : (z : ℤ) → ltZ z (pos 0) ≡ true → turn - 1 - mag z % turn ≡ modTurn z
 mod-negative = if-negative (λ z. turn - 1 - mag z % turn ≡ modTurn z) (λ k. refl)

@@ -7,8 +7,6 @@ use Rattle.cosine.proofs.Rule.{right}
 use Rattle.cosine.proofs.Computed.{is-table}
 use Rattle.cosine.proofs.cosines.Statement.{statement}
 use Rattle.cosine.proofs.cosines.Tie as tie
-use Rattle.cosine.proofs.cosines.Reads as reads
-use Rattle.cosine.proofs.cosines.Lts as lts
 
 returns : tie.Need-returns
 unfolding right entry base added taken whole term factorial arc unit

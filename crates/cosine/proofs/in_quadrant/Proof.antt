@@ -1,6 +1,6 @@
 -- `cosine::in_quadrant` meets its contract: the four quadrants, each computed.
 -- Assumes nothing.
-use mathlib.Core.Path.{_≡_, refl, sym, _∙_, ap, subst}
+use mathlib.Core.Path.{_≡_, refl, _∙_, ap}
 use mathlib.Core.Bool.{Bool, true, false, cond}
 use Prim.Native.Nat.{ℕ, zero, suc, _+_, _%_, _≤_, _<_}
 use native.Mathlib.Omega.{arith}
@@ -12,10 +12,6 @@ use Rattle.cosine.specs.Fixed.{one}
 use borrow.Author.Needs.{needs}
 use Rattle.cosine.proofs.in_quadrant.Statement.{statement}
 use Rattle.cosine.proofs.in_quadrant.Tie as tie
-use Rattle.cosine.proofs.in_quadrant.Reads as reads
-use Rattle.cosine.proofs.in_quadrant.Lts as lts
-use Rattle.cosine.proofs.either.Reads as either-reads
-use Rattle.cosine.proofs.with_sign.Reads as with-sign-reads
 
 either-small : (t : Bool) (a b : ℕ) → a ≤ one → b ≤ one → cond t a b ≤ one
 either-small true a b h k = h

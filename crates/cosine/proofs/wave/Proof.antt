@@ -9,10 +9,6 @@ use Rattle.cosine.proofs.Quadrants.{cosine-is, sine-is}
 use borrow.Author.Needs.{needs}
 use Rattle.cosine.proofs.wave.Statement.{statement}
 use Rattle.cosine.proofs.wave.Tie as tie
-use Rattle.cosine.proofs.wave.Reads as reads
-use Rattle.cosine.proofs.wave.Lts as lts
-use Rattle.cosine.proofs.in_quadrant.Reads as in-quadrant-reads
-use Rattle.cosine.proofs.on_line.Reads as on-line-reads
 
 on-line-requires : tie.Need-on-line-requires
 on-line-requires c κs = search needs

@@ -5,8 +5,6 @@ use Rattle.angles.proofs.Known.{cast, negated, fits, kept, says}
 use borrow.Author.Needs.{needs}
 use Rattle.cosine.proofs.with_sign.Statement.{statement}
 use Rattle.cosine.proofs.with_sign.Tie as tie
-use Rattle.cosine.proofs.with_sign.Reads as reads
-use Rattle.cosine.proofs.with_sign.Lts as lts
 
 cast-result : tie.Need-cast-result
 cast-result c = search needs
