@@ -1,22 +1,23 @@
 -- Demand 3's distance: a height lies within 1/2 + n/4,096 + sizes/2^32 of the exact sum, for every list of constituents and every minute.
 -- Each share is off by its floor, at most 1, and by the cosine's bound times the weights' sizes; the sums add up; the height's floor is off
 -- by at most a half. All over any bound e of the fixed cosine, then at cosine's own. Rests on cosine's claim. Assumes nothing.
-use Prim.Native.Nat.{ℕ, zero, suc, _+_, _-_, _*_, _/_, _^_, _≤_, _<_}
+use Prim.Native.Nat.{ℕ, _+_, _*_, _/_, _≤_, _<_}
 use native.Mathlib.Omega.{arith}
-use native.Mathlib.Nat.{le-refl, mul-le-mul-left}
+use native.Mathlib.Nat.{mul-le-mul-left}
 use mathlib.Core.List.{List, [], _∷_}
-use mathlib.Core.Path.{_≡_, refl, sym, ap, ap₂, subst, _∙_}
+use mathlib.Core.Path.{_≡_, sym, ap, ap₂, subst, _∙_}
 use lib.Dec.{lit<}
 use lib.IntN.{ℤ, pos, negℤ, natAbs, _+ℤ_, _-ℤ_, _*ℤ_, *ℤ-comm}
-use lib.ListN.{length}
+use lib.ListN.{length, getD}
 use Rattle.angles.specs.Floor.{floorDiv}
 use Rattle.angles.proofs.Ints.{natAbs-neg, neg-mul, assoc, distrib, distrib-right}
 use Rattle.cosine.specs.Fraction.{quarter, whole, cosine, sine}
 use Rattle.cosine.specs.Fixed.{one, bound, fixedCosine, fixedSine, Within}
 use Rattle.cosine.proofs.Computed.{cosine-within}
 use Rattle.prepared.specs.Prepared.{Constituent}
-use Rattle.heights.specs.Height.{angleAt, share, sharesAt, heightAt}
+use Rattle.heights.specs.Height.{angleAt, share, sumOfShares, heightAt, seriesOf}
 use Rattle.heights.specs.Exact.{exactSum, sizes, scale, Near}
+use Rattle.heights.proofs.Shares.{series-height}
 use Rattle.heights.proofs.Apart.{apart-sums, apart-through, apart-times, apart-floor, apart-nearest}
 
 -- a weight times a fixed number f that is near k × c / w
@@ -55,20 +56,20 @@ module _ (e : ℕ) (claim : (t : ℕ) → Within e (fixedCosine t) (cosine t)) w
       floored (p *ℤ fixedCosine t -ℤ q *ℤ fixedSine t) (pos one *ℤ (p *ℤ cosine t -ℤ q *ℤ sine t)) whole one ((natAbs p + natAbs q) * (e * whole)) (lit< tt)
       (difference p q (fixedCosine t) (fixedSine t) (cosine t) (sine t) whole one (e * whole) (claim t) (claim (t + 3 * quarter)))
 
-  pub shares-near : (cs : List Constituent) (minute : ℕ) → natAbs (pos whole *ℤ (pos one *ℤ sharesAt cs minute) -ℤ pos one *ℤ exactSum cs minute) ≤ (one * length cs + e * sizes cs) * whole
-  unfolding sharesAt exactSum sizes
+  pub shares-near : (cs : List Constituent) (minute : ℕ) → natAbs (pos whole *ℤ (pos one *ℤ sumOfShares cs minute) -ℤ pos one *ℤ exactSum cs minute) ≤ (one * length cs + e * sizes cs) * whole
+  unfolding sumOfShares exactSum sizes
   shares-near [] minute = omega arith
   shares-near (c ∷ cs) minute =
       let a = share (c .p) (c .q) (angleAt c minute) in
       let x = c .p *ℤ cosine (angleAt c minute) -ℤ c .q *ℤ sine (angleAt c minute) in
-      rw (distrib (pos one) a (sharesAt cs minute), distrib (pos whole) (pos one *ℤ a) (pos one *ℤ sharesAt cs minute), distrib (pos one) x (exactSum cs minute))
-      (omega (arith, apart-sums (pos whole *ℤ (pos one *ℤ a)) (pos whole *ℤ (pos one *ℤ sharesAt cs minute)) (pos one *ℤ x) (pos one *ℤ exactSum cs minute), share-near (c .p) (c .q) (angleAt c minute), shares-near cs minute))
+      rw (distrib (pos one) a (sumOfShares cs minute), distrib (pos whole) (pos one *ℤ a) (pos one *ℤ sumOfShares cs minute), distrib (pos one) x (exactSum cs minute))
+      (omega (arith, apart-sums (pos whole *ℤ (pos one *ℤ a)) (pos whole *ℤ (pos one *ℤ sumOfShares cs minute)) (pos one *ℤ x) (pos one *ℤ exactSum cs minute), share-near (c .p) (c .q) (angleAt c minute), shares-near cs minute))
 
   -- the height, both sides times 2^42 × whole
   pub height-near : (cs : List Constituent) (minute : ℕ) → natAbs (pos (whole * one * 4_096) *ℤ heightAt cs minute -ℤ pos one *ℤ exactSum cs minute) ≤ (2_048 * one + one * length cs + e * sizes cs) * whole
   unfolding heightAt
   height-near cs minute =
-      let s = sharesAt cs minute in
+      let s = sumOfShares cs minute in
       let x = pos one *ℤ exactSum cs minute in
       let h = heightAt cs minute in
       rw (scaled-thrice whole one 4_096 h)
@@ -84,3 +85,7 @@ height-is-near cs minute =
     let ea : pos bound *ℤ a ≡ pos (whole * one * 4_096) *ℤ h = sym (assoc (pos bound) (pos (scale * whole)) h) ∙ ap (λ (n : ℕ). pos n *ℤ h) (omega arith) in
     let eb : pos bound *ℤ b ≡ pos one *ℤ exactSum cs minute = sym (assoc (pos bound) (pos (scale / 4_096)) (exactSum cs minute)) in
     omega (arith, apart-times (pos bound) a b, ap₂ (λ (x y : ℤ). natAbs (x -ℤ y)) ea eb, height-near bound cosine-within cs minute)
+
+-- "a series' height n, from 0, at start + n × step"
+pub series-is-near : (cs : List Constituent) (start step places n : ℕ) → n < places → Near cs (start + n * step) (getD (seriesOf cs start step places) n (pos 0))
+series-is-near cs start step places n h = rw (series-height cs start step places n h) (height-is-near cs (start + n * step))

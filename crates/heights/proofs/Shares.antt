@@ -6,20 +6,20 @@ use native.Mathlib.Numerals.{add-one}
 use mathlib.Core.Path.{_≡_, refl, ap, _∙_}
 use mathlib.Core.List.{List, [], _∷_, _++_, append-nil}
 use lib.IntN.{ℤ, pos, _+ℤ_}
-use lib.ListN.{length, getD, set, drop, drop-of-length-le}
+use lib.ListN.{length, getD, set, drop-of-length-le}
 use lib.Seq.{sets, sets-eq}
 use Rattle.prepared.specs.Prepared.{Constituent}
 use Rattle.prepared.specs.View.{constituentsAfter}
 use Rattle.prepared.proofs.Places.{constituents-more, constituents-none}
-use Rattle.heights.specs.Height.{angle, share, sharesAt, heightAt, seriesFrom, seriesOf}
+use Rattle.heights.specs.Height.{angle, share, sumOfShares, heightAt, seriesFrom, seriesOf}
 
 module _ (arguments lags frequencies : List ℕ) (ps qs : List ℤ) (minute k n : ℕ) where
-  pub shares-more : k < n → sharesAt (constituentsAfter arguments lags frequencies ps qs k (n - k)) minute ≡ share (getD ps k (pos 0)) (getD qs k (pos 0)) (angle (getD arguments k 0) (getD lags k 0) (getD frequencies k 0) minute) +ℤ sharesAt (constituentsAfter arguments lags frequencies ps qs (k + 1) (n - (k + 1))) minute
-  unfolding sharesAt
+  pub shares-more : k < n → sumOfShares (constituentsAfter arguments lags frequencies ps qs k (n - k)) minute ≡ share (getD ps k (pos 0)) (getD qs k (pos 0)) (angle (getD arguments k 0) (getD lags k 0) (getD frequencies k 0) minute) +ℤ sumOfShares (constituentsAfter arguments lags frequencies ps qs (k + 1) (n - (k + 1))) minute
+  unfolding sumOfShares
   shares-more h = rw (constituents-more arguments lags frequencies ps qs k n h)
 
-  pub shares-none : n ≤ k → sharesAt (constituentsAfter arguments lags frequencies ps qs k (n - k)) minute ≡ pos 0
-  unfolding sharesAt
+  pub shares-none : n ≤ k → sumOfShares (constituentsAfter arguments lags frequencies ps qs k (n - k)) minute ≡ pos 0
+  unfolding sumOfShares
   shares-none h = rw (constituents-none arguments lags frequencies ps qs k n h)
 
 module _ (cs : List Constituent) (start step : ℕ) where
@@ -63,5 +63,5 @@ module _ (cs : List Constituent) (start step : ℕ) (out : List ℤ) where
       sets-eq xs out 0 (omega arith) ∙ (ap (λ (d : List ℤ). xs ++ d) (drop-of-length-le out {i = 0 + length xs} (omega arith)) ∙ append-nil xs)
 
 pub empty-height : (minute : ℕ) → heightAt [] minute ≡ pos 0
-unfolding heightAt sharesAt
+unfolding heightAt sumOfShares
 empty-height minute = refl

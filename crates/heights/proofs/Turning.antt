@@ -13,7 +13,7 @@ use Rattle.angles.specs.Floor.{modTurn}
 use Rattle.angles.proofs.Ints.{by-order, distrib, distrib-sub, four, swap}
 use Rattle.angles.proofs.Angles.{below-turn, of-both}
 use Rattle.heights.specs.Height.{angle}
-use Rattle.heights.specs.Angles.{Angles, Advances, Below}
+use Rattle.heights.specs.Angles.{Angles, Advances, Below, MovedOn}
 
 -- ---- the angle at a minute
 
@@ -73,14 +73,13 @@ advance-is f s = advance-of f (f / lap) (f % lap) s (f % lap * s / lap) (f % lap
 
 -- ---- arrays of angles
 
-module _ (arguments lags frequencies angles ticks : List ℕ) (count minute step : ℕ) (now : Angles arguments lags frequencies count minute angles) (each : Advances frequencies count step ticks) where
-  pub angles-later : (later : List ℕ) → ((k : ℕ) → k < count → getD later k 0 ≡ (getD angles k 0 + getD ticks k 0) % turn) → Angles arguments lags frequencies count (minute + step) later
-  angles-later later moved k h =
-      moved k h
-      ∙ (ap₂ (λ (a b : ℕ). (a + b) % turn) (now k h) (each k h) ∙ sym (angle-later (getD arguments k 0) (getD lags k 0) (getD frequencies k 0) minute step))
+pub angles-below : (arguments lags frequencies angles : List ℕ) (count minute : ℕ) → Angles arguments lags frequencies count minute angles → Below count angles
+angles-below arguments lags frequencies angles count minute here k h = rw (here k h) (angle-below (getD arguments k 0) (getD lags k 0) (getD frequencies k 0) minute)
 
-  pub angles-below : Below count angles
-  angles-below k h = rw (now k h) (angle-below (getD arguments k 0) (getD lags k 0) (getD frequencies k 0) minute)
+pub ticks-below : (frequencies ticks : List ℕ) (count step : ℕ) → Advances frequencies count step ticks → Below count ticks
+ticks-below frequencies ticks count step each k h = rw (each k h) (omega arith)
 
-  pub ticks-below : Below count ticks
-  ticks-below k h = rw (each k h) (omega arith)
+pub angles-later : (arguments lags frequencies angles ticks : List ℕ) (count minute step : ℕ) → Angles arguments lags frequencies count minute angles → Advances frequencies count step ticks → (later : List ℕ) → MovedOn count ticks angles later → Angles arguments lags frequencies count (minute + step) later
+angles-later arguments lags frequencies angles ticks count minute step here each later moved k h =
+    moved k h
+    ∙ (ap₂ (λ (a b : ℕ). (a + b) % turn) (here k h) (each k h) ∙ sym (angle-later (getD arguments k 0) (getD lags k 0) (getD frequencies k 0) minute step))

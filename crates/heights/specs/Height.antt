@@ -8,7 +8,8 @@ use Rattle.angles.specs.Floor.{floorDiv, modTurn}
 use Rattle.cosine.specs.Fixed.{fixedCosine, fixedSine}
 use Rattle.prepared.specs.Prepared.{Constituent}
 
--- "A constituent's angle is V - lag + 1,314 × frequency (10^-10 cycle an hour) × (minute - 21,600)", modulo T
+-- "A constituent's angle is V - lag + 1,314 × frequency (10^-10 cycle an hour) × (minute - 21,600)", modulo T;
+-- V in ticks, the lag in hundredths of a degree
 unfoldable pub angle : ℕ → ℕ → ℕ → ℕ → ℕ
 angle v lag frequency minute =
     modTurn (pos v -ℤ pos (lag * centidegree) +ℤ pos (1_314 * frequency) *ℤ (pos minute -ℤ pos 21_600))
@@ -20,14 +21,14 @@ angleAt c minute = angle (c .argument) (c .lag) (c .frequency) minute
 unfoldable pub share : ℤ → ℤ → ℕ → ℤ
 share p q angle = floorDiv (p *ℤ fixedCosine angle -ℤ q *ℤ fixedSine angle) (2 ^ 30)
 
--- the sum of the shares at a minute
-unfoldable pub sharesAt : List Constituent → ℕ → ℤ
-sharesAt [] minute = pos 0
-sharesAt (c ∷ cs) minute = share (c .p) (c .q) (angleAt c minute) +ℤ sharesAt cs minute
+-- "sum of shares", at a minute
+unfoldable pub sumOfShares : List Constituent → ℕ → ℤ
+sumOfShares [] minute = pos 0
+sumOfShares (c ∷ cs) minute = share (c .p) (c .q) (angleAt c minute) +ℤ sumOfShares cs minute
 
 -- "the height is floor((sum of shares + 2,048)/4,096) tenths of a millimetre"
 unfoldable pub heightAt : List Constituent → ℕ → ℤ
-heightAt cs minute = floorDiv (sharesAt cs minute +ℤ pos 2_048) 4_096
+heightAt cs minute = floorDiv (sumOfShares cs minute +ℤ pos 2_048) 4_096
 
 -- "a series' height n, from 0, at start + n × step": `left` heights from height n on
 unfoldable pub seriesFrom : List Constituent → ℕ → ℕ → ℕ → ℕ → List ℤ

@@ -1,14 +1,14 @@
 // Heights of the water from a prepared month's constituents. The table of cosines and the arrays are lent.
 ghost use mathlib.Core.Path.{_≡_};
-ghost use mathlib.Core.List.{List};
-ghost use Prim.Native.Nat.{ℕ, _+_, _*_, _%_, _≤_, _<_, _^_};
+ghost use Prim.Native.Nat.{_+_, _*_, _%_, _≤_, _<_, _^_};
 ghost use lib.IntN.{natAbs, _*ℤ_};
-ghost use lib.ListN.{length, getD};
+ghost use lib.ListN.{length};
 ghost use Rattle.angles.specs.Ticks.{turn};
 ghost use Rattle.cosine.specs.Fixed.{one, IsTable};
 ghost use Rattle.prepared.specs.View.{constituentsFrom};
 ghost use Rattle.heights.specs.Height.{angle, share, heightAt, seriesOf};
-ghost use Rattle.heights.specs.Angles.{Angles, Advances, Below};
+ghost use Rattle.heights.specs.Angles.{Angles, Advances, Below, MovedOn, HeightOf};
+use cosine::ENTRIES;
 
 const TURN: u64 = 788_400_000_000_000;
 
@@ -19,11 +19,12 @@ const CENTIDEGREE: u64 = 21_900_000_000;
 const ADVANCE: u64 = 1_314;
 
 // so a frequency of this many moves it by a whole turn.
-const LAP: u64 = 600_000_000_000;
+const LAP: u64 = TURN / ADVANCE;
 
 // Minutes from the month's start to its instant.
 const INSTANT: u64 = 21_600;
 
+// A number of 16 bits, wider.
 fn wide(x: u16) -> u64
     ensures { λ r. ⌜ r ≡ x ⌝ }
     ensures { λ r. ⌜ r < 65_536 ⌝ }
@@ -96,7 +97,7 @@ fn sum_of(angle: u64, ticks: u64) -> u64
 pub fn move_on(angles: &mut [u64; 146], ticks: &[u64; 146], count: usize)
     requires { ⌜ (length (now angles) ≡ 146) × ((count ≤ 146) × (Below count (now angles) × Below count (now ticks))) ⌝ }
     ensures { λ r. ⌜ length (now (angles .exit)) ≡ 146 ⌝ }
-    ensures { λ r. ⌜ ((k : ℕ) → k < count → getD (now (angles .exit)) k 0 ≡ (getD (now (angles .entry)) k 0 + getD (now (ticks .entry)) k 0) % turn) ⌝ }
+    ensures { λ r. ⌜ MovedOn count (now (ticks .entry)) (now (angles .entry)) (now (angles .exit)) ⌝ }
 {
     let mut k: usize = 0;
     while k < count {
@@ -115,7 +116,7 @@ pub fn weigh(weight: i32, wave: i64) -> i64
 }
 
 // The share of weights P and Q at an angle.
-pub fn share_at(table: &[u32; 1025], angle: u64, p: i32, q: i32) -> i64
+pub fn share_at(table: &[u32; ENTRIES], angle: u64, p: i32, q: i32) -> i64
     requires { ⌜ IsTable (now table) ⌝ }
     ensures { λ r. ⌜ r ≡ share p q angle ⌝ }
     ensures { λ r. ⌜ natAbs r ≤ 2 ^ 32 ⌝ }
@@ -126,14 +127,14 @@ pub fn share_at(table: &[u32; 1025], angle: u64, p: i32, q: i32) -> i64
 
 // The height of the first `count` constituents at the minute that the angles are for.
 pub fn height_of<'a>(
-    table: &'a [u32; 1025],
+    table: &'a [u32; ENTRIES],
     angles: &'a [u64; 146],
     ps: &'a [i32; 146],
     qs: &'a [i32; 146],
     count: usize,
 ) -> i64
     requires { ⌜ IsTable (now table) × (count ≤ 146) ⌝ }
-    ensures { λ r. ⌜ ((arguments lags frequencies : List ℕ) (minute : ℕ) → Angles arguments lags frequencies count minute (now (angles .entry)) → r ≡ heightAt (constituentsFrom arguments lags frequencies (now (ps .entry)) (now (qs .entry)) count) minute) ⌝ }
+    ensures { λ r. ⌜ HeightOf (now (angles .entry)) (now (ps .entry)) (now (qs .entry)) count r ⌝ }
     ensures { λ r. ⌜ natAbs r ≤ 2 ^ 28 ⌝ }
 {
     let mut sum: i64 = 0;
@@ -147,7 +148,7 @@ pub fn height_of<'a>(
 
 // The height at a minute.
 pub fn height<'a>(
-    table: &'a [u32; 1025],
+    table: &'a [u32; ENTRIES],
     arguments: &'a [u64; 146],
     lags: &'a [u16; 146],
     frequencies: &'a [u64; 146],
@@ -166,7 +167,7 @@ pub fn height<'a>(
 
 // The heights at start, start + step, start + 2 × step and so on, one for each lent place.
 pub fn series<'a>(
-    table: &'a [u32; 1025],
+    table: &'a [u32; ENTRIES],
     arguments: &'a [u64; 146],
     lags: &'a [u16; 146],
     frequencies: &'a [u64; 146],

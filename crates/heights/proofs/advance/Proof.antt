@@ -1,13 +1,11 @@
 -- `heights::advance` meets its contract: `advance-is`. Assumes nothing.
-use Prim.Native.Nat.{_+_, _*_, _%_, _≤_, _<_}
+use Prim.Native.Nat.{_%_}
 use native.Mathlib.Omega.{arith}
 use native.Mathlib.Nat.{mul-le-mul}
 use Rattle.heights.proofs.Turning.{lap, advance-is}
 use borrow.Author.Needs.{needs}
 use Rattle.heights.proofs.advance.Statement.{statement}
 use Rattle.heights.proofs.advance.Tie as tie
-use Rattle.heights.proofs.advance.Reads as reads
-use Rattle.heights.proofs.advance.Lts as lts
 
 mul-result : tie.Need-mul-result
 mul-result c = record { fits = omega (arith, mul-le-mul {n₁ = c .args .frequency % lap} {m₁ = c .args .step} {n₂ = lap} {m₂ = 1_440} (omega arith) (search needs)) }

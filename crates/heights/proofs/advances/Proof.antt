@@ -1,19 +1,15 @@
 -- `heights::advances` meets its contract: the places below k are right. Assumes nothing.
 use borrow.Author.Needs.{needs}
-use Prim.Native.Nat.{ℕ, _+_, _-_, _*_, _%_, _≤_, _<_}
+use Prim.Native.Nat.{_-_, _*_, _%_, _≤_, _<_}
 use native.Mathlib.Omega.{arith}
-use mathlib.Core.Path.{_≡_, refl, sym, ap, _∙_}
+use mathlib.Core.Path.{_≡_, refl, _∙_}
 use lib.ListN.{length, getD, length-set}
 use borrow.Author.Count.{below-none}
 use Rattle.angles.specs.Ticks.{turn}
-use Rattle.heights.specs.Height.{angle}
-use Rattle.heights.specs.Angles.{Angles, Advances, Below}
-use Rattle.heights.proofs.Filling.{filled-more, unreached}
+use Rattle.heights.specs.Angles.{Advances}
+use Rattle.heights.proofs.Filling.{filled-more}
 use Rattle.heights.proofs.advances.Statement.{statement}
 use Rattle.heights.proofs.advances.Tie as tie
-use Rattle.heights.proofs.advances.Reads as reads
-use Rattle.heights.proofs.advances.Lts as lts
-use Rattle.heights.proofs.advance.Reads as advance-reads
 
 abbrev Inv-loop : tie.InvT-loop
 Inv-loop frequencies count step ticks₀ k₀ ticks k = (k ≤ count) × ((length ticks ≡ 146) × Advances frequencies k step ticks)

@@ -1,17 +1,13 @@
 -- `heights::angle_at` meets its contract: `angle-is`. Assumes nothing.
-use Prim.Native.Nat.{ℕ, _+_, _-_, _*_, _%_, _≤_, _<_}
-use mathlib.Core.Path.{_≡_, sym, ap, _∙_}
+use Prim.Native.Nat.{ℕ, _*_, _%_, _≤_}
+use mathlib.Core.Path.{sym, ap, _∙_}
 use native.Mathlib.Omega.{arith}
 use native.Mathlib.Nat.{mul-le-mul}
 use borrow.Author.Needs.{needs}
-use Rattle.angles.specs.Ticks.{turn, centidegree}
 use Rattle.heights.specs.Height.{angle}
 use Rattle.heights.proofs.Turning.{lap, angle-is}
 use Rattle.heights.proofs.angle_at.Statement.{statement}
 use Rattle.heights.proofs.angle_at.Tie as tie
-use Rattle.heights.proofs.angle_at.Reads as reads
-use Rattle.heights.proofs.angle_at.Lts as lts
-use Rattle.heights.proofs.wide.Reads as wide-reads
 
 -- the laps fit
 within : (f m : ℕ) → m ≤ 44_640 → f % lap * m ≤ lap * 44_640

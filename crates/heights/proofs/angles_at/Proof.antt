@@ -1,5 +1,5 @@
 -- `heights::angles_at` meets its contract: the places below k are right. Assumes nothing.
-use Prim.Native.Nat.{ℕ, _+_, _-_, _≤_, _<_}
+use Prim.Native.Nat.{_-_, _≤_, _<_}
 use native.Mathlib.Omega.{arith}
 use mathlib.Core.Path.{_≡_, refl, _∙_}
 use borrow.Author.Needs.{needs}
@@ -10,9 +10,6 @@ use Rattle.heights.specs.Angles.{Angles}
 use Rattle.heights.proofs.Filling.{filled-more}
 use Rattle.heights.proofs.angles_at.Statement.{statement}
 use Rattle.heights.proofs.angles_at.Tie as tie
-use Rattle.heights.proofs.angles_at.Reads as reads
-use Rattle.heights.proofs.angles_at.Lts as lts
-use Rattle.heights.proofs.angle_at.Reads as angle-at-reads
 
 abbrev Inv-loop : tie.InvT-loop
 Inv-loop arguments lags frequencies count minute angles₀ k₀ angles k = (k ≤ count) × ((length angles ≡ 146) × Angles arguments lags frequencies k minute angles)

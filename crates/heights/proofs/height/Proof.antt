@@ -1,14 +1,9 @@
 -- `heights::height` meets its contract: the height of the angles at the minute. Assumes nothing.
-use mathlib.Core.Path.{_∙_}
 use borrow.Author.Needs.{needs}
 use lib.Dec.{lit<}
 use Rattle.angles.proofs.Known.{known, kept, says}
 use Rattle.heights.proofs.height.Statement.{statement}
 use Rattle.heights.proofs.height.Tie as tie
-use Rattle.heights.proofs.height.Reads as reads
-use Rattle.heights.proofs.height.Lts as lts
-use Rattle.heights.proofs.angles_at.Reads as angles-at-reads
-use Rattle.heights.proofs.height_of.Reads as height-of-reads
 
 angles-at-requires : tie.Need-angles-at-requires
 angles-at-requires c κs = search needs

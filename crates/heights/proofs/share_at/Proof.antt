@@ -9,10 +9,6 @@ use Rattle.angles.proofs.Known.{known, read, read-narrow, times, minus, shifted
 use Rattle.heights.specs.Height.{share}
 use Rattle.heights.proofs.share_at.Statement.{statement}
 use Rattle.heights.proofs.share_at.Tie as tie
-use Rattle.heights.proofs.share_at.Reads as reads
-use Rattle.heights.proofs.share_at.Lts as lts
-use Rattle.cosine.proofs.wave.Reads as wave-reads
-use Rattle.heights.proofs.weigh.Reads as weigh-reads
 
 wave-requires : tie.Need-wave-requires
 wave-requires c κs = search needs

@@ -1,13 +1,9 @@
 -- `heights::weigh` meets its contract: the product of a number of 32 bits and one of at most 2^30. Assumes nothing.
-use Prim.Native.Nat.{_^_, _*_}
 use lib.Dec.{lit<}
-use lib.IntN.{_*ℤ_}
 use mir.Syntax.{w32}
-use Rattle.angles.proofs.Known.{Known, read, read-narrow, times, kept, fits, says}
+use Rattle.angles.proofs.Known.{read, read-narrow, times, kept, fits, says}
 use Rattle.heights.proofs.weigh.Statement.{statement}
 use Rattle.heights.proofs.weigh.Tie as tie
-use Rattle.heights.proofs.weigh.Reads as reads
-use Rattle.heights.proofs.weigh.Lts as lts
 
 cast-result : tie.Need-cast-result
 cast-result c = fits (read-narrow w32 (c .args .weight) (c .fits .weight)) (lit< tt)
