@@ -12,6 +12,7 @@ ghost use Rattle.turns.specs.Stride.{strideOf};
 ghost use Rattle.turns.specs.Search.{differ, turnsOf};
 ghost use Rattle.turns.specs.Written.{inFront, given, givenOf};
 ghost use Rattle.turns.specs.Posts.{slopeOf, heightOf, BracketPost, NextPost, FoundPost, Kept};
+use cosine::ENTRIES;
 
 // How many turns were found, and whether the first is high.
 pub struct Summary {
@@ -82,7 +83,7 @@ fn size(slope: i64) -> u64
 }
 
 // What a constituent of weights P and Q takes from the slope at an angle.
-fn fall_at(table: &[u32; 1025], angle: u64, p: i32, q: i32, frequency: u64) -> i64
+fn fall_at(table: &[u32; ENTRIES], angle: u64, p: i32, q: i32, frequency: u64) -> i64
     requires { ⌜ IsTable (now table) ⌝ }
     requires { ⌜ frequency ≤ 4_999_999_999 ⌝ }
     ensures { λ r. ⌜ r ≡ fall p q frequency angle ⌝ }
@@ -95,7 +96,7 @@ fn fall_at(table: &[u32; 1025], angle: u64, p: i32, q: i32, frequency: u64) -> i
 
 // The slope of the first `count` constituents at a minute.
 pub fn slope<'a>(
-    table: &'a [u32; 1025],
+    table: &'a [u32; ENTRIES],
     arguments: &'a [u64; 146],
     lags: &'a [u16; 146],
     frequencies: &'a [u64; 146],
@@ -120,7 +121,7 @@ pub fn slope<'a>(
 
 // Halves a bracket whose ends' slopes are given until its ends are one minute apart.
 fn bisect<'a>(
-    table: &'a [u32; 1025],
+    table: &'a [u32; ENTRIES],
     arguments: &'a [u64; 146],
     lags: &'a [u16; 146],
     frequencies: &'a [u64; 146],
@@ -198,7 +199,7 @@ fn turn_of(b: Bracket) -> u64
 
 // Strides from a minute until the ends' slopes differ in sense, and finds the turn between them.
 fn next_turn<'a>(
-    table: &'a [u32; 1025],
+    table: &'a [u32; ENTRIES],
     arguments: &'a [u64; 146],
     lags: &'a [u16; 146],
     frequencies: &'a [u64; 146],
@@ -264,7 +265,7 @@ fn next_turn<'a>(
 
 // Finds every turn, and keeps the minutes.
 fn find_turns<'a>(
-    table: &'a [u32; 1025],
+    table: &'a [u32; ENTRIES],
     arguments: &'a [u64; 146],
     lags: &'a [u16; 146],
     frequencies: &'a [u64; 146],
@@ -322,7 +323,7 @@ fn find_turns<'a>(
 
 // Writes the kept minutes and their heights from the front of the lent buffers.
 fn write_turns<'a>(
-    table: &'a [u32; 1025],
+    table: &'a [u32; ENTRIES],
     arguments: &'a [u64; 146],
     lags: &'a [u16; 146],
     frequencies: &'a [u64; 146],
@@ -351,7 +352,7 @@ fn write_turns<'a>(
 // Searches for turns from the first minute to the last: returns how many and whether the first is high, and writes their minutes and
 // heights from the front of the lent buffers; refuses, and writes nothing, where there are more than either holds.
 pub fn turns<'a>(
-    table: &'a [u32; 1025],
+    table: &'a [u32; ENTRIES],
     arguments: &'a [u64; 146],
     lags: &'a [u16; 146],
     frequencies: &'a [u64; 146],
