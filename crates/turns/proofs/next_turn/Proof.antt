@@ -2,7 +2,7 @@
 -- Assumes nothing.
 use Rattle.turns.proofs.next_turn.Statement.{statement}
 use Rattle.turns.proofs.next_turn.Tie as tie
-use Prim.Native.Nat.{_-_, _≤_}
+use Prim.Native.Nat.{_+_, _-_, _≤_}
 use borrow.Author.Needs.{needs}
 use native.Mathlib.Omega.{arith}
 use mathlib.Core.Path.{_≡_, refl, _∙_, ap}
@@ -67,12 +67,13 @@ returns c =
     let s = c .before .before .before .before .before .before .before .before .before .before in
     let l = c .before .before .before .before .before .before .before .before .before .loop in
     let b = c .before .before .before .before .bisect in
+    let h : l .from + s .args .stride ≤ s .args .last = omega (arith, c .before .before .before .before .before .before .before .before .loop-test .taken) in
     let f : SFits w64 (b .result .late) = search needs in
     let ahead = kept-result (c .before .before .before .before .before .before .before .slope .ok) (c .before .before .before .before .before .before .before .slope .ensures) in
     let sense = sense-of (l .inv .1 .0) ahead (c .before .before .before .before .before .before .differs .ensures) (c .before .before .before .before .before .if1 .taken) in
     let high = c .before .before .rises .ensures ∙ ap rising (l .inv .1 .0) in
     turn-found _ (s .args .stride) (s .pre .1 .0 .0) (s .args .last) (s .args .minute) (l .from) (l .inv .1 .1)
-    (c .before .before .before .before .before .before .before .before .loop-test .taken) sense (b .ensures) (c .before .before .before .turn-of .ensures) high (toZ-ofZ w64 (b .result .late) f)
+    h sense (b .ensures) (c .before .before .before .turn-of .ensures) high (toZ-ofZ w64 (b .result .late) f)
 
 add-from : tie.Need-add-from Inv-loop μ-loop
 add-from c = search needs
@@ -84,7 +85,7 @@ loop-again : tie.Need-loop-again Inv-loop μ-loop
 loop-again c =
     let s = c .before .before .before .before .before in
     let l = c .before .before .before .before .loop in
-    let h = c .before .before .before .loop-test .taken in
+    let h : l .from + s .args .stride ≤ s .args .last = omega (arith, c .before .before .before .loop-test .taken) in
     let ahead = kept-result (c .before .before .slope .ok) (c .before .before .slope .ensures) in
     let sense = sense-of (l .inv .1 .0) ahead (c .before .differs .ensures) (c .if1 .left) in
     (h, (ahead, stride-passed _ (s .args .stride) (s .pre .1 .0 .0) (s .args .last) (s .args .minute) (l .from) (l .inv .1 .1) h sense))
@@ -92,7 +93,7 @@ loop-again c =
 returns-2 : tie.Need-returns-2 Inv-loop μ-loop
 returns-2 c =
     let s = c .before in
-    end-reached _ (s .before .args .stride) (s .before .pre .1 .0 .0) (s .before .args .last) (s .before .args .minute) (s .loop .from) (s .loop .inv .1 .1) (s .loop .inv .0) (c .loop-test .left) (s .loop .inv .1 .0)
+    end-reached _ (s .before .args .stride) (s .before .pre .1 .0 .0) (s .before .args .last) (s .before .args .minute) (s .loop .from) (s .loop .inv .1 .1) (s .loop .inv .0) (omega arith) (s .loop .inv .1 .0)
 
 pub next-turn-spec : {M : Type 1} → statement M
 next-turn-spec =

@@ -1,4 +1,5 @@
 -- `turns::turn_of` meets its contract: the test on the two sizes is the definition's. Assumes nothing.
+use native.Mathlib.Omega.{arith}
 use borrow.Author.Needs.{needs}
 use Rattle.turns.proofs.turn_of.Statement.{statement}
 use Rattle.turns.proofs.turn_of.Tie as tie
@@ -25,7 +26,7 @@ returns c =
     let b = c .before .before .before .before .before .before .args .b in
     let fl : SFits w64 (b .late) = search needs in
     let fe : SFits w64 (b .early) = search needs in
-    let t : ltb (natAbs (b .late)) (natAbs (b .early)) ≡ true = ap₂ ltb (sym (simp toZ-ofZ at (c .before .before .before .before .size .ensures))) (sym (simp toZ-ofZ at (c .before .before .size2 .ensures))) ∙ lt-ltb _ _ (c .before .if1 .taken) in
+    let t : ltb (natAbs (b .late)) (natAbs (b .early)) ≡ true = ap₂ ltb (sym (simp toZ-ofZ at (c .before .before .before .before .size .ensures))) (sym (simp toZ-ofZ at (c .before .before .size2 .ensures))) ∙ lt-ltb (c .before .before .before .before .size .result) (c .before .before .size2 .result) (omega arith) in
     rw t
 
 returns-2 : tie.Need-returns-2
@@ -33,7 +34,7 @@ returns-2 c =
     let b = c .before .before .before .before .before .args .b in
     let fl : SFits w64 (b .late) = search needs in
     let fe : SFits w64 (b .early) = search needs in
-    let t : ltb (natAbs (b .late)) (natAbs (b .early)) ≡ false = ap₂ ltb (sym (simp toZ-ofZ at (c .before .before .before .size .ensures))) (sym (simp toZ-ofZ at (c .before .size2 .ensures))) ∙ le-ltb _ _ (c .if1 .left) in
+    let t : ltb (natAbs (b .late)) (natAbs (b .early)) ≡ false = ap₂ ltb (sym (simp toZ-ofZ at (c .before .before .before .size .ensures))) (sym (simp toZ-ofZ at (c .before .size2 .ensures))) ∙ le-ltb (c .before .before .before .size .result) (c .before .size2 .result) (omega arith) in
     rw t
 
 pub turn-of-spec : {M : Type 1} → statement M
