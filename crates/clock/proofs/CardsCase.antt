@@ -6,9 +6,10 @@ use Rattle.refusals.specs.Outcome.{numberOf}
 use Rattle.refusals.specs.declared.Refusal.{Refusal}
 use Rattle.refusals.specs.declared.Answer.the-variants.{Accepted, Refused}
 use Rattle.table.specs.View.{tableOf}
-use Rattle.cards.specs.Cards.{readCards, outcomeOf, accepted, refused}
-use Rattle.cards.specs.declared.Read.{Read}
-use Rattle.cards.proofs.Ranges.{accepted-in-range}
+use Rattle.cards.specs.Cards.{readCards, accepted, refused}
+use Rattle.cardfile.specs.Read.{outcomeOf}
+use Rattle.cardfile.specs.declared.Read.{Read}
+use Rattle.cardfile.proofs.Ranges.{accepted-in-range}
 use Rattle.clock.specs.declared.Clock.{Clock}
 use Rattle.clock.specs.Calls.{cardsReturns, cardsLeaves}
 use Rattle.clock.specs.View.{view, Made}

@@ -127,7 +127,7 @@ pub fn load_cards(clock: Clock, file: &[u8]) -> After
     requires { ⌜ Made clock ⌝ }
     ensures { λ r. ⌜ CardsPost clock (now (file .entry)) (r .answer) (r .clock) ⌝ }
 {
-    let read = cards::read_cards(file);
+    let read = cardfile::read_cards(file);
     let answer = read.answer;
     match answer {
         Answer::Accepted => {

@@ -241,7 +241,7 @@ fn work_out<'a>(
     }
 }
 
-// The months of n records: each in its turn, until refusal 11 fits one.
+// The month of n records: each in its turn, until one is refused by 11.
 fn prepare_records<'a>(
     cosines: &'a [u32; 1025],
     table: Table,

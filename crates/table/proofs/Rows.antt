@@ -6,8 +6,8 @@ use Prim.Native.Nat.{ℕ, zero, suc, _+_, _-_, _*_, _≤_, _<_}
 use native.Mathlib.Omega.{arith}
 use native.Mathlib.Nat.{add-zero, zero-add, not-suc-le-zero, mul-le-mul-left, mul-suc}
 use native.Mathlib.Numerals.{add-one}
-use lib.ListN.{length, getD, set, take, drop, length-set}
-use lib.Seq.{sets, getD-set-same, getD-set-other, ext-getD}
+use lib.ListN.{length, getD, set, take, drop, length-set, drop-of-length-le}
+use lib.Seq.{sets, drop-cons, getD-set-same, getD-set-other, getD-take, length-take-le, ext-getD}
 use Rattle.table.specs.View.{listed, rowOf}
 
 module _ {A : Type 0} where
@@ -61,6 +61,35 @@ module _ {A : Type 0} where
   sets-within xs i (v ∷ vs) (suc j) d h fits =
       let e : suc i + j ≡ i + suc j = omega arith in
       rw e at (sets-within (set xs i v) (suc i) vs j d (omega arith) (omega (arith, length-set xs i v)))
+
+  -- a row copied number by number: one number more, or none left
+  pub copy-next : (xs row : List A) (a j : ℕ) (d : A) → j < length row → sets xs (a + j) (drop j row) ≡ sets (set xs (a + j) (getD row j d)) (a + (j + 1)) (drop (j + 1) row)
+  copy-next xs row a j d h = let e : a + (j + 1) ≡ suc (a + j) = omega arith in rw (drop-cons row j d h, e, add-one j)
+
+  pub copy-end : (xs row : List A) (a j : ℕ) → length row ≤ j → sets xs (a + j) (drop j row) ≡ xs
+  copy-end xs row a j h = rw (drop-of-length-le row h)
+
+  -- a run of stores with one number more at its end
+  pub sets-one-more : (xs : List A) (i : ℕ) (vs : List A) (v : A) → sets xs i (vs ++ (v ∷ [])) ≡ set (sets xs i vs) (i + length vs) v
+  sets-one-more xs i [] v = rw (add-zero i)
+  sets-one-more xs i (a ∷ vs) v = let e : i + suc (length vs) ≡ suc i + length vs = omega arith in rw e (sets-one-more (set xs i a) (suc i) vs v)
+
+  -- the first n numbers of a row, counted out
+  pub take-listed : (xs : List A) (n : ℕ) (d : A) → n ≤ length xs → take n xs ≡ listed (λ i. getD xs i d) 0 n
+  take-listed xs n d h =
+      ext-getD d (take n xs) (listed (λ i. getD xs i d) 0 n) (length-take-le n xs h ∙ sym (listed-length (λ i. getD xs i d) 0 n))
+      (λ i b.
+      let k : i < n = omega (arith, length-take-le n xs h) in
+      getD-take n xs i d k ∙ sym (rw zero-add at (listed-at (λ i. getD xs i d) 0 n i d k)))
+
+  -- entries in two runs
+  pub listed-both : (f : ℕ → A) (k n m : ℕ) → listed f k (n + m) ≡ listed f k n ++ listed f (k + n) m
+  unfolding listed
+  listed-both f k zero m = rw (zero-add m, add-zero k)
+  listed-both f k (suc n) m =
+      let e : suc n + m ≡ suc (n + m) = omega arith in
+      let g : k + suc n ≡ suc k + n = omega arith in
+      rw (e, g) (ap (λ (l : List A). f k ∷ l) (listed-both f (suc k) n m))
 
   -- number j of row k
   pub row-at : (none : A) (width : ℕ) (xs : List A) (k j : ℕ) → j < width → getD (rowOf none width xs k) j none ≡ getD xs (width * k + j) none

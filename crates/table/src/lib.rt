@@ -1,6 +1,8 @@
 // The table that a card file gives, in flat arrays of rows. Types are so narrow that no sum over the table can overflow.
 ghost use mathlib.Core.Path.{_≡_};
-ghost use lib.ListN.{getD};
+ghost use Prim.Native.Nat.{_+_, _≤_};
+ghost use lib.ListN.{length, getD};
+ghost use lib.Seq.{sets};
 ghost use lib.IntN.{pos};
 ghost use Rattle.table.specs.Table.{noCards};
 ghost use Rattle.table.specs.View.{tableOf};
@@ -78,4 +80,40 @@ pub fn at_i8(xs: &[i8], i: usize) -> i8
     ensures { λ r. ⌜ r ≡ getD (now (xs .entry)) i (pos 0) ⌝ }
 {
     if i < xs.len() { xs[i] } else { 0 }
+}
+
+// Writes a row over the numbers from number `at` on.
+pub fn put_u16(xs: &mut [u16], at: usize, row: &[u16])
+    requires { ⌜ at + length (now row) ≤ length (now xs) ⌝ }
+    ensures { λ _. ⌜ now (xs .exit) ≡ sets (now (xs .entry)) at (now (row .entry)) ⌝ }
+{
+    let mut j = 0;
+    while j < row.len() {
+        xs[at + j] = row[j];
+        j = j + 1;
+    }
+}
+
+// Writes a row over the numbers from number `at` on.
+pub fn put_u32(xs: &mut [u32], at: usize, row: &[u32])
+    requires { ⌜ at + length (now row) ≤ length (now xs) ⌝ }
+    ensures { λ _. ⌜ now (xs .exit) ≡ sets (now (xs .entry)) at (now (row .entry)) ⌝ }
+{
+    let mut j = 0;
+    while j < row.len() {
+        xs[at + j] = row[j];
+        j = j + 1;
+    }
+}
+
+// Writes a row over the numbers from number `at` on.
+pub fn put_i8(xs: &mut [i8], at: usize, row: &[i8])
+    requires { ⌜ at + length (now row) ≤ length (now xs) ⌝ }
+    ensures { λ _. ⌜ now (xs .exit) ≡ sets (now (xs .entry)) at (now (row .entry)) ⌝ }
+{
+    let mut j = 0;
+    while j < row.len() {
+        xs[at + j] = row[j];
+        j = j + 1;
+    }
 }

@@ -1,7 +1,7 @@
 -- The slope's sum: a constituent's term in registers, and the terms from a place on, one more while places are left and none at the end.
 -- By `Known` (sizes carried from step to step) and the definition's clauses. Assumes nothing.
 use mathlib.Core.Path.{_≡_}
-use mathlib.Core.List.{List, []}
+use mathlib.Core.List.{List}
 use Prim.Native.Nat.{ℕ, _+_, _-_, _*_, _/_, _^_, _≤_, _<_}
 use native.Mathlib.Omega.{arith}
 use lib.Dec.{lit<, lit≤}
@@ -9,7 +9,7 @@ use lib.IntN.{ℤ, pos, natAbs, _+ℤ_, _*ℤ_}
 use lib.ListN.{getD}
 use lib.Signed.{shrZ}
 use mir.Syntax.{w64}
-use mir.Val.{toZ, ofZ}
+use mir.Val.{toZ}
 use Rattle.angles.specs.Floor.{floorDiv}
 use Rattle.angles.proofs.Machine.{held}
 use Rattle.angles.proofs.Known.{Known, plainly, read, cast, bounded, kept, plus, times, shifted}

@@ -1,9 +1,8 @@
 -- A bracket halved, and the next turn, as the code's promises put them: one more cut or stride before a promise that holds.
 -- From the laws of `Cuts` and `Strides`. Assumes nothing.
-use mathlib.Core.Path.{_≡_, refl, sym, ap, ap₂, _∙_}
+use mathlib.Core.Path.{_≡_, sym, ap, ap₂, _∙_}
 use mathlib.Core.Bool.{Bool, true, false, cond}
-use mathlib.Core.List.{List, [], _∷_}
-use Prim.Native.Nat.{ℕ, suc, _+_, _-_, _/_, _^_, _≤_, _<_}
+use Prim.Native.Nat.{ℕ, _+_, _-_, _/_, _^_, _≤_, _<_}
 use native.Mathlib.Omega.{arith}
 use native.Mathlib.Nat.{le-refl}
 use lib.Dec.{ltb}
@@ -14,13 +13,12 @@ use mir.Syntax.{w64}
 use mir.Val.{SFits, toZ, ofZ}
 use mir.ValLaws.{toZ-ofZ}
 use Rattle.turns.specs.Slope.{rising}
-use Rattle.turns.specs.Search.{Turn, differ, earlierEnd, smaller, turnsOf}
+use Rattle.turns.specs.Search.{differ, earlierEnd, smaller, turnsOf}
 use Rattle.turns.specs.Written.{firstHigh}
-use Rattle.turns.specs.Posts.{BracketPost, NextPost, onwards}
+use Rattle.turns.specs.Posts.{BracketPost, NextPost}
 use Rattle.turns.specs.declared.Bracket.{Bracket}
-use Rattle.turns.specs.declared.Next.{Next}
 use Rattle.turns.proofs.Cuts.{by-test, end-within, cut-done, cut-early, cut-late}
-use Rattle.turns.proofs.Strides.{turns-few, turns-none, turns-same, turns-one}
+use Rattle.turns.proofs.Strides.{turns-none, turns-same, turns-one}
 
 -- a number kept in a register, where it is known to be another
 pub kept : {x y : ℤ} → SFits w64 x → x ≡ y → toZ w64 (ofZ w64 x) ≡ y
@@ -81,20 +79,3 @@ module _ (slope : ℕ → ℤ) (stride : ℕ) (some : 0 < stride) (last minute f
           later = omega arith;
           there = e ∙ p .late;
         }
-
--- ---- the turns that are left, once the next is known
-
-module _ (slope : ℕ → ℤ) (stride last : ℕ) where
-  pub onwards-found : (r : Next) → r .found ≡ true → onwards slope stride last r ≡ record { minute = r .turn; high = r .high } ∷ turnsOf slope stride (r .later) last
-  onwards-found r e = rw e
-
-  pub onwards-none : (r : Next) → r .found ≡ false → onwards slope stride last r ≡ []
-  onwards-none r e = rw e
-
-  -- how many are left, before a turn and after it
-  pub one-more : (r s : Next) → r .found ≡ true → NextPost slope stride last (r .later) s → length (onwards slope stride last r) ≡ 1 + length (onwards slope stride last s)
-  one-more r s e p = ap length (onwards-found r e) ∙ (ap (λ (ts : List Turn). suc (length ts)) (p .turns) ∙ omega arith)
-
-  -- a turn that is found is one of those from the first minute on, so there are fewer before it than minutes
-  pub room-left : 0 < stride → (first n : ℕ) (r : Next) → r .found ≡ true → n + length (onwards slope stride last r) ≡ length (turnsOf slope stride first last) → n < last
-  room-left some first n r e is = let few = turns-few slope stride some last first in let one = ap length (onwards-found r e) in omega arith

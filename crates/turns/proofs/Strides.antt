@@ -1,7 +1,7 @@
 -- Striding: what one stride adds to the turns, and that more strides than minutes change nothing.
 -- By induction on the strides: each goes on by a minute or more (`Cuts`: the later end lies past the stride's start). Assumes nothing.
-use mathlib.Core.Path.{_≡_, refl, sym, ap, _∙_}
-use mathlib.Core.Bool.{Bool, true, false, cond}
+use mathlib.Core.Path.{_≡_, refl, ap}
+use mathlib.Core.Bool.{true, false}
 use mathlib.Core.List.{List, [], _∷_}
 use Prim.Native.Nat.{ℕ, zero, suc, _+_, _-_, _≤_, _<_}
 use native.Mathlib.Nat.{le-refl}

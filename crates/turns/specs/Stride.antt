@@ -20,6 +20,10 @@ strideFor semidiurnal = 180
 strideFor mixed = 30
 strideFor diurnal = 360
 
--- the stride by the amplitudes of K1, O1, M2, S2 ("absent is 0")
+-- the stride by K1+O1 and M2+S2
+abbrev pub strideBy : ℕ → ℕ → ℕ
+strideBy daily twice = strideFor (tidesBy daily twice)
+
+-- "By the amplitudes of K1, O1, M2, S2 (.. absent is 0)"
 unfoldable pub strideOf : ℕ → ℕ → ℕ → ℕ → ℕ
-strideOf k1 o1 m2 s2 = strideFor (tidesBy (k1 + o1) (m2 + s2))
+strideOf k1 o1 m2 s2 = strideBy (k1 + o1) (m2 + s2)

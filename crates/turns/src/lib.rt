@@ -2,18 +2,17 @@
 ghost use mathlib.Core.Path.{_≡_};
 ghost use mathlib.Core.Bool.{cond};
 ghost use mathlib.Core.List.{map};
-ghost use Prim.Native.Nat.{ℕ, _+_, _*_, _≤_, _<_, _^_};
+ghost use Prim.Native.Nat.{_+_, _*_, _≤_, _<_, _^_};
 ghost use lib.Dec.{ltb};
-ghost use lib.IntN.{ℤ, natAbs};
+ghost use lib.IntN.{natAbs};
 ghost use lib.ListN.{length, take};
 ghost use Rattle.cosine.specs.Fixed.{IsTable};
-ghost use Rattle.prepared.specs.View.{constituentsFrom};
-ghost use Rattle.heights.specs.Height.{angle, heightAt};
-ghost use Rattle.turns.specs.Slope.{fall, fallsAt, slopeAt, rising, InRange};
+ghost use Rattle.turns.specs.Slope.{fall, rising, InRange};
 ghost use Rattle.turns.specs.Stride.{strideOf};
-ghost use Rattle.turns.specs.Search.{differ, earlierEnd, smaller, turnsOf};
+ghost use Rattle.turns.specs.Search.{differ, turnsOf};
 ghost use Rattle.turns.specs.Written.{inFront, given, givenOf};
 ghost use Rattle.turns.specs.Posts.{slopeOf, heightOf, BracketPost, NextPost, FoundPost, Kept};
+use cosine::ENTRIES;
 
 // How many turns were found, and whether the first is high.
 pub struct Summary {
@@ -21,7 +20,7 @@ pub struct Summary {
     pub high: bool,
 }
 
-// What a search returns.
+// What a search returns: what it found, or that there are more turns than a lent buffer holds.
 pub enum Searched {
     Found(Summary),
     TooMany,
@@ -43,7 +42,7 @@ struct Next {
     slope: i64,
 }
 
-// The minutes between a station's trials for a turn, by the amplitudes of K1, O1, M2, S2.
+// The stride of the search in minutes, by the amplitudes of K1, O1, M2 and S2 (0 where absent).
 pub fn stride(k1: u16, o1: u16, m2: u16, s2: u16) -> u64
     ensures { λ r. ⌜ r ≡ strideOf k1 o1 m2 s2 ⌝ }
     ensures { λ r. ⌜ (0 < r) × (r ≤ 720) ⌝ }
@@ -84,7 +83,7 @@ fn size(slope: i64) -> u64
 }
 
 // What a constituent of weights P and Q takes from the slope at an angle.
-fn fall_at(table: &[u32; 1025], angle: u64, p: i32, q: i32, frequency: u64) -> i64
+fn fall_at(table: &[u32; ENTRIES], angle: u64, p: i32, q: i32, frequency: u64) -> i64
     requires { ⌜ IsTable (now table) ⌝ }
     requires { ⌜ frequency ≤ 4_999_999_999 ⌝ }
     ensures { λ r. ⌜ r ≡ fall p q frequency angle ⌝ }
@@ -95,9 +94,9 @@ fn fall_at(table: &[u32; 1025], angle: u64, p: i32, q: i32, frequency: u64) -> i
     whole * (frequency / 1_000) as i64
 }
 
-// The slope at a minute.
+// The slope of the first `count` constituents at a minute.
 pub fn slope<'a>(
-    table: &'a [u32; 1025],
+    table: &'a [u32; ENTRIES],
     arguments: &'a [u64; 146],
     lags: &'a [u16; 146],
     frequencies: &'a [u64; 146],
@@ -122,7 +121,7 @@ pub fn slope<'a>(
 
 // Halves a bracket whose ends' slopes are given until its ends are one minute apart.
 fn bisect<'a>(
-    table: &'a [u32; 1025],
+    table: &'a [u32; ENTRIES],
     arguments: &'a [u64; 146],
     lags: &'a [u16; 146],
     frequencies: &'a [u64; 146],
@@ -200,7 +199,7 @@ fn turn_of(b: Bracket) -> u64
 
 // Strides from a minute until the ends' slopes differ in sense, and finds the turn between them.
 fn next_turn<'a>(
-    table: &'a [u32; 1025],
+    table: &'a [u32; ENTRIES],
     arguments: &'a [u64; 146],
     lags: &'a [u16; 146],
     frequencies: &'a [u64; 146],
@@ -266,7 +265,7 @@ fn next_turn<'a>(
 
 // Finds every turn, and keeps the minutes.
 fn find_turns<'a>(
-    table: &'a [u32; 1025],
+    table: &'a [u32; ENTRIES],
     arguments: &'a [u64; 146],
     lags: &'a [u16; 146],
     frequencies: &'a [u64; 146],
@@ -324,7 +323,7 @@ fn find_turns<'a>(
 
 // Writes the kept minutes and their heights from the front of the lent buffers.
 fn write_turns<'a>(
-    table: &'a [u32; 1025],
+    table: &'a [u32; ENTRIES],
     arguments: &'a [u64; 146],
     lags: &'a [u16; 146],
     frequencies: &'a [u64; 146],
@@ -350,9 +349,10 @@ fn write_turns<'a>(
     }
 }
 
-// The turns from the first minute to the last: how many, whether the first is high, and in the lent buffers their minutes and heights.
+// Searches for turns from the first minute to the last: returns how many and whether the first is high, and writes their minutes and
+// heights from the front of the lent buffers; refuses, and writes nothing, where there are more than either holds.
 pub fn turns<'a>(
-    table: &'a [u32; 1025],
+    table: &'a [u32; ENTRIES],
     arguments: &'a [u64; 146],
     lags: &'a [u16; 146],
     frequencies: &'a [u64; 146],

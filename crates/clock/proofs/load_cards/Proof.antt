@@ -3,7 +3,7 @@ use Rattle.clock.proofs.load_cards.Statement.{statement}
 use Rattle.clock.proofs.load_cards.Tie as tie
 use Rattle.clock.proofs.load_cards.Reads as reads
 use Rattle.clock.proofs.load_cards.Lts as lts
-use Rattle.cards.proofs.read_cards.Reads as read-cards-reads
+use Rattle.cardfile.proofs.read_cards.Reads as read-cards-reads
 use Rattle.clock.proofs.with_table.Reads as with-table-reads
 use Rattle.clock.proofs.CardsCase.{file-accepted, file-refused}
 

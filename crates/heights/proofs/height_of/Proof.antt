@@ -100,7 +100,7 @@ loop-again c =
     }
 
 add-result : tie.Need-add-result Inv-loop μ-loop
-add-result c = let z = toZ w64 (c .before .loop .sum) in fits (plus (plainly z {A = 146 * 2 ^ 32} (omega arith)) (plainly (pos 2_048) {A = 2_048} (lit≤ tt))) (lit< tt)
+add-result c = let z = toZ w64 (c .before .loop .sum) in fits (plus (plainly z {A = 146 * 2 ^ 32} (omega arith)) (plainly _ {A = 2_048} (lit≤ tt))) (lit< tt)
 
 returns : tie.Need-returns Inv-loop μ-loop
 unfolding heightAt

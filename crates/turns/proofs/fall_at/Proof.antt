@@ -1,44 +1,40 @@
+-- `turns::fall_at` meets its contract: the shift is the floor of the two products, and the product fits (`Falls`). Assumes nothing.
 use borrow.Author.Needs.{needs}
 use Rattle.turns.proofs.fall_at.Statement.{statement}
 use Rattle.turns.proofs.fall_at.Tie as tie
-use Rattle.turns.proofs.fall_at.Reads as reads
-use Rattle.turns.proofs.fall_at.Lts as lts
-use Rattle.cosine.proofs.wave.Reads as wave-reads
-use Rattle.heights.proofs.weigh.Reads as weigh-reads
-use Prim.Native.Nat.{_^_, _/_}
-use mathlib.Core.Path.{_≡_, _∙_, ap}
-use lib.Dec.{lit<, lit≤}
-use lib.IntN.{ℤ, _+ℤ_, _*ℤ_}
-use mir.Syntax.{w32, w64}
-use Rattle.angles.proofs.Known.{Known, read, read-narrow, fits, kept, known, says, plus, times}
+use mathlib.Core.Path.{_∙_, ap}
+use lib.Dec.{lit<}
+use lib.IntN.{ℤ, _*ℤ_}
+use mir.Syntax.{w32}
+use Rattle.angles.proofs.Known.{read, read-narrow, fits, kept, known, says, plus, times}
 use Rattle.turns.specs.Slope.{fall}
 use Rattle.turns.proofs.Falls.{term}
 
--- src/lib.rt:100:9
 wave-requires : tie.Need-wave-requires
 wave-requires c κs = search needs
 
--- src/lib.rt:101:18
 weigh-requires : tie.Need-weigh-requires
 weigh-requires c κs = search needs
 
--- src/lib.rt:101:46
 weigh-requires-2 : tie.Need-weigh-requires-2
 weigh-requires-2 c κs = search needs
 
--- src/lib.rt:101:18
 add-whole : tie.Need-add-whole
-add-whole c = let a = c .before .before .weigh in let b = c .weigh2 in fits (plus (read (a .result) (a .ensures .1) (lit< tt)) (read (b .result) (b .ensures .1) (lit< tt))) (lit< tt)
+add-whole c =
+    let a = c .before .before .weigh in
+    let b = c .weigh2 in
+    fits (plus (read (a .result) (a .ensures .1) (lit< tt)) (read (b .result) (b .ensures .1) (lit< tt))) (lit< tt)
 
--- src/lib.rt:102:13
 cast-result : tie.Need-cast-result
 cast-result c = search needs
 
--- src/lib.rt:102:5
 mul-result : tie.Need-mul-result
-mul-result c = let a = c .before .before .weigh in let b = c .weigh2 in let s = c .before .before .before .before .before in fits (term (s .args .frequency) (s .pre .1) (read (a .result) (a .ensures .1) (lit< tt)) (read (b .result) (b .ensures .1) (lit< tt))) (lit< tt)
+mul-result c =
+    let a = c .before .before .weigh in
+    let b = c .weigh2 in
+    let s = c .before .before .before .before .before in
+    fits (term (s .args .frequency) (s .pre .1) (read (a .result) (a .ensures .1) (lit< tt)) (read (b .result) (b .ensures .1) (lit< tt))) (lit< tt)
 
--- src/lib.rt:94:1
 returns : tie.Need-returns
 unfolding fall
 returns c = let a = c .before .before .weigh in let b = c .weigh2 in let w = c .before .before .before .before .wave in let s = c .before .before .before .before .before in let x = s .args in let sizes = w .ensures .1 .1 in

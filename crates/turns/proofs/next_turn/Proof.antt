@@ -1,22 +1,17 @@
+-- `turns::next_turn` meets its contract: the turns from the minute that the strides have come to are those from the first (`Onward`).
+-- Assumes nothing.
 use Rattle.turns.proofs.next_turn.Statement.{statement}
 use Rattle.turns.proofs.next_turn.Tie as tie
-use Rattle.turns.proofs.next_turn.Reads as reads
-use Rattle.turns.proofs.next_turn.Lts as lts
-use Rattle.turns.proofs.bisect.Reads as bisect-reads
-use Rattle.turns.proofs.differs.Reads as differs-reads
-use Rattle.turns.proofs.rises.Reads as rises-reads
-use Rattle.turns.proofs.slope.Reads as slope-reads
-use Rattle.turns.proofs.turn_of.Reads as turn-of-reads
-use Prim.Native.Nat.{ℕ, _-_, _≤_}
+use Prim.Native.Nat.{_+_, _-_, _≤_}
 use borrow.Author.Needs.{needs}
 use native.Mathlib.Omega.{arith}
-use mathlib.Core.Path.{_≡_, refl, sym, _∙_, ap}
+use mathlib.Core.Path.{_≡_, refl, _∙_, ap}
 use mir.Syntax.{w64}
-use mir.Val.{SFits, toZ, ofZ}
+use mir.Val.{SFits, toZ}
 use mir.ValLaws.{toZ-ofZ}
 use Rattle.turns.specs.Slope.{rising}
 use Rattle.turns.specs.Search.{turnsOf}
-use Rattle.turns.specs.Posts.{slopeOf, BracketPost, NextPost}
+use Rattle.turns.specs.Posts.{slopeOf}
 use Rattle.turns.proofs.Onward.{kept, kept-result, sense-of, stride-passed, end-reached, turn-found}
 use Rattle.turns.proofs.Onward.{bracket-within}
 
@@ -29,61 +24,76 @@ Inv-loop table arguments lags frequencies ps qs count stride last minute here fr
 abbrev μ-loop : tie.MeasureT-loop
 μ-loop table arguments lags frequencies ps qs count stride last minute here from₀ behind₀ from behind = last - from
 
--- src/lib.rt:219:5
 loop-holds : tie.Need-loop-holds Inv-loop μ-loop
 loop-holds c = (c .pre .1 .0 .1 .1 .0, (kept (c .fits .here) (c .pre .1 .1), refl))
 
--- src/lib.rt:219:11
 add-loop : tie.Need-add-loop Inv-loop μ-loop
 add-loop c = search needs
 
--- src/lib.rt:228:13
 add-slope : tie.Need-add-slope Inv-loop μ-loop
 add-slope c = search needs
 
--- src/lib.rt:220:13
 slope-requires : tie.Need-slope-requires Inv-loop μ-loop
 slope-requires c κs = search needs
 
--- src/lib.rt:230:12
 differs-requires : tie.Need-differs-requires Inv-loop μ-loop
 differs-requires c κs = search needs
 
--- src/lib.rt:231:17
 bisect-requires : tie.Need-bisect-requires Inv-loop μ-loop
-bisect-requires c κs = let l = c .before .before .before .before .loop in let s = c .before .before .before .before .before in (s .pre .0, ((s .pre .1 .0 .0, omega arith), (l .inv .1 .0, kept-result (c .before .before .slope .ok) (c .before .before .slope .ensures))))
+bisect-requires c κs =
+    let l = c .before .before .before .before .loop in
+    let s = c .before .before .before .before .before in
+    (s .pre .0, ((s .pre .1 .0 .0, omega arith), (l .inv .1 .0, kept-result (c .before .before .slope .ok) (c .before .before .slope .ensures))))
 
--- src/lib.rt:246:23
 turn-of-requires : tie.Need-turn-of-requires Inv-loop μ-loop
-turn-of-requires c κs = let l = c .before .before .before .before .before .loop in let s = c .before .before .before .before .before .before in let w = bracket-within _ (l .from) (s .args .stride) (s .pre .1 .0 .0) (c .bisect .ensures) in omega arith
+turn-of-requires c κs =
+    let l = c .before .before .before .before .before .loop in
+    let s = c .before .before .before .before .before .before in
+    let w = bracket-within _ (l .from) (s .args .stride) (s .pre .1 .0 .0) (c .bisect .ensures) in
+    omega arith
 
--- src/lib.rt:247:23
 rises-requires : tie.Need-rises-requires Inv-loop μ-loop
 rises-requires c κs = search needs
 
--- src/lib.rt:248:24
 add-t21 : tie.Need-add-t21 Inv-loop μ-loop
-add-t21 c = let l = c .before .before .before .before .before .before .before .before .loop in let s = c .before .before .before .before .before .before .before .before .before in let w = bracket-within _ (l .from) (s .args .stride) (s .pre .1 .0 .0) (c .before .before .before .bisect .ensures) in record { fits = omega arith }
+add-t21 c =
+    let l = c .before .before .before .before .before .before .before .before .loop in
+    let s = c .before .before .before .before .before .before .before .before .before in
+    let w = bracket-within _ (l .from) (s .args .stride) (s .pre .1 .0 .0) (c .before .before .before .bisect .ensures) in
+    record { fits = omega arith }
 
--- src/lib.rt:244:13
 returns : tie.Need-returns Inv-loop μ-loop
-returns c = let l = c .before .before .before .before .before .before .before .before .before .loop in let s = c .before .before .before .before .before .before .before .before .before .before in let f : SFits w64 (c .before .before .before .before .bisect .result .late) = search needs in turn-found _ (s .args .stride) (s .pre .1 .0 .0) (s .args .last) (s .args .minute) (l .from) (l .inv .1 .1) (c .before .before .before .before .before .before .before .before .loop-test .taken) (sense-of (l .inv .1 .0) (kept-result (c .before .before .before .before .before .before .before .slope .ok) (c .before .before .before .before .before .before .before .slope .ensures)) (c .before .before .before .before .before .before .differs .ensures) (c .before .before .before .before .before .if1 .taken)) (c .before .before .before .before .bisect .ensures) (c .before .before .before .turn-of .ensures) (c .before .before .rises .ensures ∙ ap rising (l .inv .1 .0)) (toZ-ofZ w64 (c .before .before .before .before .bisect .result .late) f)
+returns c =
+    let s = c .before .before .before .before .before .before .before .before .before .before in
+    let l = c .before .before .before .before .before .before .before .before .before .loop in
+    let b = c .before .before .before .before .bisect in
+    let h : l .from + s .args .stride ≤ s .args .last = omega (arith, c .before .before .before .before .before .before .before .before .loop-test .taken) in
+    let f : SFits w64 (b .result .late) = search needs in
+    let ahead = kept-result (c .before .before .before .before .before .before .before .slope .ok) (c .before .before .before .before .before .before .before .slope .ensures) in
+    let sense = sense-of (l .inv .1 .0) ahead (c .before .before .before .before .before .before .differs .ensures) (c .before .before .before .before .before .if1 .taken) in
+    let high = c .before .before .rises .ensures ∙ ap rising (l .inv .1 .0) in
+    turn-found _ (s .args .stride) (s .pre .1 .0 .0) (s .args .last) (s .args .minute) (l .from) (l .inv .1 .1)
+    h sense (b .ensures) (c .before .before .before .turn-of .ensures) high (toZ-ofZ w64 (b .result .late) f)
 
--- src/lib.rt:252:16
 add-from : tie.Need-add-from Inv-loop μ-loop
 add-from c = search needs
 
--- src/lib.rt:219:5
 loop-less : tie.Need-loop-less Inv-loop μ-loop
 loop-less c = search needs
 
--- src/lib.rt:219:5
 loop-again : tie.Need-loop-again Inv-loop μ-loop
-loop-again c = let l = c .before .before .before .before .loop in let s = c .before .before .before .before .before in (c .before .before .before .loop-test .taken, (kept-result (c .before .before .slope .ok) (c .before .before .slope .ensures), stride-passed _ (s .args .stride) (s .pre .1 .0 .0) (s .args .last) (s .args .minute) (l .from) (l .inv .1 .1) (c .before .before .before .loop-test .taken) (sense-of (l .inv .1 .0) (kept-result (c .before .before .slope .ok) (c .before .before .slope .ensures)) (c .before .differs .ensures) (c .if1 .left))))
+loop-again c =
+    let s = c .before .before .before .before .before in
+    let l = c .before .before .before .before .loop in
+    let h : l .from + s .args .stride ≤ s .args .last = omega (arith, c .before .before .before .loop-test .taken) in
+    let ahead = kept-result (c .before .before .slope .ok) (c .before .before .slope .ensures) in
+    let sense = sense-of (l .inv .1 .0) ahead (c .before .differs .ensures) (c .if1 .left) in
+    (h, (ahead, stride-passed _ (s .args .stride) (s .pre .1 .0 .0) (s .args .last) (s .args .minute) (l .from) (l .inv .1 .1) h sense))
 
--- src/lib.rt:199:1
 returns-2 : tie.Need-returns-2 Inv-loop μ-loop
-returns-2 c = let s = c .before in end-reached _ (s .before .args .stride) (s .before .pre .1 .0 .0) (s .before .args .last) (s .before .args .minute) (s .loop .from) (s .loop .inv .1 .1) (s .loop .inv .0) (c .loop-test .left) (s .loop .inv .1 .0)
+returns-2 c =
+    let s = c .before in
+    end-reached _ (s .before .args .stride) (s .before .pre .1 .0 .0) (s .before .args .last) (s .before .args .minute) (s .loop .from) (s .loop .inv .1 .1) (s .loop .inv .0) (omega arith) (s .loop .inv .1 .0)
 
 pub next-turn-spec : {M : Type 1} → statement M
 next-turn-spec =

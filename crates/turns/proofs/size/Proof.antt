@@ -1,14 +1,14 @@
 -- `turns::size` meets its contract: a negative number's size is one more than its distance from -1, read back from the bits.
 -- Assumes nothing.
-use mathlib.Core.Path.{_≡_, refl, sym, _∙_, ap}
+use mathlib.Core.Path.{_≡_, refl, _∙_, ap}
 use mathlib.Core.Bool.{true, false}
-use Prim.Native.Nat.{ℕ, suc, _+_, _<_, _^_}
+use Prim.Native.Nat.{ℕ, _+_}
 use native.Mathlib.Omega.{arith}
 use native.Mathlib.Numerals.{add-one}
 use lib.IntN.{ℤ, pos, negsuc, natAbs, _-ℤ_}
 use lib.Signed.{mag, ltZ}
 use mir.Syntax.{w64}
-use mir.Val.{Fits, SFits, toZ, ofZ}
+use mir.Val.{SFits, toZ, ofZ}
 use mir.ValLaws.{toZ-ofZ}
 use Rattle.angles.proofs.Machine.{through, fits-as, if-negative, minus-one-less, is-mag, mag-fits, natural-fits, natural-is}
 use borrow.Author.Needs.{needs}
@@ -29,10 +29,14 @@ as-it-is : (z : ℤ) → SFits w64 z → ltZ (toZ w64 (ofZ w64 z)) (pos 0) ≡ f
 as-it-is z f n = through refl f ∙ is-mag z (rw (toZ-ofZ w64 z f) at n)
 
 sub-result : tie.Need-sub-result
-sub-result c = let s = c .before in fits-as (less (s .args .slope) (s .fits .slope) (c .if1 .taken)) (mag-fits (s .args .slope) (s .fits .slope))
+sub-result c =
+    let s = c .before in
+    fits-as (less (s .args .slope) (s .fits .slope) (c .if1 .taken)) (mag-fits (s .args .slope) (s .fits .slope))
 
 cast-result : tie.Need-cast-result
-cast-result c = let s = c .before in natural-fits (read-back (s .args .slope) (s .fits .slope) (c .if1 .taken)) (mag-fits (s .args .slope) (s .fits .slope))
+cast-result c =
+    let s = c .before in
+    natural-fits (read-back (s .args .slope) (s .fits .slope) (c .if1 .taken)) (mag-fits (s .args .slope) (s .fits .slope))
 
 add-result : tie.Need-add-result
 add-result c =
@@ -46,7 +50,9 @@ returns c =
     ∙ size-is (s .args .slope) (s .fits .slope) (c .if1 .taken)
 
 cast-result-2 : tie.Need-cast-result-2
-cast-result-2 c = let s = c .before in natural-fits (as-it-is (s .args .slope) (s .fits .slope) (c .if1 .left)) (mag-fits (s .args .slope) (s .fits .slope))
+cast-result-2 c =
+    let s = c .before in
+    natural-fits (as-it-is (s .args .slope) (s .fits .slope) (c .if1 .left)) (mag-fits (s .args .slope) (s .fits .slope))
 
 returns-2 : tie.Need-returns-2
 returns-2 c = search needs
