@@ -1,4 +1,5 @@
 -- What the reader keeps of a number's size: itself, or a cap that lies outside every range of 64-bit numbers.
+-- Only inner functions cite this; the contract of `ranged_field` knows no cap (`cap-loses-nothing` of proofs/Ranges.antt).
 use Prim.Native.Nat.{ℕ, min}
 use mathlib.Core.List.{List}
 use mathlib.Core.Bool.{Bool, cond}
@@ -12,6 +13,7 @@ use Rattle.fields.specs.declared.Size.the-variants.{Of, Bad}
 abbrev pub cap : ℕ
 cap = 9223372036854775809
 
+-- nothing of a size that is malformed
 abbrev pub kept : Bool → ℕ → Size
 kept good size = cond good (Of (min cap size)) Bad
 

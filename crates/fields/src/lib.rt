@@ -93,12 +93,12 @@ fn begins(field: &[u8], k: usize, end: usize, b: u8) -> bool
 fn whole_size(field: &[u8], k: usize, end: usize) -> Size
     ensures { λ r. ⌜ r ≡ kept (wholeGood (columns (now (field .entry)) k (end - k))) (wholeSize (columns (now (field .entry)) k (end - k))) ⌝ }
 {
-    let stop = columns::run_end(field, k, end, 48, 57);
-    if stop <= k {
+    let last = columns::run_end(field, k, end, 48, 57);
+    if last <= k {
         return Size::Bad;
     }
-    if columns::all_among(field, stop, end, 32, 32) {
-        return Size::Of(numeral(field, k, stop, 0));
+    if columns::all_among(field, last, end, 32, 32) {
+        return Size::Of(numeral(field, k, last, 0));
     }
     Size::Bad
 }

@@ -1,4 +1,5 @@
 -- `columns::same_name` meets its contract. The loop's invariant: comparing from byte j on answers as from 0 on. Rests on the clauses of `same`. Assumes nothing.
+use native.Mathlib.Omega.{arith}
 use borrow.Author.Needs.{needs}
 use Rattle.columns.proofs.same_name.Statement.{statement}
 use Rattle.columns.proofs.same_name.Tie as tie
@@ -34,13 +35,13 @@ loop-again : tie.Need-loop-again Inv-loop μ-loop
 loop-again c =
     let s = c .before .before .before .before in
     let a = s .before .before .before .args in
-    rw (same-more 32 0 (a .part .now) (a .row .now) (s .loop .j) 5 (c .before .before .before .loop-test .taken), ← c .before .before .column .ensures, ← c .before .byte .ensures, eq-eqb _ _ (c .if1 .taken)) at (s .loop .inv)
+    rw (same-more 32 0 (a .part .now) (a .row .now) (s .loop .j) 5 (omega arith), ← c .before .before .column .ensures, ← c .before .byte .ensures, eq-eqb _ _ (c .if1 .taken)) at (s .loop .inv)
 
 returns : tie.Need-returns Inv-loop μ-loop
 returns c =
     let s = c .before .before .before .before in
     let a = s .before .before .before .args in
-    rw (same-more 32 0 (a .part .now) (a .row .now) (s .loop .j) 5 (c .before .before .before .loop-test .taken), ← c .before .before .column .ensures, ← c .before .byte .ensures, ne-eqb _ _ (c .if1 .left)) at (s .loop .inv)
+    rw (same-more 32 0 (a .part .now) (a .row .now) (s .loop .j) 5 (omega arith), ← c .before .before .column .ensures, ← c .before .byte .ensures, ne-eqb _ _ (c .if1 .left)) at (s .loop .inv)
 
 returns-2 : tie.Need-returns-2 Inv-loop μ-loop
 returns-2 c =

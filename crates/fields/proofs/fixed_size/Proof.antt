@@ -21,7 +21,7 @@ begins-requires : tie.Need-begins-requires
 begins-requires c κs = search needs
 
 add-run-end : tie.Need-add-run-end
-add-run-end c = let a = c .before .before .before .before .args in omega (arith, begins-within 46 (a .field .now) (c .before .before .run-end .result) (a .end) (sym (c .before .begins .ensures) ∙ c .if1 .taken))
+add-run-end c = let a = c .before .before .before .before .args in omega (arith, begins-within _ (a .field .now) (c .before .before .run-end .result) (a .end) (sym (c .before .begins .ensures) ∙ c .if1 .taken))
 
 run-end-requires-2 : tie.Need-run-end-requires-2
 run-end-requires-2 c κs = search needs

@@ -21,7 +21,7 @@ begins-requires : tie.Need-begins-requires
 begins-requires c κs = search needs
 
 add-unsigned : tie.Need-add-unsigned
-add-unsigned c = let f = c .before .before .before .part .result .now in omega (arith, begins-within 45 f (c .before .before .run-end .result) (c .before .before .before .before .before .args .width) (sym (c .before .begins .ensures) ∙ c .if1 .taken))
+add-unsigned c = let f = c .before .before .before .part .result .now in omega (arith, begins-within _ f (c .before .before .run-end .result) (c .before .before .before .before .before .args .width) (sym (c .before .begins .ensures) ∙ c .if1 .taken))
 
 unsigned-requires : tie.Need-unsigned-requires
 unsigned-requires c κs = search needs

@@ -1,0 +1,4 @@
+pub mod Months
+pub mod Differences
+pub mod Days
+pub mod Examples

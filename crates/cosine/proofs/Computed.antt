@@ -1,0 +1,39 @@
+-- The steps of 01 pass the tests of `Rule`, each computed here, so the fixed cosine and sine are within the bound at every angle.
+-- Another step, count and bound need nothing else. Assumes nothing.
+use mathlib.Core.Path.{_≡_, refl, sym, subst}
+use mathlib.Core.List.{List}
+use Prim.Native.Nat.{ℕ, _-_, _+_, _*_, _<_}
+use lib.Dec.{T, lit≤, lit<}
+use lib.ListN.{length}
+use Rattle.cosine.specs.Fraction.{quarter, factorial, arc, unit, term, added, taken, whole, base, cosine, sine}
+use Rattle.cosine.specs.Fixed.{entries, step, bound, entry, fixedCosine, fixedSine, Within, IsNearest, IsTable}
+use Rattle.cosine.proofs.Chord.{rise, bend}
+use Rattle.cosine.proofs.Series.{share, weight, addedBend, takenBend}
+use Rattle.cosine.proofs.Claim.{claim}
+use Rattle.cosine.proofs.Every.{every}
+use Rattle.cosine.proofs.Rule.{sound, falling, right, table-is, Passed, is-nearest, good}
+
+-- how far neighbours may be apart, so that a product with a remainder stays in 64 bits
+abbrev pub steepest : ℕ
+steepest = 2097152
+
+pub passed : Passed bound step steepest (entries - 1)
+unfolding sound falling entry base added taken whole term factorial arc unit addedBend takenBend weight share bend rise
+passed =
+    record { some = lit< tt; steps = refl; top = lit≤ tt; all-sound = tt; all-fall = tt; bends-added = lit≤ tt; bends-taken = lit≤ tt }
+
+-- "each the whole number nearest 2^30 times the base fraction"
+pub entries-nearest : (i : ℕ) → i < entries → IsNearest (entry step i) (base (i * step))
+entries-nearest = is-nearest passed
+
+-- "It is within 1,024 of 2^30 times the fraction."
+pub cosine-within : (t : ℕ) → Within bound (fixedCosine t) (cosine t)
+unfolding fixedCosine
+cosine-within = claim bound step (entries - 1) (good passed)
+
+pub sine-within : (t : ℕ) → Within bound (fixedSine t) (sine t)
+sine-within t = cosine-within (t + 3 * quarter)
+
+-- a list that passes the test at each of its places is the table
+pub is-table : {xs : List ℕ} → T (every (right step) 0 xs) → length xs ≡ entries → IsTable xs
+is-table {xs} t l = record { each = λ i h. table-is step xs t i (subst (λ (n : ℕ). i < n) (sym l) h) }

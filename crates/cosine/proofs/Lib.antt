@@ -1,0 +1,9 @@
+pub mod Chord
+pub mod Line
+pub mod Series
+pub mod Every
+pub mod Signs
+pub mod Claim
+pub mod Rule
+pub mod Computed
+pub mod Quadrants

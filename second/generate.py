@@ -1,0 +1,330 @@
+"""Writes random card files and random replay scripts, the same ones for the same seed.
+
+Usage: python3 second/generate.py cards SEED COUNT OUTDIR [STANDARD]
+       python3 second/generate.py scripts SEED COUNT OUTDIR [STANDARD]
+
+STANDARD is the standard card file (default data/standard-cards.txt of this repository).
+cards: NNNNN.cards, the same as a one-call script NNNNN.replay, and all of them in order in all.replay.
+scripts: NNNNN.replay, about 100 calls each.
+"""
+
+import os
+import random
+import sys
+
+import decks
+from clock import Clock
+from refusal import Refusal
+
+STANDARD_PATH = os.path.join(os.path.dirname(os.path.abspath(__file__)), "..", "data", "standard-cards.txt")
+CALLS = 100
+LARGEST = 4_294_967_295
+# What a replay program takes at least; nothing larger is asked.
+LARGEST_BUFFER = 44_641
+
+
+def cards_call(data):
+    return b"cards %d\n%s\n" % (len(data), data)
+
+
+def chance(rng, *weighted):
+    """One of several choices given as (weight, choice)."""
+    return rng.choices([choice for _, choice in weighted], [weight for weight, _ in weighted])[0]
+
+
+class ScriptWriter:
+    """Writes calls one after another. A clock of the model follows the calls that change the state,
+    so that later calls can be chosen to fit it or to miss it narrowly."""
+
+    def __init__(self, rng, standard, ratios, standard_share):
+        self.rng = rng
+        self.standard = standard
+        self.ratios = ratios
+        self.standard_share = standard_share
+        self.clock = Clock()
+        self.calls = []
+
+    def data(self):
+        return b"".join(self.calls)
+
+    def follow(self, call, *arguments):
+        try:
+            call(*arguments)
+        except Refusal:
+            pass
+
+    def write(self, word, *numbers):
+        self.calls.append(word + b"".join(b" %d" % number for number in numbers) + b"\n")
+
+    # Cards
+
+    def cards(self):
+        rng = self.rng
+        roll = rng.random()
+        if roll < self.standard_share:
+            data = self.standard
+        elif roll < 0.85:
+            data = self.useful_deck()
+        else:
+            data = decks.card_file(rng, self.standard)
+        self.calls.append(cards_call(data))
+        self.follow(self.clock.set_cards, data)
+
+    def useful_deck(self):
+        rng = self.rng
+        shape = decks.Shape(rng.randint(3, 14), rng.randint(0, 8), None, self.ratios, rng.random() < 0.5)
+        return decks.build(rng, shape).data()
+
+    # Stations
+
+    def latitude(self):
+        rng = self.rng
+        near = rng.choice([0, 1, 299, 300, 301, 2_905, 5_399, 5_400, 1_583])
+        return rng.choice([near, -near, rng.randint(-5_400, 5_400), rng.randint(-330, 330)])
+
+    def amplitude(self):
+        rng = self.rng
+        return rng.choice([0, 1, 65_535, rng.randint(0, 65_535), rng.randint(0, 20_000), rng.randint(0, 2_000)])
+
+    def lag(self):
+        rng = self.rng
+        return rng.choice([0, 9_000, 18_000, 27_000, 35_999, rng.randint(0, 35_999), rng.randint(0, 35_999)])
+
+    def place_of(self, name):
+        """The place of a name in the table, or None."""
+        for place, (known, _) in enumerate(self.clock.table.frequencies):
+            if known == name.ljust(5):
+                return place
+        return None
+
+    def named_records(self, amplitudes):
+        records = []
+        for name, amplitude in amplitudes:
+            place = self.place_of(name)
+            if place is not None:
+                records.append((place, amplitude, self.lag()))
+        return records
+
+    def class_records(self):
+        """Stations of a known kind: diurnal, semidiurnal, mixed, at the edges, double high water, still."""
+        rng = self.rng
+        unit = rng.choice([1, 10, 50])
+        k1_o1, m2_s2 = rng.choice([
+            (100, 400), (101, 400), (300, 100), (301, 100), (10, 1_000), (1_000, 10), (0, 0), (0, 500), (500, 0),
+            (300, 300), (400, 300), (200, 500), (rng.randint(0, 1_000), rng.randint(0, 1_000)),
+        ])
+        k1 = rng.randint(0, k1_o1)
+        m2 = rng.randint(0, m2_s2)
+        tide = [(b"K1", k1 * unit), (b"O1", (k1_o1 - k1) * unit), (b"M2", m2 * unit), (b"S2", (m2_s2 - m2) * unit)]
+        double = [(b"M2", 9_000), (b"M4", rng.randint(4_000, 9_000)), (b"M6", rng.randint(0, 6_000)), (b"MS4", 2_000)]
+        still = [(b"Z0", self.amplitude())]
+        amplitudes = chance(rng, (8, tide), (3, tide + still), (3, double), (1, still + double), (2, still))
+        records = self.named_records(amplitudes)
+        if amplitudes[0] == tide[0] and rng.random() < 0.4:
+            # Smaller constituents beside the four that decide the class.
+            taken = {place for place, _, _ in records}
+            others = self.random_records(25)
+            records += [(place, amplitude % 3_000, lag) for place, amplitude, lag in others if place not in taken]
+        rng.shuffle(records)
+        return records
+
+    def random_records(self, most):
+        rng = self.rng
+        size = len(self.clock.table.frequencies)
+        count = min(size, 146, rng.choice([1, 2, 4, 8, 12, rng.randint(0, most)]))
+        return [(place, self.amplitude(), self.lag()) for place in rng.sample(range(size), count)]
+
+    def shallow_records(self):
+        """Records from the later places, where a table's shallow constituents often stand."""
+        size = len(self.clock.table.frequencies)
+        places = range(size // 2, size)
+        count = min(len(places), self.rng.randint(1, 6))
+        return [(place, self.amplitude(), self.lag()) for place in self.rng.sample(places, count)]
+
+    def spoil_records(self, records):
+        """One thing wrong with a station; two sometimes, for the order of refusals."""
+        rng = self.rng
+        size = len(self.clock.table.frequencies) if self.clock.table else 0
+        latitude = self.latitude()
+        for _ in range(rng.choice([1, 1, 2])):
+            at = rng.randint(0, len(records))
+            wrong = rng.choice(["latitude", "count", "place", "repeated", "amplitude", "phase"])
+            if wrong == "latitude":
+                latitude = rng.choice([-5_401, 5_401, 2**31 - 1, -(2**31), rng.randint(5_401, 99_999)])
+            elif wrong == "count":
+                count = rng.choice([147, 147, 148, 300, 1_024])
+                records = [(rng.randint(0, 255), 1, 1) for _ in range(count)]
+            elif wrong == "place":
+                records.insert(at, (rng.choice([min(size, 255), 255, rng.randint(min(size, 255), 255)]), 70_000, 1))
+            elif wrong == "repeated" and records:
+                records.insert(at, (rng.choice(records)[0], rng.choice([1, 70_000]), 1))
+            elif wrong == "amplitude" and records:
+                place, _, lag = records.pop(rng.randrange(len(records)))
+                records.append((place, rng.choice([65_536, LARGEST, 70_000]), rng.choice([lag, 36_000])))
+            elif wrong == "phase" and records:
+                place, amplitude, _ = records.pop(rng.randrange(len(records)))
+                records.append((place, amplitude, rng.choice([36_000, LARGEST, 50_000])))
+        return latitude, records
+
+    def station(self, good=0.8):
+        rng = self.rng
+        latitude = self.latitude()
+        records = []
+        if self.clock.table:
+            kind = chance(rng, (12, "class"), (8, "random"), (4, "shallow"), (1, "empty"), (0.3, "full"))
+            if kind == "class":
+                records = self.class_records()
+            elif kind == "random":
+                records = self.random_records(20)
+            elif kind == "shallow":
+                records = self.shallow_records()
+            elif kind == "full":
+                size = len(self.clock.table.frequencies)
+                records = [(place, self.amplitude(), self.lag()) for place in range(min(size, 146))]
+        if rng.random() > good:
+            latitude, records = self.spoil_records(records)
+        lines = b"".join(b"%d %d %d\n" % record for record in records)
+        self.calls.append(b"station %d %d\n" % (latitude, len(records)) + lines)
+        self.follow(self.clock.set_station, latitude, records)
+
+    # Dates
+
+    def date(self, good=0.85):
+        rng = self.rng
+        year = rng.choice([1950, 1976, 2049, rng.randint(1950, 2049), rng.randint(1950, 2049)])
+        month = rng.choice([1, 2, 2, 12, rng.randint(1, 12), rng.randint(1, 12)])
+        if rng.random() > good:
+            if rng.random() < 0.5:
+                year = rng.choice([0, 1949, 2050, 2100, LARGEST])
+            else:
+                month = rng.choice([0, 13, LARGEST, rng.randint(13, 300)])
+        self.write(b"date", year, month)
+        self.follow(self.clock.set_date, year, month)
+
+    # Heights, series, turns
+
+    def last_minute(self):
+        return self.clock.month.days * 1_440 if self.clock.month else 44_640
+
+    def minute(self, good=0.9):
+        rng = self.rng
+        last = self.last_minute()
+        if rng.random() > good:
+            return rng.choice([last + 1, last + 1_440, LARGEST, rng.randint(last + 1, LARGEST)])
+        return rng.choice([0, 1, last, 21_600, rng.randint(0, last), rng.randint(0, last)])
+
+    def height(self):
+        self.write(b"height", self.minute())
+
+    def series(self):
+        rng = self.rng
+        start = self.minute(0.95)
+        step = chance(rng, (4, 1), (4, 60), (2, 1_440), (6, rng.randint(1, 1_440)), (1, 0), (1, 1_441), (0.3, LARGEST))
+        room = (self.last_minute() - start) // step + 1 if step and start <= self.last_minute() else 1
+        most = 2_000 if rng.random() < 0.05 else 150
+        count = chance(
+            rng, (1, 0), (1, 1), (6, min(room, rng.randint(0, most))), (2, room if room <= most else 3),
+            (1, min(room + 1, LARGEST_BUFFER)), (0.3, LARGEST_BUFFER if step > 1 else 0),
+        )
+        self.write(b"series", start, step, count)
+
+    def turns(self):
+        rng = self.rng
+        last = self.last_minute()
+        if rng.random() < 0.12:
+            first, end = 0, last
+        else:
+            first = self.minute(0.97)
+            end = chance(
+                rng, (12, first + rng.randint(0, 7_200)), (1, first), (1, first + 180), (1, first + 30), (1, first + 360),
+                (1, last), (0.5, rng.randint(0, last)), (0.5, last + 1),
+            )
+            end = min(end, LARGEST) if first > last else min(end, last + 1 if rng.random() < 0.05 else last)
+        # As many places as there are turns, one fewer, or plenty.
+        try:
+            count = len(self.clock.turns(first, end, LARGEST, LARGEST)[0])
+        except Refusal:
+            count = rng.randint(0, 5)
+        enough = rng.choice([count, count + 1, 200])
+        short = max(0, rng.choice([count - 1, 0, count // 2]))
+        minutes, heights = chance(
+            rng, (6, (enough, enough)), (3, (count, count)), (1, (enough, short)), (1, (short, enough)),
+            (0.5, (short, short)), (0.2, (LARGEST_BUFFER, LARGEST_BUFFER)),
+        )
+        self.write(b"turns", first, end, minutes, heights)
+
+    # The order of calls
+
+    def any_call(self):
+        """A call fit for the state as a rule, and any call now and then."""
+        reading = [(3, self.height), (3, self.series), (4, self.turns)]
+        if self.clock.table is None:
+            choices = [(6, self.cards), (1, self.station), (1, self.date)] + [(0.4, call) for _, call in reading]
+        elif self.clock.station is None:
+            choices = [(1, self.cards), (12, self.station), (1, self.date)] + [(0.3, call) for _, call in reading]
+        elif self.clock.month is None:
+            choices = [(0.5, self.cards), (4, self.station), (10, self.date)] + [(0.3, call) for _, call in reading]
+        else:
+            choices = [(0.5, self.cards), (1, self.station), (1.5, self.date)] + reading
+        chance(self.rng, *choices)()
+
+    def malformed_line(self):
+        """A last line that is not of the format; the run ends there."""
+        self.calls.append(self.rng.choice([
+            b"height\n", b"height  1\n", b"height 1 \n", b" height 1\n", b"height -1\n", b"height 4294967296\n",
+            b"heights 1\n", b"\n", b"date 1976\n", b"series 1 2\n", b"series 1 2 3 4\n", b"turns 1 2 3\n", b"height 1",
+            b"station 0 1\n256 0 0\n", b"station 0 2\n0 0 0\n", b"station 0 1\n0 0\n", b"station 2147483648 0\n",
+            b"station -2147483649 0\n", b"station 0 1\n-1 0 0\n", b"cards\n", b"cards -1\n", b"height 1\r\n",
+            b"\xff\xfe\n", b"height 0x1\n", b"height +1\n", b"date 1976 7 1\n", b"station 0 1\n0 0 0 0\n",
+        ]))
+
+
+def script(rng, index, standard):
+    """Scripts come in turn with the standard file, natural files, files of large ratios, any files."""
+    ratios, standard_share = [("small", 0.85), ("small", 0.1), ("large", 0.0), ("any", 0.2)][index % 4]
+    writer = ScriptWriter(rng, standard, ratios, standard_share)
+    while len(writer.calls) < CALLS:
+        writer.any_call()
+    if rng.random() < 0.15:
+        writer.malformed_line()
+    return writer.data()
+
+
+def write_file(folder, name, data):
+    with open(os.path.join(folder, name), "wb") as file:
+        file.write(data)
+
+
+def write_cards(seed, count, folder, standard):
+    everything = []
+    for index in range(count):
+        if index % 14 == 13:
+            # The standard file cut at every line in turn.
+            data = decks.cut(standard, index // 14)
+        else:
+            data = decks.card_file(random.Random("cards %d %d" % (seed, index)), standard)
+        write_file(folder, "%05d.cards" % index, data)
+        write_file(folder, "%05d.replay" % index, cards_call(data))
+        everything.append(cards_call(data))
+    write_file(folder, "all.replay", b"".join(everything))
+
+
+def write_scripts(seed, count, folder, standard):
+    for index in range(count):
+        rng = random.Random("scripts %d %d" % (seed, index))
+        write_file(folder, "%05d.replay" % index, script(rng, index, standard))
+
+
+def main():
+    if len(sys.argv) not in (5, 6) or sys.argv[1] not in ("cards", "scripts"):
+        sys.exit(__doc__)
+    seed, count, folder = int(sys.argv[2]), int(sys.argv[3]), sys.argv[4]
+    with open(sys.argv[5] if len(sys.argv) == 6 else STANDARD_PATH, "rb") as file:
+        standard = file.read()
+    os.makedirs(folder, exist_ok=True)
+    writer = write_cards if sys.argv[1] == "cards" else write_scripts
+    writer(seed, count, folder, standard)
+
+
+if __name__ == "__main__":
+    main()

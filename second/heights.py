@@ -1,0 +1,100 @@
+"""Document 01, "Heights and turns"."""
+
+from cosine import cosine_fraction, fixed_cosine, fixed_sine, sine_fraction
+
+# The month's instant, 00:00 on the 16th, is 15 days after minute 0.
+INSTANT = 21_600
+
+
+def angle_at(constituent, minute):
+    """ "V - lag + 1,314 x frequency (10^-10 cycle an hour) x (minute - 21,600)" """
+    return constituent.angle + 1_314 * constituent.frequency * (minute - INSTANT)
+
+
+def height(month, minute):
+    """In tenths of a millimetre."""
+    total = 0
+    for constituent in month.constituents:
+        angle = angle_at(constituent, minute)
+        # "Its share is floor((P x cosine - Q x sine)/2^30)"
+        total += (constituent.P * fixed_cosine(angle) - constituent.Q * fixed_sine(angle)) // 2**30
+    # "the height is floor((sum of shares + 2,048)/4,096)"
+    return (total + 2_048) // 4_096
+
+
+def exact_sum(month, minute):
+    """ "the sum of P x cosine fraction - Q x sine fraction, each at its constituent's angle, over 4,096":
+    here times 4,096 x cosine.DENOMINATOR."""
+    total = 0
+    for constituent in month.constituents:
+        angle = angle_at(constituent, minute)
+        total += constituent.P * cosine_fraction(angle) - constituent.Q * sine_fraction(angle)
+    return total
+
+
+def slope(month, minute):
+    """ "minus the sum of floor((P x sine + Q x cosine)/2^30) x floor(frequency/1,000)" """
+    total = 0
+    for constituent in month.constituents:
+        angle = angle_at(constituent, minute)
+        swing = (constituent.P * fixed_sine(angle) + constituent.Q * fixed_cosine(angle)) // 2**30
+        total += swing * (constituent.frequency // 1_000)
+    return -total
+
+
+def rising(month, minute):
+    """ "Slope 0 counts as rising." """
+    return slope(month, minute) >= 0
+
+
+def stride_by_amplitudes(k1, o1, m2, s2):
+    if 4 * (k1 + o1) <= m2 + s2:
+        return 180
+    if k1 + o1 > 3 * (m2 + s2):
+        return 360
+    return 30
+
+
+def stride_of(table, station):
+    """ "By the amplitudes of K1, O1, M2, S2 (names with three blanks after; absent is 0)" """
+    amplitudes = {b"K1   ": 0, b"O1   ": 0, b"M2   ": 0, b"S2   ": 0}
+    for place, amplitude, _ in station.records:
+        name, _ = table.frequencies[place]
+        if name in amplitudes:
+            amplitudes[name] = amplitude
+    return stride_by_amplitudes(*amplitudes.values())
+
+
+def bisect(month, start, end):
+    """Halves a bracket whose ends differ in sense, until they are one minute apart."""
+    if end - start == 1:
+        return start, end
+    # "Then cut at start + floor(length/2). The half that holds the change is halved again"
+    middle = start + (end - start) // 2
+    if rising(month, start) != rising(month, middle):
+        return bisect(month, start, middle)
+    return bisect(month, middle, end)
+
+
+def turns(month, stride, first, last):
+    """The turns from first to last as (minute, height), and whether the first is high."""
+    found = []
+    first_is_high = False
+    start = first
+    # "a stride past the last minute ends the work"
+    while start + stride <= last:
+        end = start + stride
+        start_rising = rising(month, start)
+        if start_rising == rising(month, end):
+            start = end
+            continue
+        if not found:
+            # "whether the first is high, that is, rising at its stride's start"
+            first_is_high = start_rising
+        earlier, later = bisect(month, start, end)
+        # "The turn is the end with the smaller slope size, the earlier if equal"
+        turn = later if abs(slope(month, later)) < abs(slope(month, earlier)) else earlier
+        found.append((turn, height(month, turn)))
+        # "Search resumes from the later end."
+        start = later
+    return found, first_is_high

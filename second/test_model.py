@@ -1,0 +1,256 @@
+"""Document 01's "Checked against" cases, its limits and the card file readings, as plain asserts.
+
+Usage: python3 second/test_model.py [folder with the standard cards]
+"""
+
+import os
+import random
+import sys
+
+import heights
+from cards import Main, Shallow, read_card_file
+from clock import Clock
+from cosine import COSINES, DENOMINATOR, QUARTER, STEP, base_fraction, fixed_cosine, fixed_sine
+from month import argument, day_count, latitude_factors, longitudes_at
+from refusal import Refusal
+from replay import replay
+
+FOLDER = sys.argv[1] if len(sys.argv) > 1 else os.path.join(os.path.dirname(os.path.abspath(__file__)), "..", "data")
+PASSED = 0
+FAILED = 0
+
+
+def check(what, got, wanted):
+    global PASSED, FAILED
+    if got == wanted:
+        PASSED += 1
+    else:
+        FAILED += 1
+        print("failed: %s: got %r, wanted %r" % (what, got, wanted))
+
+
+def load(name):
+    with open(os.path.join(FOLDER, name), "rb") as file:
+        return file.read()
+
+
+STANDARD = load("standard-cards.txt")
+AS_PRINTED = load("standard-cards-as-printed.txt")
+
+
+def refused(call, *arguments):
+    """(number, place) of a refusal, or None."""
+    try:
+        call(*arguments)
+    except Refusal as refusal:
+        return refusal.number, refusal.place
+    return None
+
+
+def place_of(clock, name):
+    return [known for known, _ in clock.table.frequencies].index(name.ljust(5))
+
+
+def clock_with(latitude, records, year=1976, month=7):
+    """A clock with the standard table; records as (name, amplitude, lag)."""
+    clock = Clock()
+    clock.set_cards(STANDARD)
+    clock.set_station(latitude, [(place_of(clock, name), a, g) for name, a, g in records])
+    clock.set_date(year, month)
+    return clock
+
+
+def check_cosine():
+    check("C(0)", COSINES[0], 1_073_741_824)
+    check("C(512)", COSINES[512], 759_250_125)
+    check("C(1024)", COSINES[1024], 0)
+    check("entries", len(COSINES), 1_025)
+    check("falling", all(a > b for a, b in zip(COSINES, COSINES[1:])), True)
+    check("signs", [fixed_cosine(n * QUARTER) for n in range(-4, 5)], [2**30, 0, -(2**30), 0] * 2 + [2**30])
+    check("sine", [fixed_sine(n * QUARTER) for n in range(4)], [0, 2**30, 0, -(2**30)])
+    # "It is within 1,024 of 2^30 times the fraction."
+    rng = random.Random(1)
+    ticks = [rng.randrange(QUARTER) for _ in range(2_000)] + [i * STEP + STEP // 2 for i in range(1_024)]
+    ticks += [QUARTER - 1, 1, STEP - 1, QUARTER - STEP + 1]
+    near = True
+    for at in ticks:
+        near = near and abs(fixed_cosine(at) * DENOMINATOR - 2**30 * base_fraction(at)) <= 1_024 * DENOMINATOR
+    check("within 1,024", near, True)
+
+
+def check_arguments():
+    table = read_card_file(STANDARD)
+    longitudes = longitudes_at(table, 0)
+
+    def cycles_e10(name):
+        return argument(table.definitions[name.ljust(5)], longitudes)
+
+    check("M2 on 1 January 1976", cycles_e10(b"M2"), 686_206_548 * 78_840)
+    check("K1 on 1 January 1976", cycles_e10(b"K1"), 271_900_329 * 78_840)
+    check("O1 on 1 January 1976", cycles_e10(b"O1"), 414_306_219 * 78_840)
+    M2 = dict(table.frequencies)[b"M2   "]
+    check("M2 a minute", 1_314 * M2, 1_057_919_805_198)
+    check("1 January 1950", day_count(1950, 1, 1), -9_496)
+    check("16 December 2049", day_count(2049, 12, 16), 27_013)
+    check("1 January 1976", day_count(1976, 1, 1), 0)
+    check("1 March 1976", day_count(1976, 3, 1), 60)
+    clock = clock_with(0, [])
+    check("month 0", refused(clock.set_date, 1976, 0), (8, 0))
+    check("month 13", refused(clock.set_date, 1976, 13), (8, 0))
+    check("year 1949", refused(clock.set_date, 1949, 12), (8, 0))
+    check("year 2050", refused(clock.set_date, 2050, 1), (8, 0))
+
+
+def check_heights():
+    for A in (0, 1, 777, 65_535):
+        for lag, wanted in ((0, A), (18_000, -A), (9_000, 0)):
+            clock = clock_with(2_905, [(b"Z0", A, lag)])
+            last = 31 * 1_440
+            check("Z0 %d at %d" % (A, lag), {clock.height(m) for m in (0, 1, 21_600, last)}, {wanted})
+            check("Z0 turns", clock.turns(0, last, 0, 0), ([], False))
+    # Heights stay near the exact sum: half a unit for rounding, 1/4,096 for each share's floor, and
+    # the sizes of all P and Q over 2^32 for the fixed cosines.
+    records = [(b"Z0", 60_670, 0), (b"O1", 12_110, 12_340), (b"K1", 20_700, 14_000), (b"M2", 65_535, 31_000), (b"M4", 900, 5)]
+    for latitude in (2_905, -60, -5_400):
+        clock = clock_with(latitude, records, 2049, 2)
+        sizes = sum(abs(c.P) + abs(c.Q) for c in clock.month.constituents)
+        reach = 2**19 * 4_096 + len(records) * 2**20 + sizes
+        near = True
+        for minute in range(0, 28 * 1_440 + 1, 97):
+            gap = clock.height(minute) * 4_096 * DENOMINATOR - heights.exact_sum(clock.month, minute)
+            near = near and abs(gap) * 2**20 <= reach * DENOMINATOR
+        check("near the exact sum", near, True)
+    clock = clock_with(0, [])
+    check("empty station", clock.series(0, 1_440, 32), [0] * 32)
+    check("no place lent", clock.series(0, 1, 0), [])
+    check("start with no place lent", refused(clock.series, 44_641, 1, 0), (9, 0))
+    check("step 0", refused(clock.series, 0, 0, 1), (9, 0))
+    check("step 1,441", refused(clock.series, 0, 1_441, 1), (9, 0))
+    check("series to the end", len(clock.series(0, 1_440, 32)), 32)
+    check("series past the end", refused(clock.series, 1, 1_440, 32), (9, 0))
+    check("last minute", clock.height(44_640), 0)
+    check("past the last minute", refused(clock.height, 44_641), (9, 0))
+    check("reversed", refused(clock.turns, 2, 1, 9, 9), (9, 0))
+    for (k1_o1, m2_s2), wanted in (
+        ((100, 400), 180), ((101, 400), 30), ((301, 100), 360), ((300, 100), 30), ((0, 0), 180)
+    ):
+        check("stride %d, %d" % (k1_o1, m2_s2), heights.stride_by_amplitudes(k1_o1, 0, m2_s2, 0), wanted)
+        check("stride split", heights.stride_by_amplitudes(0, k1_o1, 0, m2_s2), wanted)
+        clock = clock_with(0, [(b"K1", k1_o1, 0), (b"M2", m2_s2, 0)])
+        check("stride of a station", heights.stride_of(clock.table, clock.station), wanted)
+
+
+def check_stations():
+    for mark in (1, 2):
+        check("4 59 as 5", latitude_factors(299)[mark], latitude_factors(300)[mark])
+        check("0 as 5 north", latitude_factors(0)[mark], latitude_factors(300)[mark])
+        check("south", latitude_factors(-1)[mark], -latitude_factors(300)[mark])
+        check("5 01 differs", latitude_factors(301)[mark] == latitude_factors(300)[mark], False)
+    check("at the pole", latitude_factors(5_400), (None, -4 * 36_309 * 2**20 // 100_000, 259_808 * 2**20 // 100_000))
+    records = [(b"K1", 3_000, 100), (b"M2", 9_000, 200)]
+    check("4 59 heights", clock_with(299, records).series(0, 60, 745), clock_with(300, records).series(0, 60, 745))
+    clock = Clock()
+    check("no table", refused(clock.set_station, 9_999, []), (21, 0))
+    check("no table for a date", refused(clock.set_date, 1, 1), (21, 0))
+    check("no table for a height", refused(clock.height, 0), (21, 0))
+    clock.set_cards(STANDARD)
+    check("no station for a date", refused(clock.set_date, 1, 1), (22, 0))
+    check("no station for turns", refused(clock.turns, 2, 1, 0, 0), (22, 0))
+    check("amplitude 65,535", refused(clock.set_station, 0, [(0, 65_535, 0)]), None)
+    check("no month", refused(clock.series, 0, 0, 0), (23, 0))
+    check("amplitude 65,536", refused(clock.set_station, 0, [(0, 65_536, 0)]), (3, 1))
+    check("lag 35,999", refused(clock.set_station, 0, [(0, 1, 35_999)]), None)
+    check("lag 36,000", refused(clock.set_station, 0, [(1, 1, 0), (0, 1, 36_000)]), (3, 2))
+    check("latitude 5,400", refused(clock.set_station, 5_400, []), None)
+    check("latitude -5,400", refused(clock.set_station, -5_400, []), None)
+    check("latitude 5,401", refused(clock.set_station, 5_401, [(0, 0, 0)] * 147), (3, 0))
+    check("147 records", refused(clock.set_station, 0, [(0, 0, 0)] * 147), (6, 147))
+    check("place repeated", refused(clock.set_station, 0, [(0, 0, 0)] * 146), (4, 2))
+    check("place not in the table", refused(clock.set_station, 0, [(145, 70_000, 0)]), (5, 1))
+
+
+def check_card_files():
+    table = read_card_file(STANDARD)
+    mains = [d for d in table.definitions.values() if isinstance(d, Main)]
+    shallows = [d for d in table.definitions.values() if isinstance(d, Shallow)]
+    counts = (len(table.frequencies), len(mains), sum(len(m.satellites) for m in mains), len(shallows))
+    check("standard counts", counts, (145, 45, 162, 100))
+    check("shallow parts", sum(len(s.parts) for s in shallows), 250)
+    check("as printed", refused(read_card_file, AS_PRINTED), (3, 337))
+    lines = STANDARD.split(b"\n")[:-1]
+    check("empty file", refused(read_card_file, b""), (7, 1))
+    for kept in range(len(lines)):
+        check("cut at %d" % kept, refused(read_card_file, b"".join(l + b"\n" for l in lines[:kept])), (7, kept + 1))
+    check("lines after the end", refused(read_card_file, STANDARD + b"\x00\xff" * 90), None)
+    check("last card ends without LF", refused(read_card_file, STANDARD[:-1] + b" "), None)
+
+    def edited(line, start, text):
+        """The standard file with text put at a column (from 1) of a line."""
+        old = lines[line - 1].ljust(start - 1 + len(text))
+        new = old[: start - 1] + text + old[start - 1 + len(text) :]
+        return b"\n".join(lines[: line - 1] + [new] + lines[line:]) + b"\n"
+
+    def edit(what, line, start, text, wanted):
+        check(what, refused(read_card_file, edited(line, start, text)), wanted)
+
+    edit("80 columns", 2, 80, b"x", None)
+    edit("81 columns", 2, 81, b"x", (1, 2))
+    edit("byte 127", 2, 80, b"\x7f", (1, 2))
+    edit("byte 31", 2, 80, b"\x1f", (1, 2))
+    edit("byte 126", 2, 80, b"~", None)
+    edit("-0.0", 1, 13, b"-0.0", None)
+    edit("point alone", 1, 13, b" .  ", (2, 1))
+    edit("minus alone", 1, 13, b" -  ", (2, 1))
+    edit("plus", 1, 13, b"+0.0", (2, 1))
+    edit("two points", 1, 13, b"0..0", (2, 1))
+    edit("no point", 1, 13, b"0   ", (2, 1))
+    edit("blank inside", 1, 13, b"0. 0", (2, 1))
+    edit("eleven decimals", 1, 13, b".00000000001", (2, 1))
+    edit("0.5", 1, 13, b"0.5", (3, 1))
+    edit("0.4999999999", 1, 13, b"0.4999999999", None)
+    edit("blank name", 1, 5, b"     ", (4, 1))
+    edit("name twice", 2, 5, b"Z0 ", (4, 2))
+    edit("frequency without definition", 3, 5, b"XYZ", (5, 151))
+    edit("blank longitudes", 147, 1, b" " * 80, (2, 147))
+    edit("longitude 1", 147, 1, b" 1.0000000000", (3, 147))
+    edit("increase 20", 148, 1, b"20.0000000000", None)
+    edit("increase past 20", 148, 1, b"20.0000000001", (3, 148))
+    edit("marks in skipped columns only", 149, 1, b"x" + b" " * 79, (4, 149))
+    edit("Doodson 12", 149, 13, b" 12", None)
+    edit("Doodson 13", 149, 13, b" 13", (3, 149))
+    edit("satellite count 17", 149, 36, b"  17", (3, 149))
+    edit("point in an I field", 149, 13, b"1. ", (2, 149))
+    edit("blank satellite card", 157, 1, b" " * 80, (2, 157))
+    edit("mark by any byte", 157, 33, b"*", None)
+    check("no constituents at all", refused(read_card_file, b"\n" + lines[146] + b"\n" + lines[147] + b"\n\n\n"), None)
+
+
+def check_replay():
+    script = b"height 0\ncards %d\n%s\nstation -299 1\n0 5 18000\ndate 1976 2\nheight 41760\n" % (len(STANDARD), STANDARD)
+    script += b"series 0 1440 2\nseries 5 5 0\nturns 0 41760 0 0\nheight 41761\n"
+    answers = ["refused 21 0", "accepted", "accepted", "accepted", "height -5", "heights -5 -5", "heights",
+               "turns 0 0", "refused 9 0"]
+    check("replay", list(replay(script)), answers)
+    line = script.count(b"\n") + 1
+    for bad in (b"height", b"height 1", b"height -1\n", b"height  1\n", b"\n", b"Height 1\n", b"height 4294967296\n",
+                b"date 1 2 3\n", b"station 1\n", b"cards x\n", b"\xff\n", b"height 1 \n", b"height 1\r\n"):
+        check("script %r" % bad, list(replay(script + bad)), answers + ["script %d" % line])
+    check("record", list(replay(b"station 0 2\n1 2 3\n256 0 0\n")), ["script 3"])
+    check("missing record", list(replay(b"station 0 2\n1 2 3\n")), ["script 3"])
+    check("nothing", list(replay(b"")), [])
+    check("no LF after cards", list(replay(b"cards 2\n\n\nheight 0\n")), ["script 4"])
+
+
+def main():
+    check_cosine()
+    check_arguments()
+    check_heights()
+    check_stations()
+    check_card_files()
+    check_replay()
+    print("%d passed, %d failed" % (PASSED, FAILED))
+    sys.exit(1 if FAILED else 0)
+
+
+if __name__ == "__main__":
+    main()
