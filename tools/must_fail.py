@@ -1,6 +1,7 @@
 """Tries the must-fail edits of one crate, without those of the crates below it.
 
 Usage: python3 tools/must_fail.py CRATE [LABEL ...]
+It tries crates/CRATE/must-fail, which the gate tries too, and crates/CRATE/extra-edits, which the gate leaves out for its time.
 Each edit is applied in place, `rt dev CRATE` must refuse it, and the file is put back. It prints each edit's first error, to be looked at:
 a good edit is refused at a fact that no longer holds.
 """
@@ -53,7 +54,8 @@ def restore(saved):
 
 def main():
     crate, labels = sys.argv[1], sys.argv[2:]
-    for edit in sorted(glob.glob("crates/%s/must-fail/*.edit" % crate)):
+    edits = glob.glob("crates/%s/must-fail/*.edit" % crate) + glob.glob("crates/%s/extra-edits/*.edit" % crate)
+    for edit in sorted(edits):
         label = os.path.basename(edit)[:-5]
         if not labels or label in labels:
             print("%s/%s: %s" % (crate, label, tried(crate, edit)), flush=True)
