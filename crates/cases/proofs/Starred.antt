@@ -1,5 +1,6 @@
 -- Every starred case of 01 holds: by computing both sides, and for every amplitude and minute by the laws of Advance and Level.
 -- Assumes nothing.
+use Prim.{tt}
 use mathlib.Core.Path.{_≡_, refl, _∙_, ap}
 use mathlib.Core.List.{[], _∷_}
 use Prim.Native.Nat.{ℕ}
@@ -13,10 +14,14 @@ use Rattle.arguments.specs.Arguments.{times, argument}
 use Rattle.nodal.specs.Satellites.{sumOver, mainPair}
 use Rattle.month.specs.Month.{constituent}
 use Rattle.heights.specs.Height.{heightAt}
-use Rattle.cases.specs.Starred.{starred, Z0, AllHold, none, more}
+use Rattle.cases.specs.Starred.{starred, Z0, AllHold}
 use Rattle.cases.proofs.Advance.{advance-is}
 use Rattle.cases.proofs.Level.{level-height, cosineOfLag}
 
+abbrev _and_ : {P Q : Type 0} → P → Q → P × Q
+p and q = (p, q)
+
+infixr 1 _and_
 module _ (A minute : ℕ) where
   -- Z0 is level
   z0-height : (lag : ℕ) (s : ℤ) → cosineOfLag lag ≡ s *ℤ pos one → heightAt (Z0 A lag ∷ []) minute ≡ pos A *ℤ s
@@ -26,7 +31,8 @@ module _ (A minute : ℕ) where
   pub all-hold : AllHold (starred A minute)
   unfolding starred fixedCosine fixedBase entry base added taken whole term factorial arc unit argument times longitudesOn longitude dayCount yearsDays monthsDays monthDays isFourth ints.one
   all-hold =
-      more refl (more refl (more refl (more refl (more refl (more refl (more (ap pos (advance-is 0 0 805_114_007 minute))
-      (more refl (more refl (more (z0-height 0 (pos 1) refl ∙ *ℤ-one (pos A))
-      (more (z0-height 18_000 (negsuc 0) refl ∙ *ℤ-negsuc (pos A) 0 ∙ ap negℤ (*ℤ-one (pos A)))
-      (more (z0-height 9_000 (pos 0) refl ∙ *ℤ-zero (pos A)) (more refl (more refl (more refl none))))))))))))))
+      refl and refl and refl and refl and refl and refl and ap pos (advance-is 0 0 805_114_007 minute) and refl and refl
+      and z0-height 0 (pos 1) refl ∙ *ℤ-one (pos A)
+      and z0-height 18_000 (negsuc 0) refl ∙ *ℤ-negsuc (pos A) 0 ∙ ap negℤ (*ℤ-one (pos A))
+      and z0-height 9_000 (pos 0) refl ∙ *ℤ-zero (pos A)
+      and refl and refl and refl and tt

@@ -1,5 +1,6 @@
 -- 01, "Checked against": the cases marked *, of the definitions, as one list. Each says what a definition gives and what 01 prints.
 -- Assumes nothing.
+use Prim.{Unit}
 use mathlib.Core.Path.{_≡_}
 use mathlib.Core.List.{List, [], _∷_}
 use Prim.Native.Nat.{ℕ, _+_, _*_}
@@ -86,6 +87,6 @@ starred A minute =
     ∷ []
 
 -- all of them together
-pub data AllHold : List Case → Type 0 where
-  none : AllHold []
-  more : {got want : ℤ} {cases : List Case} → got ≡ want → AllHold cases → AllHold ((got gives want) ∷ cases)
+abbrev pub AllHold : List Case → Type 0
+AllHold [] = Unit {0}
+AllHold ((got gives want) ∷ cases) = (got ≡ want) × AllHold cases

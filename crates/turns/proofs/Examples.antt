@@ -1,4 +1,5 @@
--- 01, "Checked against": "K1+O1 against M2+S2: .. 300, 100 gives 30; 0, 0 gives 180" (its starred strides are in crate cases); and the search on slopes that fall evenly. By computing. Assumes nothing.
+-- 01, "Checked against": "K1+O1 against M2+S2: .. 300, 100 gives 30; 0, 0 gives 180" (the starred strides are in crate cases);
+-- and the search on slopes that fall evenly. By computing. Assumes nothing.
 use mathlib.Core.Path.{_≡_, refl}
 use mathlib.Core.Bool.{true}
 use mathlib.Core.List.{[], _∷_}
