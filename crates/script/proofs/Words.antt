@@ -1,0 +1,82 @@
+-- The words of a line, one after another: each is the bytes in front of a blank or of the line's end, and the next begins behind that.
+-- By induction on the line. Assumes nothing.
+use mathlib.Core.Path.{_≡_, refl, sym, ap, _∙_}
+use mathlib.Core.List.{List, [], _∷_}
+use mathlib.Core.Bool.{Bool, true, false, cond}
+use Prim.Native.Nat.{ℕ, zero, suc, _+_, _≤_, _<_}
+use native.Mathlib.Nat.{not-suc-le-zero, le-of-suc-le-suc, suc-add, zero-add, add-zero}
+use native.Mathlib.Numerals.{add-one}
+use native.Mathlib.Omega.{arith}
+use lib.Dec.{eqb}
+use lib.ListN.{length, getD, take, drop}
+use lib.Seq.{drop-cons}
+use Rattle.script.specs.Script.{words, inFront, number, numberAfter, atEnd, hasMinus, behindMinus, same}
+use Rattle.script.specs.Left.{wordsFrom, wordLength}
+
+-- ---- what is left of a list
+
+pub drop-next : (l : List ℕ) (i : ℕ) → i < length l → drop i l ≡ getD l i 0 ∷ drop (i + 1) l
+drop-next l i h = rw (add-one i) (drop-cons l i 0 h)
+
+pub drop-none : (l : List ℕ) (i : ℕ) → length l ≤ i → drop i l ≡ []
+drop-none [] zero h = refl
+drop-none [] (suc i) h = refl
+drop-none (x ∷ l) zero h = absurd (not-suc-le-zero h)
+drop-none (x ∷ l) (suc i) h = drop-none l i (le-of-suc-le-suc h)
+
+-- ---- numbers
+
+-- a word that is not empty begins its number at 0
+pub number-some : (most : ℕ) (w : List ℕ) → 0 < length w → numberAfter most 0 w ≡ number most w
+unfolding number
+number-some most [] h = absurd (not-suc-le-zero h)
+number-some most (b ∷ bs) h = refl
+
+pub number-empty : (most : ℕ) (w : List ℕ) → length w ≡ 0 → number most w ≡ number most []
+number-empty most [] h = refl
+number-empty most (b ∷ bs) h = absurd (omega arith)
+
+-- ---- words
+
+pub word-short : (s : List ℕ) → wordLength s ≤ length s
+unfolding wordLength
+word-short [] = omega arith
+word-short (b ∷ bs) = go (eqb b 32) (word-short bs)
+  where
+    go : (t : Bool) → wordLength bs ≤ length bs → cond t 0 (suc (wordLength bs)) ≤ suc (length bs)
+    go true h = omega arith
+    go false h = omega arith
+
+-- the first word, and those behind the blank that ends it
+pub words-first : (s : List ℕ) → words s ≡ take (wordLength s) s ∷ wordsFrom s (suc (wordLength s))
+unfolding words wordLength wordsFrom
+words-first [] = refl
+words-first (b ∷ bs) = go (eqb b 32) (words-first bs)
+  where
+    go : (t : Bool) → words bs ≡ take (wordLength bs) bs ∷ wordsFrom bs (suc (wordLength bs))
+        → cond t ([] ∷ words bs) (inFront b (words bs)) ≡ take (cond t 0 (suc (wordLength bs))) (b ∷ bs) ∷ wordsFrom (b ∷ bs) (suc (cond t 0 (suc (wordLength bs))))
+    go true h = refl
+    go false h = rw h
+
+-- the words from a byte on are those of what is left of the line
+pub from-add : (l : List ℕ) (i k : ℕ) → i ≤ length l → wordsFrom l (i + k) ≡ wordsFrom (drop i l) k
+unfolding wordsFrom
+from-add l zero k h = rw (zero-add k)
+from-add [] (suc i) k h = absurd (not-suc-le-zero h)
+from-add (b ∷ bs) (suc i) k h = rw (suc-add i k) (from-add bs i k (le-of-suc-le-suc h))
+
+pub from-within : (l : List ℕ) (i : ℕ) → i ≤ length l → wordsFrom l i ≡ words (drop i l)
+unfolding wordsFrom
+from-within l i h = rw (add-zero i) at (from-add l i 0 h)
+
+pub from-past : (l : List ℕ) (i : ℕ) → length l < i → wordsFrom l i ≡ []
+unfolding wordsFrom
+from-past l zero h = absurd (not-suc-le-zero h)
+from-past [] (suc i) h = refl
+from-past (b ∷ bs) (suc i) h = from-past bs i (le-of-suc-le-suc h)
+
+-- the word at byte i, and those behind it
+pub from-next : (l : List ℕ) (i : ℕ) → i ≤ length l → wordsFrom l i ≡ take (wordLength (drop i l)) (drop i l) ∷ wordsFrom l (i + wordLength (drop i l) + 1)
+from-next l i h =
+    let e : i + wordLength (drop i l) + 1 ≡ i + suc (wordLength (drop i l)) = omega arith in
+    from-within l i h ∙ words-first (drop i l) ∙ rw (e, from-add l i (suc (wordLength (drop i l))) h)

@@ -1,0 +1,91 @@
+// One line of a replay script, read as a call or as a record of a station.
+ghost use mathlib.Core.Path.{_≡_};
+ghost use Prim.Native.Nat.{_+_, _-_, _≤_, _^_};
+ghost use lib.ListN.{length, drop};
+ghost use lib.IntN.{pos, negℤ};
+ghost use Rattle.script.specs.Script as script;
+ghost use Rattle.script.specs.Script.{callOf, recordOf, reading, same, stationAt, stationOf, cardsOf, dateOf, heightOf, seriesOf, turnsOf};
+ghost use Rattle.script.specs.Left.{wordsFrom, wordLength, readingAt};
+
+// A line's call: its word and its numbers.
+pub enum Call {
+    Cards(u32),
+    Station(i32, u32),
+    Date(u32, u32),
+    Height(u32),
+    Series(u32, u32, u32),
+    Turns(u32, u32, u32, u32),
+    Bad,
+}
+
+// A line of a station.
+pub enum Entry {
+    Record { place: u8, amplitude: u32, phase: u32 },
+    Bad,
+}
+
+// A word that is a number, or is not.
+pub enum Number {
+    Value(u32),
+    NoNumber,
+}
+
+// A number in a line, and where the next word begins; past the line's end where there is none.
+pub enum Field {
+    Read(u32, usize),
+    NoField,
+}
+
+const LARGEST: u32 = 4_294_967_295;
+
+// The digit's value.
+fn digit(byte: u8) -> u64
+    requires { ⌜ 48 ≤ byte ⌝ }
+    ensures { λ r. ⌜ r ≡ byte - 48 ⌝ }
+    ensures { λ r. ⌜ r ≤ 255 ⌝ }
+{
+    (byte - 48) as u64
+}
+
+// A word as a decimal number of at most `most`.
+fn number_of(word: &[u8], most: u32) -> Number
+    ensures { λ r. ⌜ r ≡ script.number most (now (word .entry)) ⌝ }
+{
+    if word.len() == 0 {
+        return Number::NoNumber;
+    }
+    let mut value: u64 = 0;
+    let mut i = 0;
+    while i < word.len() {
+        let byte = word[i];
+        if byte < 48 {
+            return Number::NoNumber;
+        }
+        if 57 < byte {
+            return Number::NoNumber;
+        }
+        let next = 10 * value + digit(byte);
+        if (most as u64) < next {
+            return Number::NoNumber;
+        }
+        value = next;
+        i += 1;
+    }
+    Number::Value(value as u32)
+}
+
+// Where the word ends that begins at a byte of a line.
+fn word_end(line: &[u8], at: usize) -> usize
+    requires { ⌜ at ≤ length (now line) ⌝ }
+    ensures { λ r. ⌜ r ≡ at + wordLength (drop at (now (line .entry))) ⌝ }
+    ensures { λ r. ⌜ r ≤ length (now (line .entry)) ⌝ }
+{
+    let mut i = at;
+    while i < line.len() {
+        if line[i] == 32 {
+            return i;
+        }
+        i += 1;
+    }
+    i
+}
