@@ -3,14 +3,16 @@
 use mathlib.Core.Path.{_≡_, refl, sym, ap, _∙_}
 use mathlib.Core.List.{List, [], _∷_}
 use mathlib.Core.Bool.{Bool, true, false, cond}
-use Prim.Native.Nat.{ℕ, zero, suc, _+_, _≤_, _<_}
+use Prim.Native.Nat.{ℕ, zero, suc, _+_, _-_, _≤_, _<_}
 use native.Mathlib.Nat.{not-suc-le-zero, le-of-suc-le-suc, suc-add, zero-add, add-zero}
 use native.Mathlib.Numerals.{add-one}
 use native.Mathlib.Omega.{arith}
 use lib.Dec.{eqb}
 use lib.ListN.{length, getD, take, drop}
 use lib.Seq.{drop-cons}
-use Rattle.script.specs.Script.{words, inFront, number, numberAfter, atEnd, hasMinus, behindMinus, same}
+use Rattle.script.specs.declared.Number.{Number}
+use Rattle.script.specs.declared.Number.the-variants.{NoNumber}
+use Rattle.script.specs.Script.{words, inFront, number, numberAfter, readingOf, reading, ended}
 use Rattle.script.specs.Left.{wordsFrom, wordLength}
 
 -- ---- what is left of a list
@@ -80,3 +82,14 @@ pub from-next : (l : List ℕ) (i : ℕ) → i ≤ length l → wordsFrom l i �
 from-next l i h =
     let e : i + wordLength (drop i l) + 1 ≡ i + suc (wordLength (drop i l)) = omega arith in
     from-within l i h ∙ words-first (drop i l) ∙ rw (e, from-add l i (suc (wordLength (drop i l))) h)
+
+-- what a word says as a number, with the words behind it, is what the line's words begin with
+pub reading-is : (l : List ℕ) (i e most : ℕ) (n : Number) → i ≤ length l → e ≡ i + wordLength (drop i l) → n ≡ number most (take (e - i) (drop i l))
+    → readingOf n (wordsFrom l (e + 1)) ≡ reading most (wordsFrom l i)
+reading-is l i e most n h he hn =
+    let w : e - i ≡ wordLength (drop i l) = omega arith in
+    rw (hn, w, he, from-next l i h)
+
+-- a number is the last where the next word begins past the line's end
+pub not-ended : (l : List ℕ) (i n : ℕ) → i ≤ length l → ended (wordsFrom l i) n ≡ NoNumber
+not-ended l i n h = rw (from-next l i h)

@@ -72,16 +72,24 @@ abbrev pub onward : {A : Type 0} → A → Reading → (ℕ → List (List ℕ) 
 onward bad (read n ws) f = f n ws
 onward bad unread f = bad
 
--- the line ends here
-abbrev pub atEnd : {A : Type 0} → A → List (List ℕ) → A → A
-atEnd bad [] a = a
-atEnd bad (w ∷ ws) a = bad
+-- a last number, with no word behind it
+abbrev pub ended : List (List ℕ) → ℕ → Number
+ended [] n = Value n
+ended (w ∷ ws) n = NoNumber
+
+unfoldable pub lastNumber : List (List ℕ) → Number
+lastNumber ws = onward NoNumber (reading largest ws) (λ n ws. ended ws n)
+
+-- goes on with the last number
+abbrev pub given : {A : Type 0} → A → Number → (ℕ → A) → A
+given bad (Value n) f = f n
+given bad NoNumber f = bad
 
 -- ---- the calls, from the words behind the first
 
 -- "cards BYTES"
 unfoldable pub cardsOf : List (List ℕ) → Call
-cardsOf ws = onward Bad (reading largest ws) (λ bytes ws. atEnd Bad ws (Cards bytes))
+cardsOf ws = given Bad (lastNumber ws) (λ bytes. Cards bytes)
 
 -- a latitude's minus is byte 45
 abbrev pub hasMinus : List (List ℕ) → Bool
@@ -96,7 +104,7 @@ behindMinus ([] ∷ ws) = [] ∷ ws
 behindMinus ((b ∷ bs) ∷ ws) = bs ∷ ws
 
 unfoldable pub stationAt : ℤ → List (List ℕ) → Call
-stationAt latitude ws = onward Bad (reading largest ws) (λ count ws. atEnd Bad ws (Station latitude count))
+stationAt latitude ws = given Bad (lastNumber ws) (λ count. Station latitude count)
 
 -- "station LATITUDE COUNT": "A minus may stand before a latitude only", "a signed 32-bit number"
 unfoldable pub stationOf : List (List ℕ) → Call
@@ -107,18 +115,18 @@ stationOf ws =
 
 -- "date YEAR MONTH"
 unfoldable pub dateOf : List (List ℕ) → Call
-dateOf ws = onward Bad (reading largest ws) (λ year ws. onward Bad (reading largest ws) (λ month ws. atEnd Bad ws (Date year month)))
+dateOf ws = onward Bad (reading largest ws) (λ year ws. given Bad (lastNumber ws) (λ month. Date year month))
 
 -- "height MINUTE"
 unfoldable pub heightOf : List (List ℕ) → Call
-heightOf ws = onward Bad (reading largest ws) (λ minute ws. atEnd Bad ws (Height minute))
+heightOf ws = given Bad (lastNumber ws) (λ minute. Height minute)
 
 -- "series START STEP COUNT"
 unfoldable pub seriesOf : List (List ℕ) → Call
 seriesOf ws =
     onward Bad (reading largest ws) (λ start ws.
     onward Bad (reading largest ws) (λ step ws.
-    onward Bad (reading largest ws) (λ count ws. atEnd Bad ws (Series start step count))))
+    given Bad (lastNumber ws) (λ count. Series start step count)))
 
 -- "turns FIRST LAST MINUTES HEIGHTS"
 unfoldable pub turnsOf : List (List ℕ) → Call
@@ -126,7 +134,7 @@ turnsOf ws =
     onward Bad (reading largest ws) (λ first ws.
     onward Bad (reading largest ws) (λ last ws.
     onward Bad (reading largest ws) (λ minutes ws.
-    onward Bad (reading largest ws) (λ heights ws. atEnd Bad ws (Turns first last minutes heights)))))
+    given Bad (lastNumber ws) (λ heights. Turns first last minutes heights))))
 
 -- the words of the calls, letter by letter
 abbrev pub cardsWord : List ℕ
@@ -168,7 +176,7 @@ unfoldable pub recordOfWords : List (List ℕ) → Entry
 recordOfWords ws =
     onward NoRecord (reading 255 ws) (λ place ws.
     onward NoRecord (reading largest ws) (λ amplitude ws.
-    onward NoRecord (reading largest ws) (λ phase ws. atEnd NoRecord ws (Record place amplitude phase))))
+    given NoRecord (lastNumber ws) (λ phase. Record place amplitude phase)))
 
 abbrev pub recordOf : List ℕ → Entry
 recordOf line = recordOfWords (words line)

@@ -4,7 +4,7 @@ ghost use Prim.Native.Nat.{_+_, _-_, _≤_, _^_};
 ghost use lib.ListN.{length, drop};
 ghost use lib.IntN.{pos, negℤ};
 ghost use Rattle.script.specs.Script as script;
-ghost use Rattle.script.specs.Script.{callOf, recordOf, reading, same, stationAt, stationOf, cardsOf, dateOf, heightOf, seriesOf, turnsOf};
+ghost use Rattle.script.specs.Script.{callOf, recordOf, reading, lastNumber, same, stationAt, stationOf, cardsOf, dateOf, heightOf, seriesOf, turnsOf};
 ghost use Rattle.script.specs.Left.{wordsFrom, wordLength, readingAt};
 
 // A line's call: its word and its numbers.
@@ -88,4 +88,59 @@ fn word_end(line: &[u8], at: usize) -> usize
         i += 1;
     }
     i
+}
+
+// The number that stands at a byte of a line, of at most `most`.
+fn field_at(line: &[u8], at: usize, most: u32) -> Field
+    ensures { λ r. ⌜ readingAt (now (line .entry)) r ≡ reading most (wordsFrom (now (line .entry)) at) ⌝ }
+{
+    if line.len() < at {
+        return Field::NoField;
+    }
+    let end = word_end(line, at);
+    let number = number_of(&line[at..end], most);
+    match number {
+        Number::Value(value) => Field::Read(value, end + 1),
+        Number::NoNumber => Field::NoField,
+    }
+}
+
+// The number that stands at a byte of a line, with nothing behind it.
+fn last_at(line: &[u8], at: usize) -> Number
+    ensures { λ r. ⌜ r ≡ lastNumber (wordsFrom (now (line .entry)) at) ⌝ }
+{
+    let field = field_at(line, at, LARGEST);
+    let Field::Read(value, next) = field else {
+        return Number::NoNumber;
+    };
+    if next <= line.len() {
+        return Number::NoNumber;
+    }
+    Number::Value(value)
+}
+
+// cards BYTES
+fn cards_at(line: &[u8], at: usize) -> Call
+    ensures { λ r. ⌜ r ≡ cardsOf (wordsFrom (now (line .entry)) at) ⌝ }
+{
+    let last = last_at(line, at);
+    let Number::Value(bytes) = last else {
+        return Call::Bad;
+    };
+    Call::Cards(bytes)
+}
+
+// date YEAR MONTH
+fn date_at(line: &[u8], at: usize) -> Call
+    ensures { λ r. ⌜ r ≡ dateOf (wordsFrom (now (line .entry)) at) ⌝ }
+{
+    let first = field_at(line, at, LARGEST);
+    let Field::Read(year, next) = first else {
+        return Call::Bad;
+    };
+    let last = last_at(line, next);
+    let Number::Value(month) = last else {
+        return Call::Bad;
+    };
+    Call::Date(year, month)
 }
