@@ -4,7 +4,7 @@ ghost use Prim.Native.Nat.{_+_, _-_, _≤_, _^_};
 ghost use lib.ListN.{length, drop};
 ghost use lib.IntN.{pos, negℤ};
 ghost use Rattle.script.specs.Script as script;
-ghost use Rattle.script.specs.Script.{callOf, recordOf, reading, lastNumber, same, stationAt, stationOf, cardsOf, dateOf, heightOf, seriesOf, turnsOf};
+ghost use Rattle.script.specs.Script.{callOf, recordOf, reading, lastNumber, same, hasMinus, stationAt, stationOf, cardsOf, dateOf, heightOf, seriesOf, turnsOf};
 ghost use Rattle.script.specs.Left.{wordsFrom, wordLength, readingAt};
 
 // A line's call: its word and its numbers.
@@ -143,4 +143,94 @@ fn date_at(line: &[u8], at: usize) -> Call
         return Call::Bad;
     };
     Call::Date(year, month)
+}
+
+// height MINUTE
+fn height_at(line: &[u8], at: usize) -> Call
+    ensures { λ r. ⌜ r ≡ heightOf (wordsFrom (now (line .entry)) at) ⌝ }
+{
+    let last = last_at(line, at);
+    let Number::Value(minute) = last else {
+        return Call::Bad;
+    };
+    Call::Height(minute)
+}
+
+// series START STEP COUNT
+fn series_at(line: &[u8], at: usize) -> Call
+    ensures { λ r. ⌜ r ≡ seriesOf (wordsFrom (now (line .entry)) at) ⌝ }
+{
+    let first = field_at(line, at, LARGEST);
+    let Field::Read(start, second_at) = first else {
+        return Call::Bad;
+    };
+    let second = field_at(line, second_at, LARGEST);
+    let Field::Read(step, last_place) = second else {
+        return Call::Bad;
+    };
+    let last = last_at(line, last_place);
+    let Number::Value(count) = last else {
+        return Call::Bad;
+    };
+    Call::Series(start, step, count)
+}
+
+// turns FIRST LAST MINUTES HEIGHTS
+fn turns_at(line: &[u8], at: usize) -> Call
+    ensures { λ r. ⌜ r ≡ turnsOf (wordsFrom (now (line .entry)) at) ⌝ }
+{
+    let first = field_at(line, at, LARGEST);
+    let Field::Read(from, second_at) = first else {
+        return Call::Bad;
+    };
+    let second = field_at(line, second_at, LARGEST);
+    let Field::Read(to, third_at) = second else {
+        return Call::Bad;
+    };
+    let third = field_at(line, third_at, LARGEST);
+    let Field::Read(minutes, last_place) = third else {
+        return Call::Bad;
+    };
+    let last = last_at(line, last_place);
+    let Number::Value(heights) = last else {
+        return Call::Bad;
+    };
+    Call::Turns(from, to, minutes, heights)
+}
+
+// A latitude without a minus.
+fn north(size: u32) -> i32
+    requires { ⌜ size ≤ 2 ^ 31 - 1 ⌝ }
+    ensures { λ r. ⌜ r ≡ pos size ⌝ }
+{
+    size as i32
+}
+
+// A latitude with a minus.
+fn south(size: u32) -> i32
+    requires { ⌜ size ≤ 2 ^ 31 ⌝ }
+    ensures { λ r. ⌜ r ≡ negℤ (pos size) ⌝ }
+{
+    (0 - size as i64) as i32
+}
+
+// A station's count, behind its latitude.
+fn station_at(line: &[u8], at: usize, latitude: i32) -> Call
+    ensures { λ r. ⌜ r ≡ stationAt latitude (wordsFrom (now (line .entry)) at) ⌝ }
+{
+    let last = last_at(line, at);
+    let Number::Value(count) = last else {
+        return Call::Bad;
+    };
+    Call::Station(latitude, count)
+}
+
+// Whether a minus stands at a byte of a line.
+fn minus_at(line: &[u8], at: usize) -> bool
+    ensures { λ r. ⌜ r ≡ hasMinus (wordsFrom (now (line .entry)) at) ⌝ }
+{
+    if at < line.len() {
+        return line[at] == 45;
+    }
+    false
 }
