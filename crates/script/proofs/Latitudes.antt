@@ -5,7 +5,8 @@ use mathlib.Core.List.{List, [], _∷_}
 use mathlib.Core.Bool.{Bool, true, false, cond}
 use Prim.Native.Nat.{ℕ, zero, suc, _+_, _^_, _≤_, _<_}
 use native.Mathlib.Nat.{not-suc-le-zero, le-of-suc-le-suc, suc-add}
-use lib.Dec.{T, eqb, eqb→eq}
+use lib.Dec.{T, eqb}
+use borrow.Author.Tests.{eqb-true}
 use lib.ListN.{length, getD}
 use lib.IntN.{ℤ, pos, negℤ, _-ℤ_, +ℤ-idl}
 use mir.Syntax.{w32, w64}
@@ -22,12 +23,12 @@ unfolding words
 hasMinus-cons b bs = go (eqb b 32) refl
   where
     go : (t : Bool) → eqb b 32 ≡ t → hasMinus (cond t ([] ∷ words bs) (inFront b (words bs))) ≡ eqb b 45
-    go true e = rw (eqb→eq b 32 (subst T (sym e) tt))
+    go true e = rw (eqb-true b 32 e)
     go false e = rw (words-first bs)
 
 behind-cons : (b : ℕ) (bs : List ℕ) → eqb b 45 ≡ true → behindMinus (words (b ∷ bs)) ≡ words bs
 unfolding words
-behind-cons b bs h = rw (eqb→eq b 45 (subst T (sym h) tt), words-first bs)
+behind-cons b bs h = rw (eqb-true b 45 h, words-first bs)
 
 pub minus-is : (l : List ℕ) (i : ℕ) → i < length l → eqb (getD l i 0) 45 ≡ hasMinus (wordsFrom l i)
 unfolding wordsFrom

@@ -1,10 +1,11 @@
 // One line of a replay script, read as a call or as a record of a station.
 ghost use mathlib.Core.Path.{_≡_};
+ghost use mathlib.Core.List.{_∷_};
 ghost use Prim.Native.Nat.{_+_, _-_, _≤_, _^_};
 ghost use lib.ListN.{length, drop};
 ghost use lib.IntN.{pos, negℤ};
 ghost use Rattle.script.specs.Script as script;
-ghost use Rattle.script.specs.Script.{callOf, recordOf, reading, lastNumber, same, hasMinus, stationAt, stationOf, cardsOf, dateOf, heightOf, seriesOf, turnsOf};
+ghost use Rattle.script.specs.Script.{callOf, callOfWords, recordOf, reading, lastNumber, same, hasMinus, stationAt, stationOf, cardsOf, dateOf, heightOf, seriesOf, turnsOf};
 ghost use Rattle.script.specs.Left.{wordsFrom, wordLength, readingAt};
 
 // A line's call: its word and its numbers.
@@ -20,7 +21,11 @@ pub enum Call {
 
 // A line of a station.
 pub enum Entry {
-    Record { place: u8, amplitude: u32, phase: u32 },
+    Record {
+        place: u8,
+        amplitude: u32,
+        phase: u32,
+    },
     Bad,
 }
 
@@ -233,4 +238,87 @@ fn minus_at(line: &[u8], at: usize) -> bool
         return line[at] == 45;
     }
     false
+}
+
+// station LATITUDE COUNT
+fn latitude_at(line: &[u8], at: usize) -> Call
+    requires { ⌜ at ≤ length (now line) + 1 ⌝ }
+    ensures { λ r. ⌜ r ≡ stationOf (wordsFrom (now (line .entry)) at) ⌝ }
+{
+    if minus_at(line, at) {
+        let southern = field_at(line, at + 1, 2_147_483_648);
+        let Field::Read(size, next) = southern else {
+            return Call::Bad;
+        };
+        return station_at(line, next, south(size));
+    }
+    let northern = field_at(line, at, 2_147_483_647);
+    let Field::Read(size, next) = northern else {
+        return Call::Bad;
+    };
+    station_at(line, next, north(size))
+}
+
+// Whether a word is the one of a name.
+fn is_word(word: &[u8], name: &[u8]) -> bool
+    ensures { λ r. ⌜ r ≡ same (now (word .entry)) (now (name .entry)) ⌝ }
+{
+    check::same(word, name)
+}
+
+// The call of a word and of the numbers at a byte of a line.
+fn call_at(word: &[u8], line: &[u8], at: usize) -> Call
+    requires { ⌜ at ≤ length (now line) + 1 ⌝ }
+    ensures { λ r. ⌜ r ≡ callOfWords (now (word .entry) ∷ wordsFrom (now (line .entry)) at) ⌝ }
+{
+    if is_word(word, b"cards") {
+        return cards_at(line, at);
+    }
+    if is_word(word, b"station") {
+        return latitude_at(line, at);
+    }
+    if is_word(word, b"date") {
+        return date_at(line, at);
+    }
+    if is_word(word, b"height") {
+        return height_at(line, at);
+    }
+    if is_word(word, b"series") {
+        return series_at(line, at);
+    }
+    if is_word(word, b"turns") {
+        return turns_at(line, at);
+    }
+    Call::Bad
+}
+
+// A line of a script, without its LF, as a call: Bad where it is not of the form.
+pub fn parse_call(line: &[u8]) -> Call
+    ensures { λ r. ⌜ r ≡ callOf (now (line .entry)) ⌝ }
+{
+    let end = word_end(line, 0);
+    call_at(&line[..end], line, end + 1)
+}
+
+// A line of a station, without its LF: Bad where it is not of the form.
+pub fn parse_record(line: &[u8]) -> Entry
+    ensures { λ r. ⌜ r ≡ recordOf (now (line .entry)) ⌝ }
+{
+    let first = field_at(line, 0, 255);
+    let Field::Read(place, second_at) = first else {
+        return Entry::Bad;
+    };
+    let second = field_at(line, second_at, LARGEST);
+    let Field::Read(amplitude, last_place) = second else {
+        return Entry::Bad;
+    };
+    let last = last_at(line, last_place);
+    let Number::Value(phase) = last else {
+        return Entry::Bad;
+    };
+    Entry::Record {
+        place: place as u8,
+        amplitude,
+        phase,
+    }
 }

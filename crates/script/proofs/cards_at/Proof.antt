@@ -1,29 +1,22 @@
+-- `script::cards_at` meets its contract, by what `last_at` says. Assumes nothing.
 use borrow.Author.Needs.{needs}
+use Rattle.script.specs.Script.{cardsOf}
 use Rattle.script.proofs.cards_at.Statement.{statement}
 use Rattle.script.proofs.cards_at.Tie as tie
-use Rattle.script.proofs.cards_at.Reads as reads
-use Rattle.script.proofs.cards_at.Lts as lts
-use Rattle.script.proofs.last_at.Reads as last-at-reads
-use Rattle.script.specs.Script.{cardsOf}
 
--- src/lib.rt:126:9
 last-at-requires : tie.Need-last-at-requires
 last-at-requires c κs = search needs
 
--- src/lib.rt:127:23
 enum-known-last : tie.Need-enum-known-last
 enum-known-last c = search needs
 
--- src/lib.rt:128:9
 enum-told : tie.Need-enum-told
 enum-told c = search needs
 
--- src/lib.rt:128:9
 returns : tie.Need-returns
 unfolding cardsOf
 returns c = rw (← c .before .before .last-at .ensures, c .enum-told .given .1)
 
--- src/lib.rt:123:1
 returns-2 : tie.Need-returns-2
 unfolding cardsOf
 returns-2 c = rw (← c .before .before .before .last-at .ensures, c .before .last .given .1)

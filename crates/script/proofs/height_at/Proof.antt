@@ -1,29 +1,22 @@
+-- `script::height_at` meets its contract, by what `last_at` says. Assumes nothing.
 use borrow.Author.Needs.{needs}
+use Rattle.script.specs.Script.{heightOf}
 use Rattle.script.proofs.height_at.Statement.{statement}
 use Rattle.script.proofs.height_at.Tie as tie
-use Rattle.script.proofs.height_at.Reads as reads
-use Rattle.script.proofs.height_at.Lts as lts
-use Rattle.script.proofs.last_at.Reads as last-at-reads
-use Rattle.script.specs.Script.{heightOf}
 
--- src/lib.rt:152:9
 last-at-requires : tie.Need-last-at-requires
 last-at-requires c κs = search needs
 
--- src/lib.rt:153:23
 enum-known-last : tie.Need-enum-known-last
 enum-known-last c = search needs
 
--- src/lib.rt:154:9
 enum-told : tie.Need-enum-told
 enum-told c = search needs
 
--- src/lib.rt:154:9
 returns : tie.Need-returns
 unfolding heightOf
 returns c = rw (← c .before .before .last-at .ensures, c .enum-told .given .1)
 
--- src/lib.rt:149:1
 returns-2 : tie.Need-returns-2
 unfolding heightOf
 returns-2 c = rw (← c .before .before .before .last-at .ensures, c .before .last .given .1)

@@ -1,7 +1,4 @@
-use Rattle.script.proofs.word_end.Statement.{statement}
-use Rattle.script.proofs.word_end.Tie as tie
-use Rattle.script.proofs.word_end.Reads as reads
-use Rattle.script.proofs.word_end.Lts as lts
+-- `script::word_end` meets its contract. The loop's invariant: what is passed and the word left are the word. Assumes nothing.
 use mathlib.Core.Path.{_≡_}
 use Prim.Native.Nat.{suc, _+_, _-_, _≤_}
 use native.Mathlib.Omega.{arith}
@@ -10,6 +7,8 @@ use borrow.Author.Needs.{needs}
 use borrow.Author.Tests.{eq-eqb, ne-eqb}
 use Rattle.script.specs.Left.{wordLength}
 use Rattle.script.proofs.Words.{drop-next, drop-none}
+use Rattle.script.proofs.word_end.Statement.{statement}
+use Rattle.script.proofs.word_end.Tie as tie
 
 abbrev Inv-loop : tie.InvT-loop
 Inv-loop line at i₀ i = (i ≤ length line) × (i + wordLength (drop i line) ≡ at + wordLength (drop at line))
@@ -17,15 +16,12 @@ Inv-loop line at i₀ i = (i ≤ length line) × (i + wordLength (drop i line) �
 abbrev μ-loop : tie.MeasureT-loop
 μ-loop line at i₀ i = length line - i
 
--- src/lib.rt:84:5
 loop-holds : tie.Need-loop-holds Inv-loop μ-loop
 loop-holds c = search needs
 
--- src/lib.rt:85:12
 shared-slice-read-if1 : tie.Need-shared-slice-read-if1 Inv-loop μ-loop
 shared-slice-read-if1 c = search needs
 
--- src/lib.rt:86:13
 returns : tie.Need-returns Inv-loop μ-loop
 unfolding wordLength
 returns c =
@@ -33,15 +29,12 @@ returns c =
     let e : wordLength (drop (s .loop .i) (s .before .args .line .now)) ≡ 0 = rw (drop-next _ _ (c .before .before .loop-test .taken), eq-eqb _ _ (c .if1 .taken)) in
     (omega arith, omega arith)
 
--- src/lib.rt:88:9
 add-i : tie.Need-add-i Inv-loop μ-loop
 add-i c = search needs
 
--- src/lib.rt:84:5
 loop-less : tie.Need-loop-less Inv-loop μ-loop
 loop-less c = search needs
 
--- src/lib.rt:84:5
 loop-again : tie.Need-loop-again Inv-loop μ-loop
 unfolding wordLength
 loop-again c =
@@ -51,7 +44,6 @@ loop-again c =
     let e : wordLength (drop i l) ≡ suc (wordLength (drop (i + 1) l)) = rw (drop-next _ _ (c .before .before .loop-test .taken), ne-eqb _ _ (c .if1 .left)) in
     (omega arith, omega arith)
 
--- src/lib.rt:78:1
 returns-2 : tie.Need-returns-2 Inv-loop μ-loop
 unfolding wordLength
 returns-2 c =
