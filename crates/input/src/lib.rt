@@ -1,8 +1,9 @@
 // Reading standard input by lines and by counts of bytes, in one lent buffer.
 ghost use mathlib.Core.Path.{_≡_};
 ghost use Prim.Native.Nat.{_+_, _-_, _≤_, _<_};
+ghost use lib.Dec.{eqb};
 ghost use lib.ListN.{length};
-ghost use Rattle.input.specs.Window.{Within, Ends};
+ghost use Rattle.input.specs.Window.{Within, Ends, oneIf, feedsFrom};
 
 use libc::STDIN_FILENO;
 use std::num::wrapping_add_u64;
@@ -136,17 +137,24 @@ pub fn behind(window: Window, end: usize, line: u64) -> Window
     }
 }
 
-// A line number, with one more for each LF from `from` on and before `to`.
-pub fn with_feeds(buffer: &[u8], from: usize, to: usize, line: u64) -> u64
-    requires { ⌜ (from ≤ to) × (to ≤ length (now buffer)) ⌝ }
+// 1 for a LF, 0 for any other byte.
+fn feed(byte: u8) -> u64
+    ensures { λ r. ⌜ r ≡ oneIf (eqb byte 10) ⌝ }
+    ensures { λ r. ⌜ r ≤ 1 ⌝ }
 {
-    let mut lines = line;
+    if byte == 10 { 1 } else { 0 }
+}
+
+// How many of the bytes from `from` on and before `to` are LF.
+pub fn feeds(buffer: &[u8], from: usize, to: usize) -> u64
+    requires { ⌜ (from ≤ to) × (to ≤ length (now buffer)) ⌝ }
+    ensures { λ r. ⌜ r ≡ feedsFrom (now (buffer .entry)) from (to - from) ⌝ }
+{
+    let mut passed: u64 = 0;
     let mut i = from;
     while i < to {
-        if buffer[i] == 10 {
-            lines = wrapping_add_u64(lines, 1);
-        }
+        passed += feed(buffer[i]);
         i += 1;
     }
-    lines
+    passed
 }

@@ -1,0 +1,102 @@
+// The lines that answer a script. Each function puts one on the page and gives the place behind it.
+use clock::HeightAnswer;
+use clock::TurnsAnswer;
+use refusals::Answer;
+use refusals::Refusal;
+
+// script LINE
+pub fn put_script(page: &mut [u8], at: usize, line: u64) -> usize {
+    let word = output::put_bytes(page, at, b"script ");
+    let end = output::put_number(page, word, line);
+    output::put(page, end, 10)
+}
+
+// refused NUMBER PLACE
+fn put_refused(page: &mut [u8], at: usize, refusal: Refusal, place: usize) -> usize {
+    let number = refusals::number_of(refusal);
+    let word = output::put_bytes(page, at, b"refused ");
+    let first = output::put_number(page, word, number as u64);
+    let blank = output::put(page, first, 32);
+    let end = output::put_number(page, blank, place as u64);
+    output::put(page, end, 10)
+}
+
+// accepted, or refused NUMBER PLACE
+pub fn put_answer(page: &mut [u8], at: usize, answer: Answer) -> usize {
+    match answer {
+        Answer::Accepted => output::put_bytes(page, at, b"accepted\n"),
+        Answer::Refused(refusal, place) => put_refused(page, at, refusal, place),
+    }
+}
+
+// height H
+pub fn put_height(page: &mut [u8], at: usize, answer: HeightAnswer) -> usize {
+    match answer {
+        HeightAnswer::Height(height) => {
+            let word = output::put_bytes(page, at, b"height ");
+            let end = output::put_signed(page, word, height);
+            output::put(page, end, 10)
+        }
+        HeightAnswer::Refused(refusal, place) => put_refused(page, at, refusal, place),
+    }
+}
+
+// heights H0 H1 ...
+fn put_heights(page: &mut [u8], at: usize, heights: &[i64]) -> usize {
+    let mut next = output::put_bytes(page, at, b"heights");
+    let mut i = 0;
+    while i < heights.len() {
+        next = output::put(page, next, 32);
+        next = output::put_signed(page, next, heights[i]);
+        i += 1;
+    }
+    output::put(page, next, 10)
+}
+
+// What a series says: its heights where it is accepted.
+pub fn put_series(page: &mut [u8], at: usize, answer: Answer, heights: &[i64]) -> usize {
+    match answer {
+        Answer::Accepted => put_heights(page, at, heights),
+        Answer::Refused(refusal, place) => put_refused(page, at, refusal, place),
+    }
+}
+
+// turns COUNT FIRST_HIGH
+fn put_count(page: &mut [u8], at: usize, count: usize, high: bool) -> usize {
+    let word = output::put_bytes(page, at, b"turns ");
+    let end = output::put_number(page, word, count as u64);
+    if high {
+        return output::put_bytes(page, end, b" 1");
+    }
+    output::put_bytes(page, end, b" 0")
+}
+
+// A blank, a turn's minute, a blank and its height.
+fn put_turn(page: &mut [u8], at: usize, minute: u32, height: i64) -> usize {
+    let first = output::put(page, at, 32);
+    let end = output::put_number(page, first, minute as u64);
+    let second = output::put(page, end, 32);
+    output::put_signed(page, second, height)
+}
+
+// What a search says: turns COUNT FIRST_HIGH M0 H0 M1 H1 ... where it is accepted.
+pub fn put_turns<'a>(
+    page: &mut [u8],
+    at: usize,
+    answer: TurnsAnswer,
+    minutes: &'a [u32],
+    heights: &'a [i64],
+) -> usize {
+    match answer {
+        TurnsAnswer::Turns(count, high) => {
+            let mut next = put_count(page, at, count, high);
+            let mut i = 0;
+            while i < count && i < minutes.len() && i < heights.len() {
+                next = put_turn(page, next, minutes[i], heights[i]);
+                i += 1;
+            }
+            output::put(page, next, 10)
+        }
+        TurnsAnswer::Refused(refusal, place) => put_refused(page, at, refusal, place),
+    }
+}
