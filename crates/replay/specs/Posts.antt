@@ -3,7 +3,7 @@ use Prim.Native.Nat.{ℕ, _≤_}
 use Rattle.clock.specs.View.{Made}
 use Rattle.input.specs.Window.{Within}
 use Rattle.replay.specs.declared.Step.{Step}
-use Rattle.replay.specs.reading.declared.CardFile.{CardFile}
+use Rattle.replay.specs.declared.reading.CardFile.{CardFile}
 
 -- the clock is one that a clock call made, and the window stands in the buffer
 pub record StepPost (n : ℕ) (s : Step) : Type 0 where

@@ -79,6 +79,23 @@ fn put_turn(page: &mut [u8], at: usize, minute: u32, height: i64) -> usize {
     output::put_signed(page, second, height)
 }
 
+// The turns found, each behind a blank, and LF.
+fn put_found<'a>(
+    page: &mut [u8],
+    at: usize,
+    count: usize,
+    minutes: &'a [u32],
+    heights: &'a [i64],
+) -> usize {
+    let mut next = at;
+    let mut i = 0;
+    while i < count && i < minutes.len() && i < heights.len() {
+        next = put_turn(page, next, minutes[i], heights[i]);
+        i += 1;
+    }
+    output::put(page, next, 10)
+}
+
 // What a search says: turns COUNT FIRST_HIGH M0 H0 M1 H1 ... where it is accepted.
 pub fn put_turns<'a>(
     page: &mut [u8],
@@ -89,13 +106,8 @@ pub fn put_turns<'a>(
 ) -> usize {
     match answer {
         TurnsAnswer::Turns(count, high) => {
-            let mut next = put_count(page, at, count, high);
-            let mut i = 0;
-            while i < count && i < minutes.len() && i < heights.len() {
-                next = put_turn(page, next, minutes[i], heights[i]);
-                i += 1;
-            }
-            output::put(page, next, 10)
+            let next = put_count(page, at, count, high);
+            put_found(page, next, count, minutes, heights)
         }
         TurnsAnswer::Refused(refusal, place) => put_refused(page, at, refusal, place),
     }
