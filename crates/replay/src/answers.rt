@@ -79,6 +79,16 @@ fn put_turn(page: &mut [u8], at: usize, minute: u32, height: i64) -> usize {
     output::put_signed(page, second, height)
 }
 
+// The minute at a place; 0 past the end.
+fn minute_at(minutes: &[u32], i: usize) -> u32 {
+    if i < minutes.len() { minutes[i] } else { 0 }
+}
+
+// The height at a place; 0 past the end.
+fn height_at(heights: &[i64], i: usize) -> i64 {
+    if i < heights.len() { heights[i] } else { 0 }
+}
+
 // The turns found, each behind a blank, and LF.
 fn put_found<'a>(
     page: &mut [u8],
@@ -89,8 +99,8 @@ fn put_found<'a>(
 ) -> usize {
     let mut next = at;
     let mut i = 0;
-    while i < count && i < minutes.len() && i < heights.len() {
-        next = put_turn(page, next, minutes[i], heights[i]);
+    while i < count {
+        next = put_turn(page, next, minute_at(minutes, i), height_at(heights, i));
         i += 1;
     }
     output::put(page, next, 10)

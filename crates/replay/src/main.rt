@@ -208,7 +208,40 @@ fn turns_call(
     }
 }
 
-// One call: its line is read, what belongs to it too, and it is answered. At the end of the input the run ends with no word.
+// The answer to the call of a line.
+fn answer_call(
+    call: Call,
+    line: u64,
+    clock: Clock,
+    window: Window,
+    buffer: &mut [u8],
+    minutes: &mut [u32],
+    heights: &mut [i64],
+    page: &mut [u8],
+    at: usize,
+) -> Step
+    requires { ⌜ Made clock ⌝ }
+    requires { ⌜ Within (length (now buffer)) window ⌝ }
+    ensures { λ r. ⌜ StepPost (length (now (buffer .entry))) r ⌝ }
+{
+    match call {
+        Call::Cards(bytes) => cards_call(clock, window, buffer, page, at, line, bytes),
+        Call::Station(latitude, count) => {
+            station_call(clock, window, buffer, page, at, latitude, count)
+        }
+        Call::Date(year, month) => date_call(clock, window, page, at, year, month),
+        Call::Height(minute) => height_call(clock, window, page, at, minute),
+        Call::Series(start, step, count) => {
+            series_call(clock, window, heights, page, at, line, start, step, count)
+        }
+        Call::Turns(first, last, m, h) => {
+            turns_call(clock, window, minutes, heights, page, at, line, first, last, m, h)
+        }
+        Call::Bad => stop(clock, window, page, at, line),
+    }
+}
+
+// One call is read and answered. At the end of the input the run ends with no word.
 fn one_call(
     clock: Clock,
     window: Window,
@@ -233,23 +266,8 @@ fn one_call(
     }
     let heard = reading::read_call(buffer, held);
     let next = heard.window;
-    let line = heard.line;
     let call = heard.call;
-    match call {
-        Call::Cards(bytes) => cards_call(clock, next, buffer, page, at, line, bytes),
-        Call::Station(latitude, count) => {
-            station_call(clock, next, buffer, page, at, latitude, count)
-        }
-        Call::Date(year, month) => date_call(clock, next, page, at, year, month),
-        Call::Height(minute) => height_call(clock, next, page, at, minute),
-        Call::Series(start, step, count) => {
-            series_call(clock, next, heights, page, at, line, start, step, count)
-        }
-        Call::Turns(first, last, m, h) => {
-            turns_call(clock, next, minutes, heights, page, at, line, first, last, m, h)
-        }
-        Call::Bad => stop(clock, next, page, at, line),
-    }
+    answer_call(call, heard.line, clock, next, buffer, minutes, heights, page, at)
 }
 
 // Calls until the run ends. A proved loop has to end, and nothing says that the input does, so the calls are counted down from a number that no run uses up.
@@ -270,10 +288,31 @@ fn run(buffer: &mut [u8], minutes: &mut [u32], heights: &mut [i64], page: &mut [
     output::flush(page, step.at);
 }
 
+// The buffer for the input. (A function's result, so that its length is known as a fact and the zeros are never counted in a proof.)
+fn input_buffer() -> [u8; 262144]
+    ensures { λ r. ⌜ 262144 ≡ length r ⌝ }
+{
+    [0; 262144]
+}
+
+// The places for minutes.
+fn minute_places() -> [u32; 65536]
+    ensures { λ r. ⌜ 65536 ≡ length r ⌝ }
+{
+    [0; 65536]
+}
+
+// The places for heights.
+fn height_places() -> [i64; 65536]
+    ensures { λ r. ⌜ 65536 ≡ length r ⌝ }
+{
+    [0; 65536]
+}
+
 fn main() {
-    let mut buffer = [0u8; 262144];
-    let mut minutes = [0u32; 65536];
-    let mut heights = [0i64; 65536];
-    let mut page = [0u8; 65536];
+    let mut buffer = input_buffer();
+    let mut minutes = minute_places();
+    let mut heights = height_places();
+    let mut page = io::large_buffer();
     run(&mut buffer, &mut minutes, &mut heights, &mut page);
 }

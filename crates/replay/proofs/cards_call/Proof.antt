@@ -10,6 +10,7 @@ use Rattle.replay.proofs.stop.Reads as stop-reads
 use mathlib.Core.Path.{sym, subst}
 use Rattle.clock.specs.View.{Made}
 use Rattle.input.specs.Window.{Within}
+use Rattle.replay.proofs.Steps.{step-kept}
 
 -- src/main.rt:54:9
 stop-requires : tie.Need-stop-requires
@@ -21,7 +22,7 @@ same-length c = search needs
 
 -- src/main.rt:54:9
 returns : tie.Need-returns
-returns c = record { made = subst Made (sym (c .before .before .stop .ensures .0)) (c .before .before .before .before .before .before .before .pre .0); within = subst (Within _) (sym (c .before .before .stop .ensures .1)) (c .before .before .before .before .before .before .before .pre .1) }
+returns c = step-kept _ _ _ (c .before .before .stop .ensures) (c .before .before .before .before .before .before .before .pre .0) (c .before .before .before .before .before .before .before .pre .1)
 
 -- src/main.rt:56:9
 read-file-requires : tie.Need-read-file-requires
@@ -41,7 +42,7 @@ same-length-3 c = search needs
 
 -- src/main.rt:59:9
 returns-2 : tie.Need-returns-2
-returns-2 c = record { made = subst Made (sym (c .before .before .stop2 .ensures .0)) (c .before .before .before .before .before .before .before .before .before .before .before .before .before .before .pre .0); within = subst (Within _) (sym (c .before .before .stop2 .ensures .1)) (c .before .before .before .before .before .before .before .before .before .read-file .ensures .within) }
+returns-2 c = step-kept _ _ _ (c .before .before .stop2 .ensures) (c .before .before .before .before .before .before .before .before .before .before .before .before .before .before .pre .0) (c .before .before .before .before .before .before .before .before .before .read-file .ensures .within)
 
 -- src/main.rt:63:42
 sub-load-cards : tie.Need-sub-load-cards

@@ -7,6 +7,10 @@ use Rattle.clock.proofs.place_station.Reads as place-station-reads
 use Rattle.replay.proofs.answers.put_answer.Reads as put-answer-reads
 use Rattle.replay.proofs.reading.read_records.Reads as read-records-reads
 use Rattle.replay.proofs.stop.Reads as stop-reads
+use mathlib.Core.Path.{sym, subst}
+use Rattle.clock.specs.View.{Made}
+use Rattle.input.specs.Window.{Within}
+use Rattle.replay.proofs.Steps.{step-kept}
 
 -- src/main.rt:89:9
 read-records-requires : tie.Need-read-records-requires
@@ -26,7 +30,7 @@ same-length-2 c = search needs
 
 -- src/main.rt:92:9
 returns : tie.Need-returns
-returns c = ?
+returns c = step-kept _ _ _ (c .before .before .stop .ensures) (c .before .before .before .before .before .before .before .before .before .before .before .before .before .pre .0) (c .before .before .before .before .before .before .before .before .before .read-records .ensures)
 
 -- src/main.rt:95:9
 place-station-requires : tie.Need-place-station-requires

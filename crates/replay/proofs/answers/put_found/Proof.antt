@@ -3,61 +3,59 @@ use Rattle.replay.proofs.answers.put_found.Tie as tie
 use Rattle.replay.proofs.answers.put_found.Reads as reads
 use Rattle.replay.proofs.answers.put_found.Lts as lts
 use Rattle.output.proofs.put.Reads as put-reads
+use Rattle.replay.proofs.answers.height_at.Reads as height-at-reads
+use Rattle.replay.proofs.answers.minute_at.Reads as minute-at-reads
 use Rattle.replay.proofs.answers.put_turn.Reads as put-turn-reads
+use mathlib.Core.Path.{_≡_}
+use Prim.Native.Nat.{_-_}
+use lib.ListN.{length}
+use borrow.Author.Needs.{needs}
 
 abbrev Inv-loop : tie.InvT-loop
-Inv-loop page₀ at count minutes heights next₀ i₀ page next i = ?
+Inv-loop page₀ at count minutes heights next₀ i₀ page next i = length page ≡ length page₀
 
 abbrev μ-loop : tie.MeasureT-loop
-μ-loop page₀ at count minutes heights next₀ i₀ page next i = ?
+μ-loop page₀ at count minutes heights next₀ i₀ page next i = count - i
 
--- src/answers.rt:92:5
+-- src/answers.rt:102:5
 loop-holds : tie.Need-loop-holds Inv-loop μ-loop
-loop-holds c = ?
+loop-holds c = search needs
 
--- src/answers.rt:93:37
-mul-put-turn : tie.Need-mul-put-turn Inv-loop μ-loop
-mul-put-turn c = ?
+-- src/answers.rt:103:37
+minute-at-requires : tie.Need-minute-at-requires Inv-loop μ-loop
+minute-at-requires c κs = search needs
 
--- src/answers.rt:93:37
-shared-slice-read-put-turn : tie.Need-shared-slice-read-put-turn Inv-loop μ-loop
-shared-slice-read-put-turn c = ?
+-- src/answers.rt:103:60
+height-at-requires : tie.Need-height-at-requires Inv-loop μ-loop
+height-at-requires c κs = search needs
 
--- src/answers.rt:93:49
-mul-put-turn-2 : tie.Need-mul-put-turn-2 Inv-loop μ-loop
-mul-put-turn-2 c = ?
-
--- src/answers.rt:93:49
-shared-slice-copy-out-put-turn : tie.Need-shared-slice-copy-out-put-turn Inv-loop μ-loop
-shared-slice-copy-out-put-turn c = ?
-
--- src/answers.rt:93:9
+-- src/answers.rt:103:9
 put-turn-requires : tie.Need-put-turn-requires Inv-loop μ-loop
-put-turn-requires c κs = ?
+put-turn-requires c κs = search needs
 
--- src/answers.rt:94:9
+-- src/answers.rt:104:9
 add-i : tie.Need-add-i Inv-loop μ-loop
-add-i c = ?
+add-i c = search needs
 
--- src/answers.rt:92:5
+-- src/answers.rt:102:5
 loop-less : tie.Need-loop-less Inv-loop μ-loop
-loop-less c = ?
+loop-less c = search needs
 
--- src/answers.rt:92:5
+-- src/answers.rt:102:5
 loop-again : tie.Need-loop-again Inv-loop μ-loop
-loop-again c = ?
+loop-again c = search needs
 
--- src/answers.rt:96:5
+-- src/answers.rt:106:5
 put-requires : tie.Need-put-requires Inv-loop μ-loop
-put-requires c κs = ?
+put-requires c κs = search needs
 
--- src/answers.rt:83:1
+-- src/answers.rt:93:1
 same-length : tie.Need-same-length Inv-loop μ-loop
-same-length c = ?
+same-length c = search needs
 
--- src/answers.rt:83:1
+-- src/answers.rt:93:1
 returns : tie.Need-returns Inv-loop μ-loop
-returns c = ?
+returns c = search needs
 
 pub put-found-spec : {M : Type 1} → statement M
 put-found-spec =
@@ -66,10 +64,8 @@ put-found-spec =
     Inv-loop
     μ-loop
     loop-holds
-    mul-put-turn
-    shared-slice-read-put-turn
-    mul-put-turn-2
-    shared-slice-copy-out-put-turn
+    minute-at-requires
+    height-at-requires
     put-turn-requires
     add-i
     loop-less
