@@ -1,0 +1,5 @@
+pub mod Reduced
+pub mod Rows
+pub mod Chain
+pub mod Views
+pub mod Cases

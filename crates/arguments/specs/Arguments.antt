@@ -1,0 +1,40 @@
+-- 01, Arguments: V of a main and of a shallow constituent, in ticks.
+use Prim.Native.Nat.{ℕ}
+use mathlib.Core.List.{List, [], _∷_, map}
+use lib.IntN.{ℤ, pos, _+ℤ_, _-ℤ_, _*ℤ_}
+use lib.ListN.{getD}
+use Rattle.angles.specs.Ticks.{centicycle}
+use Rattle.angles.specs.Floor.{modTurn}
+use Rattle.table.specs.Table.{Main, Part, Shallow}
+use Rattle.arguments.specs.Longitudes.{Longitudes}
+
+-- "Lunar time at midnight is h - s."
+abbrev pub lunarTime : Longitudes → ℤ
+lunarTime l = pos (l .h) -ℤ pos (l .s)
+
+-- "(lunar time, s, h, p, N', p')"
+abbrev pub astronomical : Longitudes → List ℤ
+astronomical l = lunarTime l ∷ pos (l .s) ∷ pos (l .h) ∷ pos (l .p) ∷ pos (l .n′) ∷ pos (l .p′) ∷ []
+
+-- whole numbers times angles, added up
+unfoldable pub times : List ℤ → List ℤ → ℤ
+times [] angles = pos 0
+times (n ∷ ns) [] = pos 0
+times (n ∷ ns) (a ∷ angles) = n *ℤ a +ℤ times ns angles
+
+-- "V is the Doodson numbers times (lunar time, s, h, p, N', p'), plus phase, modulo T." The phase is in hundredths of a cycle.
+unfoldable pub argument : Longitudes → List ℤ → ℤ → ℕ
+argument l doodson phase = modTurn (times doodson (astronomical l) +ℤ phase *ℤ pos centicycle)
+
+abbrev pub mainArgument : Longitudes → Main → ℕ
+mainArgument l m = argument l (m .doodson) (m .phase)
+
+-- "A shallow V is the sum of its coefficients times its parts' V": from the mains' V, in card order.
+-- (A part's position past the last main, which no accepted part has, counts as V 0.)
+unfoldable pub sumOfParts : List ℕ → List Part → ℤ
+sumOfParts vs [] = pos 0
+sumOfParts vs (part ∷ parts) = part .coefficient *ℤ pos (getD vs (part .main) 0) +ℤ sumOfParts vs parts
+
+-- modulo T, as every V
+unfoldable pub shallowArgument : Longitudes → List Main → Shallow → ℕ
+shallowArgument l mains s = modTurn (sumOfParts (map (mainArgument l) mains) (s .parts))

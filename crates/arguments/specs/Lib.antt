@@ -1,0 +1,3 @@
+pub mod Longitudes
+pub mod Arguments
+pub mod View

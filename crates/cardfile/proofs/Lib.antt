@@ -1,0 +1,3 @@
+pub mod Followed
+pub mod Parts
+pub mod Ranges

@@ -1,0 +1,5 @@
+pub mod Ranges
+pub mod Defined
+pub mod Walk
+pub mod Rows
+pub mod OfMains

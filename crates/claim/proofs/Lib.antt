@@ -1,0 +1,4 @@
+mod Points
+mod Decided
+pub mod Claim
+pub mod Backed

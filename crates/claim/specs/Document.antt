@@ -1,0 +1,176 @@
+-- 01, "Heights and turns", demand 3: what the document says of a list of calls. Over the calls alone, with all that is lent to them:
+-- no clock, and nothing that a program keeps.
+-- Assumes nothing.
+use Prim.Native.Nat.{ℕ, zero, suc, _+_}
+use mathlib.Core.Bool.{Bool}
+use mathlib.Core.List.{List, [], _∷_}
+use lib.ListN.{take}
+use lib.IntN.{ℤ}
+use Rattle.table.specs.Table.{Table}
+use Rattle.cards.specs.Cards as cards
+use Rattle.cards.specs.Cards.{readCards}
+use Rattle.station.specs.declared.Record.{Record}
+use Rattle.station.specs.Station as station
+use Rattle.prepared.specs.Prepared.{Constituent}
+use Rattle.heights.specs.Exact.{Near}
+use Rattle.clock.specs.State as state
+use Rattle.clock.specs.State.{Maybe, none, some, State}
+use Rattle.clock.specs.Returned.{Returned, accepted, heightIs, turnsAre, refused, onAccepted}
+use Rattle.clock.specs.Calls.{cardsReturns, stationReturns, dateReturns, monthFor, heightReturns, SeriesGiven, seriesGives, TurnsGiven, turnsGives}
+
+-- "The calls are a card file, a station, a date, a height, a series and turns", each with all that is lent to it
+pub data Request : Type 0 where
+  Cards : List ℕ → Request
+  Station : ℤ → List Record → Request
+  Date : ℕ → ℕ → Request
+  Height : ℕ → Request
+  Series : ℕ → ℕ → List ℤ → Request
+  Turns : ℕ → ℕ → List ℕ → List ℤ → Request
+
+-- what a call gives: what it returns, and its lent buffers as it leaves them
+pub data Gave : Type 0 where
+  told : Returned → Gave
+  wrote : SeriesGiven → Gave
+  found : TurnsGiven → Gave
+
+-- a date as it is lent
+pub record Day : Type 0 where
+  pub year : ℕ
+  pub month : ℕ
+
+-- the card file, the station and the date last accepted, "as lent when accepted"
+pub record Last : Type 0 where
+  pub cards : Maybe (List ℕ)
+  pub station : Maybe station.Station
+  pub date : Maybe Day
+
+-- "The first gets a clock with no table, station or month."
+abbrev pub nothing : Last
+nothing = record { cards = none; station = none; date = none }
+
+-- ---- what follows from these, "by the rules of this document"
+
+abbrev pub tableIn : cards.Outcome → Maybe Table
+tableIn (cards.accepted table) = some table
+tableIn (cards.refused number line) = none
+
+abbrev pub tableOfCards : Maybe (List ℕ) → Maybe Table
+tableOfCards none = none
+tableOfCards (some file) = tableIn (readCards file)
+
+abbrev pub monthOn : Maybe Table → Maybe station.Station → Maybe Day → Maybe state.Month
+monthOn t s none = none
+monthOn t s (some day) = monthFor t s (day .year) (day .month)
+
+unfoldable pub workedOut : Last → State
+workedOut l =
+    record {
+      table = tableOfCards (l .cards);
+      station = l .station;
+      month = monthOn (tableOfCards (l .cards)) (l .station) (l .date);
+    }
+
+-- ---- one call after another
+
+-- "An accepted card file leaves its table, with no station and no month; an accepted station keeps the table and leaves itself, with no
+-- month; an accepted date keeps both [..]. Heights, series, turns and every refused call leave all three as they were."
+unfoldable pub after : Last → Request → Last
+after l (Cards file) = onAccepted (cardsReturns file) (record { cards = some file; station = none; date = none }) l
+after l (Station latitude records) =
+    onAccepted (stationReturns (workedOut l) latitude records)
+    (record { cards = l .cards; station = some (record { latitude = latitude; records = records }); date = none }) l
+after l (Date year month) =
+    onAccepted (dateReturns (workedOut l) year month)
+    (record { cards = l .cards; station = l .station; date = some (record { year = year; month = month }) }) l
+after l (Height minute) = l
+after l (Series start step heights) = l
+after l (Turns first end minutes heights) = l
+
+-- what the document gives for a call, from what was last accepted before it
+unfoldable pub gives : Last → Request → Gave
+gives l (Cards file) = told (cardsReturns file)
+gives l (Station latitude records) = told (stationReturns (workedOut l) latitude records)
+gives l (Date year month) = told (dateReturns (workedOut l) year month)
+gives l (Height minute) = told (heightReturns (workedOut l) minute)
+gives l (Series start step heights) = wrote (seriesGives (workedOut l) start step heights)
+gives l (Turns first end minutes heights) = found (turnsGives (workedOut l) first end minutes heights)
+
+-- what it gives for each call of a list, the first one first
+unfoldable pub givesAll : Last → List Request → List Gave
+givesAll l [] = []
+givesAll l (q ∷ qs) = gives l q ∷ givesAll (after l q) qs
+
+-- what was last accepted after a list of calls
+unfoldable pub lastAfter : Last → List Request → Last
+lastAfter l [] = l
+lastAfter l (q ∷ qs) = lastAfter (after l q) qs
+
+-- ---- the distance of each height given from the exact sum at its own minute
+
+pub record Point : Type 0 where
+  pub minute : ℕ
+  pub height : ℤ
+
+-- "a single height at the minute asked"
+abbrev pub heightPoints : ℕ → Returned → List Point
+heightPoints minute accepted = []
+heightPoints minute (heightIs h) = record { minute = minute; height = h } ∷ []
+heightPoints minute (turnsAre count high) = []
+heightPoints minute (refused number place) = []
+
+-- "a series' height n, from 0, at start + n × step"
+unfoldable pub pointsFrom : ℕ → ℕ → List ℤ → List Point
+pointsFrom minute step [] = []
+pointsFrom minute step (h ∷ hs) = record { minute = minute; height = h } ∷ pointsFrom (minute + step) step hs
+
+abbrev pub seriesPoints : ℕ → ℕ → Returned → List ℤ → List Point
+seriesPoints start step accepted heights = pointsFrom start step heights
+seriesPoints start step (heightIs h) heights = []
+seriesPoints start step (turnsAre count high) heights = []
+seriesPoints start step (refused number place) heights = []
+
+-- "a turn's height at the minute written with it"
+unfoldable pub pointsOf : List ℕ → List ℤ → List Point
+pointsOf [] hs = []
+pointsOf (m ∷ ms) [] = []
+pointsOf (m ∷ ms) (h ∷ hs) = record { minute = m; height = h } ∷ pointsOf ms hs
+
+abbrev pub turnsPoints : Returned → List ℕ → List ℤ → List Point
+turnsPoints accepted minutes heights = []
+turnsPoints (heightIs h) minutes heights = []
+turnsPoints (turnsAre count high) minutes heights = pointsOf (take count minutes) (take count heights)
+turnsPoints (refused number place) minutes heights = []
+
+-- "The claim covers each height that a call in the list gives"
+abbrev pub points : Request → Gave → List Point
+points (Cards file) g = []
+points (Station latitude records) g = []
+points (Date year month) g = []
+points (Height minute) (told r) = heightPoints minute r
+points (Height minute) (wrote s) = []
+points (Height minute) (found t) = []
+points (Series start step heights) (told r) = []
+points (Series start step heights) (wrote s) = seriesPoints start step (s .returned) (s .heights)
+points (Series start step heights) (found t) = []
+points (Turns first end minutes heights) (told r) = []
+points (Turns first end minutes heights) (wrote s) = []
+points (Turns first end minutes heights) (found t) = turnsPoints (t .returned) (t .minutes) (t .heights)
+
+-- V, P and Q of the station's constituents, worked out from what was last accepted
+abbrev pub constituentsIn : Maybe state.Month → List Constituent
+constituentsIn none = []
+constituentsIn (some month) = month .constituents
+
+abbrev pub constituentsOf : Last → List Constituent
+constituentsOf l = constituentsIn (workedOut l .month)
+
+-- each point near the exact sum
+pub data AllNear (cs : List Constituent) : List Point → Type 0 where
+  nil : AllNear cs []
+  cons : {p : Point} {ps : List Point} → Near cs (p .minute) (p .height) → AllNear cs ps → AllNear cs (p ∷ ps)
+
+-- each height that a call of the list gives, near the exact sum that follows from what was last accepted before that call
+pub data EachNear : Last → List Request → List Gave → Type 0 where
+  end : {l : Last} → EachNear l [] []
+  next : {l : Last} {q : Request} {qs : List Request} {g : Gave} {gs : List Gave}
+      → AllNear (constituentsOf l) (points q g) → EachNear (after l q) qs gs → EachNear l (q ∷ qs) (g ∷ gs)

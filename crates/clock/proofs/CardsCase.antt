@@ -1,0 +1,35 @@
+-- A card file's two cases, accepted and refused, from what the reader promises. Assumes nothing.
+use mathlib.Core.Path.{_≡_, refl, sym, ap, subst, _∙_}
+use Prim.Native.Nat.{ℕ}
+use mathlib.Core.List.{List}
+use Rattle.refusals.specs.Outcome.{numberOf}
+use Rattle.refusals.specs.declared.Refusal.{Refusal}
+use Rattle.refusals.specs.declared.Answer.the-variants.{Accepted, Refused}
+use Rattle.table.specs.View.{tableOf}
+use Rattle.cards.specs.Cards.{readCards, accepted, refused}
+use Rattle.cardfile.specs.Read.{outcomeOf}
+use Rattle.cardfile.specs.declared.Read.{Read}
+use Rattle.cardfile.proofs.Ranges.{accepted-in-range}
+use Rattle.clock.specs.declared.Clock.{Clock}
+use Rattle.clock.specs.Calls.{cardsReturns, cardsLeaves}
+use Rattle.clock.specs.View.{view, Made}
+use Rattle.clock.specs.Posts.{CardsPost}
+use Rattle.clock.specs.Parts.{withTable}
+use Rattle.clock.proofs.Tables.{in-range}
+
+module _ (c : Clock) (file : List ℕ) (read : Read) (made : Made c) (reads : outcomeOf read ≡ readCards file) where
+  pub file-accepted : read .answer ≡ Accepted → CardsPost c file (read .answer) (withTable c (read .table))
+  unfolding cardsReturns cardsLeaves view
+  file-accepted e =
+      let table : readCards file ≡ accepted (tableOf (read .table)) = rw e at (sym reads) in
+      record {
+        made = record { cosines = made .cosines; table = in-range (read .table) (λ none z k. accepted-in-range file _ none z table k); count = made .count; last = made .last; month = made .month };
+        returns = rw (e, table);
+        leaves = rw table;
+      }
+
+  pub file-refused : (r : Refusal) (line : ℕ) → read .answer ≡ Refused r line → CardsPost c file (read .answer) c
+  unfolding cardsReturns cardsLeaves
+  file-refused r line e =
+      let no : readCards file ≡ refused (numberOf r) line = rw e at (sym reads) in
+      record { made = made; returns = rw (e, no); leaves = rw no }

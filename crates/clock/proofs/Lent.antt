@@ -1,0 +1,89 @@
+-- What the rows' records promise of a station holds of the records lent. At most 146 records are those of their rows;
+-- of more, both are refused before a record is looked at, and nothing is left of them. Assumes nothing.
+use mathlib.Core.Path.{_≡_, refl, sym, ap, subst, _∙_}
+use Prim.Native.Nat.{ℕ, _≤_, min}
+use native.Mathlib.Omega.{arith}
+use mathlib.Core.Bool.{Bool, true, false}
+use mathlib.Core.List.{List}
+use lib.ListN.{length}
+use lib.Dec.{ltb}
+use lib.IntN.{ℤ, pos, negsuc}
+use lib.Signed.{ltZ}
+use borrow.Author.Tests.{ltb-false}
+use Rattle.refusals.specs.Outcome as outcome
+use Rattle.refusals.specs.Outcome.{Outcome, refuseIf}
+use Rattle.refusals.specs.declared.Answer.{Answer}
+use Rattle.table.specs.Table.{Table}
+use Rattle.station.specs.Station.{stationOutcome}
+use Rattle.station.specs.Rows.{rowsUpto}
+use Rattle.station.specs.Posts.{recordsOf}
+use Rattle.station.specs.declared.Record.{Record}
+use Rattle.station.specs.declared.Rows.{Rows}
+use Rattle.station.proofs.Copies.{records-length, lent-is}
+use Rattle.clock.specs.declared.Clock.{Clock}
+use Rattle.clock.specs.State.{Maybe, none, some, State}
+use Rattle.clock.specs.Returned.{refused, told, onAccepted}
+use Rattle.clock.specs.Calls.{asks, stationReturns, stationLeaves}
+use Rattle.clock.specs.View.{view}
+use Rattle.clock.specs.Posts.{StationPost}
+
+-- an outcome by which nothing new is left
+abbrev Turned : Outcome → Type 0
+Turned o = (new old : State) → onAccepted (told o) new old ≡ old
+
+turned-if : (b : Bool) (number place : ℕ) (o : Outcome) → Turned o → Turned (refuseIf b number place o)
+turned-if true number place o h new old = refl
+turned-if false number place o h new old = h new old
+
+-- ---- more records than a station has
+
+abbrev Crowd : List Record → Type 0
+Crowd records = ltb 146 (length records) ≡ true
+
+crowd-turned : (frequencies : ℕ) (latitude : ℤ) (records : List Record) → Crowd records → Turned (stationOutcome frequencies latitude records)
+unfolding stationOutcome
+crowd-turned frequencies latitude records many = rw many (turned-if (ltZ latitude (negsuc 5_399)) 3 0 _ (turned-if (ltZ (pos 5_400) latitude) 3 0 (outcome.refused 6 147) (λ new old. refl)))
+
+crowds-agree : (frequencies : ℕ) (latitude : ℤ) (a b : List Record) → Crowd a → Crowd b → stationOutcome frequencies latitude a ≡ stationOutcome frequencies latitude b
+unfolding stationOutcome
+crowds-agree frequencies latitude a b many many′ = rw (many, many′) refl
+
+asked-agree : (t : Maybe Table) (latitude : ℤ) (a b : List Record) → Crowd a → Crowd b
+    → asks t (refused 21 0) (λ table. told (stationOutcome (length (table .frequencies)) latitude a)) ≡ asks t (refused 21 0) (λ table. told (stationOutcome (length (table .frequencies)) latitude b))
+asked-agree none latitude a b many many′ = refl
+asked-agree (some table) latitude a b many many′ = ap told (crowds-agree (length (table .frequencies)) latitude a b many many′)
+
+asked-turned : (t : Maybe Table) (latitude : ℤ) (records : List Record) → Crowd records → (new old : State)
+    → onAccepted (asks t (refused 21 0) (λ table. told (stationOutcome (length (table .frequencies)) latitude records))) new old ≡ old
+asked-turned none latitude records many new old = refl
+asked-turned (some table) latitude records many new old = crowd-turned (length (table .frequencies)) latitude records many new old
+
+returns-agree : (k : State) (latitude : ℤ) (a b : List Record) → Crowd a → Crowd b → stationReturns k latitude a ≡ stationReturns k latitude b
+unfolding stationReturns
+returns-agree k = asked-agree (k .table)
+
+leaves-same : (k : State) (latitude : ℤ) (records : List Record) → Crowd records → stationLeaves k latitude records ≡ k
+unfolding stationReturns stationLeaves
+leaves-same k latitude records many = asked-turned (k .table) latitude records many _ k
+
+-- ---- the records lent
+
+module _ (c : Clock) (latitude : ℤ) (records : List Record) (answer : Answer) (left : Clock) where
+  crowd-post : (rs : List Record) → Crowd records → Crowd rs → StationPost c latitude rs answer left → StationPost c latitude records answer left
+  crowd-post rs many many′ p =
+      record {
+        made = p .made;
+        returns = p .returns ∙ returns-agree (view c) latitude rs records many′ many;
+        leaves = p .leaves ∙ leaves-same (view c) latitude rs many′ ∙ sym (leaves-same (view c) latitude records many);
+      }
+
+  rows-of-few : length records ≤ 146 → recordsOf (rowsUpto records (min (length records) 146)) (length records) ≡ records
+  rows-of-few h = let all : min (length records) 146 ≡ length records = omega arith in rw all (lent-is records h)
+
+  posts-by : (b : Bool) → ltb 146 (length records) ≡ b → StationPost c latitude (recordsOf (rowsUpto records (min (length records) 146)) (length records)) answer left → StationPost c latitude records answer left
+  posts-by true e p = crowd-post _ e (ap (ltb 146) (records-length _ _ _ 0 (length records)) ∙ e) p
+  posts-by false e p = subst (λ (rs : List Record). StationPost c latitude rs answer left) (rows-of-few (ltb-false 146 (length records) e)) p
+
+  -- what holds of the rows' records holds of those lent
+  pub lent-post : (rows : Rows) → rows ≡ rowsUpto records (min (length records) 146) → StationPost c latitude (recordsOf rows (length records)) answer left → StationPost c latitude records answer left
+  lent-post rows e p = posts-by (ltb 146 (length records)) refl (subst (λ (x : Rows). StationPost c latitude (recordsOf x (length records)) answer left) e p)

@@ -1,0 +1,9 @@
+pub mod Tables
+pub mod CardsCase
+pub mod Months
+pub mod Dates
+pub mod Stations
+pub mod Heights
+pub mod SeriesCase
+pub mod TurnsCase
+pub mod Lent

@@ -1,0 +1,63 @@
+-- A prepared month's two cases, ready and refused by 11, and a date's, from what the preparation promises. Assumes nothing.
+use mathlib.Core.Path.{_≡_, refl, sym, ap, subst, _∙_}
+use Prim.Native.Nat.{ℕ, zero, suc, _+_, _≤_, _<_, min}
+use mathlib.Core.Bool.{true, false}
+use mathlib.Core.List.{List, [], _∷_}
+use native.Mathlib.Omega.{arith}
+use native.Mathlib.Nat.{zero-add, add-zero}
+use native.Mathlib.Numerals.{add-one}
+use lib.ListN.{length, getD}
+use lib.IntN.{ℤ, pos}
+use Rattle.refusals.specs.declared.Refusal.the-variants.{TooLarge}
+use Rattle.refusals.specs.declared.Answer.the-variants.{Accepted, Refused}
+use Rattle.table.specs.View.{tableOf}
+use Rattle.station.specs.Rows.{stationOf}
+use Rattle.prepared.specs.Prepared.{Constituent}
+use Rattle.prepared.specs.View.{constituentAt, constituentsAfter, constituentsFrom, constituentsOf}
+use Rattle.calendar.specs.Calendar.{monthMinutes}
+use Rattle.calendar.proofs.Months.{minutes-short}
+use Rattle.month.specs.Month as specs
+use Rattle.month.specs.Month.{monthOf, tooLarge, prepared}
+use Rattle.month.specs.View.{preparedOf}
+use Rattle.month.specs.declared.Prepared.{Prepared}
+use Rattle.month.specs.declared.Preparation.the-variants as preparation
+use Rattle.month.proofs.Ranges.{prepared-in-range}
+use Rattle.turns.specs.Slope.{InRange}
+use Rattle.clock.specs.declared.Clock.{Clock}
+use Rattle.clock.specs.View.{view, Made}
+use Rattle.clock.specs.Posts.{PreparedPost}
+use Rattle.clock.specs.Parts.{withMonth}
+use Rattle.clock.proofs.Tables.{frequencies-within}
+
+-- a constituent's frequency is that of its place
+frequency-at : (vs ls fs : List ℕ) (ps qs : List ℤ) (k n i : ℕ) (none : Constituent) → i < n
+    → getD (constituentsAfter vs ls fs ps qs k n) i none .frequency ≡ getD fs (k + i) 0
+unfolding constituentsAfter
+frequency-at vs ls fs ps qs k zero i none h = absurd (omega arith)
+frequency-at vs ls fs ps qs k (suc n) zero none h = ap (λ (j : ℕ). getD fs j 0) (sym (add-zero k))
+frequency-at vs ls fs ps qs k (suc n) (suc i) none h =
+    frequency-at vs ls fs ps qs (k + 1) n i none (omega arith) ∙ ap (λ (j : ℕ). getD fs j 0) (let e : k + 1 + i ≡ k + suc i = omega arith in e)
+
+module _ (c : Clock) (year month : ℕ) (p : Prepared) (made : Made c) (prepares : preparedOf p ≡ monthOf (tableOf (c .table)) (stationOf (c .station)) year month) where
+  pub month-ready : p .answer ≡ preparation.Ready → PreparedPost c year month Accepted (withMonth c (monthMinutes year month) (p .month))
+  unfolding view
+  month-ready e =
+      let ready : monthOf (tableOf (c .table)) (stationOf (c .station)) year month ≡ prepared (constituentsOf (p .month)) = rw e at (sym prepares) in
+      let none : Constituent = record { argument = 0; lag = 0; frequency = 0; p = pos 0; q = pos 0 } in
+      let m = p .month in
+      record {
+        made = record {
+          cosines = made .cosines;
+          table = made .table;
+          count = omega arith;
+          last = minutes-short year month;
+          month = λ k h. rw (frequency-at (m .arguments) (m .lags) (m .frequencies) (m .ps) (m .qs) 0 (min (m .count) 146) k none h, zero-add k) at (prepared-in-range _ _ year month _ none refl (frequencies-within (c .table) (made .table)) ready k);
+        };
+        returns = rw ready;
+        leaves = rw ready;
+      }
+
+  pub month-refused : (place : ℕ) → p .answer ≡ preparation.TooLarge place → PreparedPost c year month (Refused TooLarge place) c
+  month-refused place e =
+      let large : monthOf (tableOf (c .table)) (stationOf (c .station)) year month ≡ tooLarge place = rw e at (sym prepares) in
+      record { made = made; returns = rw large; leaves = refl }

@@ -1,0 +1,57 @@
+-- What each call promises: one record for each. What it returns and leaves equals the definition of `Calls`.
+-- Assumes nothing.
+use Prim.Native.Nat.{ℕ}
+use mathlib.Core.List.{List}
+use mathlib.Core.Path.{_≡_}
+use lib.IntN.{ℤ}
+use Rattle.refusals.specs.declared.Answer.{Answer}
+use Rattle.station.specs.declared.Record.{Record}
+use Rattle.clock.specs.State.{State, nothing}
+use Rattle.clock.specs.Returned.{onAccepted, answerReturned, heightReturned, turnsReturned}
+use Rattle.table.specs.View.{tableOf}
+use Rattle.station.specs.Rows.{stationOf}
+use Rattle.calendar.specs.Calendar.{monthMinutes}
+use Rattle.month.specs.Month.{monthOf}
+use Rattle.clock.specs.Calls.{preparedReturns, monthLeft, cardsReturns, cardsLeaves, stationReturns, stationLeaves, dateReturns, dateLeaves, heightReturns, seriesGives, turnsGives}
+use Rattle.clock.specs.View.{view, Made}
+use Rattle.clock.specs.declared.Clock.{Clock}
+use Rattle.clock.specs.declared.HeightAnswer.{HeightAnswer}
+use Rattle.clock.specs.declared.TurnsAnswer.{TurnsAnswer}
+
+pub record NewPost (r : Clock) : Type 0 where
+  pub made : Made r
+  pub leaves : view r ≡ nothing
+
+pub record CardsPost (c : Clock) (file : List ℕ) (answer : Answer) (left : Clock) : Type 0 where
+  pub made : Made left
+  pub returns : answerReturned answer ≡ cardsReturns file
+  pub leaves : view left ≡ cardsLeaves (view c) file
+
+pub record StationPost (c : Clock) (latitude : ℤ) (records : List Record) (answer : Answer) (left : Clock) : Type 0 where
+  pub made : Made left
+  pub returns : answerReturned answer ≡ stationReturns (view c) latitude records
+  pub leaves : view left ≡ stationLeaves (view c) latitude records
+
+pub record DatePost (c : Clock) (year month : ℕ) (answer : Answer) (left : Clock) : Type 0 where
+  pub made : Made left
+  pub returns : answerReturned answer ≡ dateReturns (view c) year month
+  pub leaves : view left ≡ dateLeaves (view c) year month
+
+-- a month that is prepared for a date in range, whatever the flags of the clock say
+pub record PreparedPost (c : Clock) (year month : ℕ) (answer : Answer) (left : Clock) : Type 0 where
+  pub made : Made left
+  pub returns : answerReturned answer ≡ preparedReturns (monthOf (tableOf (c .table)) (stationOf (c .station)) year month)
+  pub leaves : view left ≡ onAccepted (answerReturned answer) (record {
+    table = view c .table;
+    station = view c .station;
+    month = monthLeft (monthMinutes year month) (monthOf (tableOf (c .table)) (stationOf (c .station)) year month);
+  }) (view c)
+
+pub record HeightPost (c : Clock) (minute : ℕ) (answer : HeightAnswer) : Type 0 where
+  pub returns : heightReturned answer ≡ heightReturns (view c) minute
+
+pub record SeriesPost (c : Clock) (start step : ℕ) (heights left : List ℤ) (answer : Answer) : Type 0 where
+  pub gives : record { returned = answerReturned answer; heights = left } ≡ seriesGives (view c) start step heights
+
+pub record TurnsPost (c : Clock) (first last : ℕ) (minutes minutesLeft : List ℕ) (heights heightsLeft : List ℤ) (answer : TurnsAnswer) : Type 0 where
+  pub gives : record { returned = turnsReturned answer; minutes = minutesLeft; heights = heightsLeft } ≡ turnsGives (view c) first last minutes heights

@@ -1,0 +1,363 @@
+// The berth clock: a table, a station and a month, each there or not, and the calls that set and read them.
+//
+// A call takes the clock and, where it can change it, gives it back. A refused call leaves the clock and the lent buffers as they were.
+// No call asks anything of its caller but a clock that `new` or another call made.
+ghost use mathlib.Core.Path.{_≡_};
+ghost use Prim.Native.Nat.{_≤_, _<_};
+ghost use lib.Dec.{ltb};
+ghost use Rattle.clock.specs.Calls.{lastMinute};
+ghost use mathlib.Core.Bool.{true};
+ghost use Rattle.calendar.specs.Calendar.{inRange};
+ghost use Rattle.clock.specs.View.{Made};
+ghost use Rattle.clock.specs.Posts.{NewPost, CardsPost, StationPost, DatePost, HeightPost, SeriesPost, TurnsPost, PreparedPost};
+ghost use Rattle.station.specs.Posts.{recordsOf};
+ghost use Rattle.clock.specs.Parts.{withTable, withStation, withMonth};
+use month::Preparation;
+use prepared::Month;
+use refusals::Answer;
+use refusals::Refusal;
+use station::Record;
+use station::Rows;
+use station::Station;
+use table::Table;
+use turns::Searched;
+
+// What the clock keeps. Only the calls below make or change one.
+pub struct Clock {
+    cosines: [u32; 1025],
+    tabled: bool,
+    table: Table,
+    stationed: bool,
+    station: Station,
+    dated: bool,
+    last: u64,
+    count: usize,
+    arguments: [u64; 146],
+    lags: [u16; 146],
+    frequencies: [u64; 146],
+    ps: [i32; 146],
+    qs: [i32; 146],
+}
+
+// What a call says, and the clock as it leaves it.
+pub struct After {
+    pub answer: Answer,
+    pub clock: Clock,
+}
+
+// A height, or a refusal.
+pub enum HeightAnswer {
+    Height(i64),
+    Refused(Refusal, usize),
+}
+
+// How many turns, and whether the first is high; or a refusal.
+pub enum TurnsAnswer {
+    Turns(usize, bool),
+    Refused(Refusal, usize),
+}
+
+// A clock with no table, station or month.
+pub fn new() -> Clock
+    ensures { λ r. ⌜ NewPost r ⌝ }
+{
+    Clock {
+        cosines: cosine::cosines(),
+        tabled: false,
+        table: table::no_cards(),
+        stationed: false,
+        station: station::no_station(0),
+        dated: false,
+        last: 0,
+        count: 0,
+        arguments: [0u64; 146],
+        lags: [0u16; 146],
+        frequencies: [0u64; 146],
+        ps: [0i32; 146],
+        qs: [0i32; 146],
+    }
+}
+
+// The clock with a new table, and no station or month.
+fn with_table(clock: Clock, table: Table) -> Clock
+    ensures { λ r. ⌜ r ≡ withTable clock table ⌝ }
+{
+    let mut next = clock;
+    next.tabled = true;
+    next.table = table;
+    next.stationed = false;
+    next.dated = false;
+    next
+}
+
+// The clock with a new station, and no month.
+fn with_station(clock: Clock, station: Station) -> Clock
+    ensures { λ r. ⌜ r ≡ withStation clock station ⌝ }
+{
+    let mut next = clock;
+    next.stationed = true;
+    next.station = station;
+    next.dated = false;
+    next
+}
+
+// The clock with a new month.
+fn with_month(clock: Clock, last: u64, month: Month) -> Clock
+    ensures { λ r. ⌜ r ≡ withMonth clock last month ⌝ }
+{
+    let mut next = clock;
+    next.dated = true;
+    next.last = last;
+    next.count = prepared::held(month.count);
+    let arguments = month.arguments;
+    let lags = month.lags;
+    let frequencies = month.frequencies;
+    let ps = month.ps;
+    let qs = month.qs;
+    next.arguments = arguments;
+    next.lags = lags;
+    next.frequencies = frequencies;
+    next.ps = ps;
+    next.qs = qs;
+    next
+}
+
+// A card file: its table takes the place of the old one, with no station and no month; or it is refused.
+pub fn load_cards(clock: Clock, file: &[u8]) -> After
+    requires { ⌜ Made clock ⌝ }
+    ensures { λ r. ⌜ CardsPost clock (now (file .entry)) (r .answer) (r .clock) ⌝ }
+{
+    let read = cardfile::read_cards(file);
+    let answer = read.answer;
+    match answer {
+        Answer::Accepted => {
+            let table = read.table;
+            let next = with_table(clock, table);
+            After {
+                answer,
+                clock: next,
+            }
+        }
+        Answer::Refused(_, _) => After { answer, clock },
+    }
+}
+
+// A station of n records, of which the first 146 are in the rows.
+fn place_station(clock: Clock, latitude: i32, n: usize, rows: Rows) -> After
+    requires { ⌜ Made clock ⌝ }
+    ensures { λ r. ⌜ StationPost clock latitude (recordsOf rows n) (r .answer) (r .clock) ⌝ }
+{
+    if !clock.tabled {
+        return After {
+            answer: Answer::Refused(Refusal::NoTable, 0),
+            clock,
+        };
+    }
+    let table = clock.table;
+    let taken = station::take_station(table.frequencies, latitude, n, rows);
+    let answer = taken.answer;
+    match answer {
+        Answer::Accepted => {
+            let station = taken.station;
+            let next = with_station(clock, station);
+            After {
+                answer,
+                clock: next,
+            }
+        }
+        Answer::Refused(_, _) => After { answer, clock },
+    }
+}
+
+// A station: a latitude and the records of its constituents. It keeps the table and drops the month; or it is refused.
+// (The thin function over the lent slice of structs: its proof is a walk by hand.)
+pub fn set_station(clock: Clock, latitude: i32, records: &[Record]) -> After
+    requires { ⌜ Made clock ⌝ }
+    ensures { λ r. ⌜ StationPost clock latitude (now (records .entry)) (r .answer) (r .clock) ⌝ }
+{
+    let n = records.len();
+    let rows = station::rows_of(records);
+    place_station(clock, latitude, n, rows)
+}
+
+// The month of a date that is in range.
+fn prepare_month(clock: Clock, year: u32, month: u32) -> After
+    requires { ⌜ Made clock × (inRange year month ≡ true) ⌝ }
+    ensures { λ r. ⌜ PreparedPost clock year month (r .answer) (r .clock) ⌝ }
+{
+    let table = clock.table;
+    let station = clock.station;
+    let last = calendar::month_minutes(year, month) as u64;
+    let prepared = month::prepare(&clock.cosines, table, station, year, month);
+    let answer = prepared.answer;
+    match answer {
+        Preparation::Ready => {
+            let constituents = prepared.month;
+            let next = with_month(clock, last, constituents);
+            After {
+                answer: Answer::Accepted,
+                clock: next,
+            }
+        }
+        Preparation::TooLarge(place) => After {
+            answer: Answer::Refused(Refusal::TooLarge, place),
+            clock,
+        },
+    }
+}
+
+// A date: its month is prepared, in place of any before; or it is refused.
+pub fn set_date(clock: Clock, year: u32, month: u32) -> After
+    requires { ⌜ Made clock ⌝ }
+    ensures { λ r. ⌜ DatePost clock year month (r .answer) (r .clock) ⌝ }
+{
+    if !clock.tabled {
+        return After {
+            answer: Answer::Refused(Refusal::NoTable, 0),
+            clock,
+        };
+    }
+    if !clock.stationed {
+        return After {
+            answer: Answer::Refused(Refusal::NoStation, 0),
+            clock,
+        };
+    }
+    if !calendar::in_range(year, month) {
+        return After {
+            answer: Answer::Refused(Refusal::BadDate, 0),
+            clock,
+        };
+    }
+    prepare_month(clock, year, month)
+}
+
+// The height at a minute of the month, in tenths of a millimetre; or a refusal.
+pub fn height(clock: Clock, minute: u32) -> HeightAnswer
+    requires { ⌜ Made clock ⌝ }
+    ensures { λ r. ⌜ HeightPost clock minute r ⌝ }
+{
+    if !clock.tabled {
+        return HeightAnswer::Refused(Refusal::NoTable, 0);
+    }
+    if !clock.stationed {
+        return HeightAnswer::Refused(Refusal::NoStation, 0);
+    }
+    if !clock.dated {
+        return HeightAnswer::Refused(Refusal::NoMonth, 0);
+    }
+    if clock.last < minute as u64 {
+        return HeightAnswer::Refused(Refusal::BadMinutes, 0);
+    }
+    HeightAnswer::Height(heights::height(
+        &clock.cosines,
+        &clock.arguments,
+        &clock.lags,
+        &clock.frequencies,
+        &clock.ps,
+        &clock.qs,
+        clock.count,
+        minute as u64,
+    ))
+}
+
+// Whether the last of so many heights, from a start in the month on, is past the month's last minute.
+fn past_last(last: u64, start: u64, step: u64, places: usize) -> bool
+    requires { ⌜ (start ≤ last) × (0 < step) ⌝ }
+    ensures { λ r. ⌜ r ≡ ltb last (lastMinute start step places) ⌝ }
+{
+    if places == 0 {
+        return false;
+    }
+    (last - start) / step < places as u64 - 1
+}
+
+// One height for each lent place, at start, start + step, start + 2 × step and so on; or a refusal.
+pub fn series(clock: Clock, start: u32, step: u32, heights: &mut [i64]) -> Answer
+    requires { ⌜ Made clock ⌝ }
+    ensures { λ r. ⌜ SeriesPost clock start step (now (heights .entry)) (now (heights .exit)) r ⌝ }
+{
+    if !clock.tabled {
+        return Answer::Refused(Refusal::NoTable, 0);
+    }
+    if !clock.stationed {
+        return Answer::Refused(Refusal::NoStation, 0);
+    }
+    if !clock.dated {
+        return Answer::Refused(Refusal::NoMonth, 0);
+    }
+    if clock.last < start as u64 {
+        return Answer::Refused(Refusal::BadMinutes, 0);
+    }
+    if step < 1 {
+        return Answer::Refused(Refusal::BadMinutes, 0);
+    }
+    if 1_440 < step {
+        return Answer::Refused(Refusal::BadMinutes, 0);
+    }
+    if past_last(clock.last, start as u64, step as u64, heights.len()) {
+        return Answer::Refused(Refusal::BadMinutes, 0);
+    }
+    heights::series(
+        &clock.cosines,
+        &clock.arguments,
+        &clock.lags,
+        &clock.frequencies,
+        &clock.ps,
+        &clock.qs,
+        clock.count,
+        start as u64,
+        step as u64,
+        heights,
+    );
+    Answer::Accepted
+}
+
+// The high and low waters from the first minute to the last, into the lent buffers from their front; or a refusal.
+pub fn turns(
+    clock: Clock,
+    first: u32,
+    last: u32,
+    minutes: &mut [u32],
+    heights: &mut [i64],
+) -> TurnsAnswer
+    requires { ⌜ Made clock ⌝ }
+    ensures { λ r. ⌜ TurnsPost clock first last (now (minutes .entry)) (now (minutes .exit)) (now (heights .entry)) (now (heights .exit)) r ⌝ }
+{
+    if !clock.tabled {
+        return TurnsAnswer::Refused(Refusal::NoTable, 0);
+    }
+    if !clock.stationed {
+        return TurnsAnswer::Refused(Refusal::NoStation, 0);
+    }
+    if !clock.dated {
+        return TurnsAnswer::Refused(Refusal::NoMonth, 0);
+    }
+    if clock.last < last as u64 {
+        return TurnsAnswer::Refused(Refusal::BadMinutes, 0);
+    }
+    if last < first {
+        return TurnsAnswer::Refused(Refusal::BadMinutes, 0);
+    }
+    let table = clock.table;
+    let station = clock.station;
+    let stride = strides::station_stride(table, station);
+    let found = turns::turns(
+        &clock.cosines,
+        &clock.arguments,
+        &clock.lags,
+        &clock.frequencies,
+        &clock.ps,
+        &clock.qs,
+        clock.count,
+        stride,
+        first as u64,
+        last as u64,
+        minutes,
+        heights,
+    );
+    match found {
+        Searched::Found(s) => TurnsAnswer::Turns(s.count, s.high),
+        Searched::TooMany => TurnsAnswer::Refused(Refusal::TooManyTurns, 0),
+    }
+}

@@ -1,0 +1,103 @@
+-- A number is in a range of 64-bit numbers exactly when its capped size, with its sign, is: all from the cap on lie outside.
+-- By cases on the signs. Assumes nothing.
+use mathlib.Core.Path.{_≡_, refl, sym, _∙_}
+use Prim.Native.Nat.{ℕ, zero, suc, _≤_, _<_, min}
+use mathlib.Core.List.{List}
+use mathlib.Core.Bool.{Bool, true, false, cond, not, and-false}
+use lib.IntN.{ℤ, pos, negsuc, negℤ, _-ℤ_}
+use lib.Signed.{ltZ, leZ}
+use lib.Dec.{leb, ltb}
+use native.Mathlib.Nat.{zero-add}
+use native.Mathlib.Omega.{arith}
+use borrow.Author.Tests.{ltb-true, ltb-false, le-leb, lt-leb}
+use mir.Syntax.{w64}
+use mir.Val.{SFits, toZ}
+use mir.ValLaws.{toZ-pos}
+use Rattle.fields.specs.Number.{number, malformed, signed, inRange, unsigned, wholeGood, wholeSize, fixedGood, fixedSize}
+use Rattle.fields.specs.Capped.{cap, kept, keptOf}
+use Rattle.fields.specs.declared.Format.{Format}
+use Rattle.fields.specs.declared.Format.the-variants.{Whole, Fixed}
+use Rattle.fields.specs.declared.Size.the-variants.{Of, Bad}
+use Rattle.fields.specs.declared.Field.the-variants.{Malformed, OutOfRange}
+
+leb-ltb : (a b : ℕ) → leb a b ≡ not (ltb b a)
+leb-ltb a b = go (ltb b a) refl
+  where
+    go : (t : Bool) → ltb b a ≡ t → leb a b ≡ not t
+    go true h = lt-leb a b (ltb-true b a h)
+    go false h = le-leb a b (ltb-false b a h)
+
+-- "at most" is "not above"
+pub leZ-ltZ : (a b : ℤ) → leZ a b ≡ not (ltZ b a)
+leZ-ltZ (pos a) (pos b) = leb-ltb a b
+leZ-ltZ (pos a) (negsuc b) = refl
+leZ-ltZ (negsuc a) (pos b) = refl
+leZ-ltZ (negsuc a) (negsuc b) = leb-ltb b a
+
+below : (low : ℤ) (m : ℕ) → SFits w64 low → 9223372036854775808 ≤ m → leZ low (negsuc m) ≡ false
+below (pos l) m f h = refl
+below (negsuc l) m f h = lt-leb m l (omega arith)
+
+above : (high : ℤ) (n : ℕ) → SFits w64 high → 9223372036854775808 ≤ n → leZ (pos n) high ≡ false
+above (pos k) n f h = lt-leb n k (omega arith)
+above (negsuc k) n f h = refl
+
+module _ (low high : ℤ) (fl : SFits w64 low) (fh : SFits w64 high) where
+  pub out-below : (size : ℕ) → cap ≤ size → inRange low high (number (negℤ (pos size))) ≡ OutOfRange
+  unfolding inRange
+  out-below zero h = absurd (omega arith)
+  out-below (suc m) h = rw (below low m fl (omega arith))
+
+  pub out-above : (size : ℕ) → 9223372036854775807 < size → inRange low high (number (pos size)) ≡ OutOfRange
+  unfolding inRange
+  out-above size h = rw (above high size fh h, and-false)
+
+  pub cap-loses-nothing : (negative : Bool) (size : ℕ) → inRange low high (number (signed negative (min cap size))) ≡ inRange low high (number (signed negative size))
+  cap-loses-nothing negative size = go negative (ltb size cap) refl
+    where
+      go : (negative t : Bool) → ltb size cap ≡ t → inRange low high (number (signed negative (min cap size))) ≡ inRange low high (number (signed negative size))
+      go negative true h = let e : min cap size ≡ size = omega (arith, ltb-true size cap h) in rw e
+      go true false h =
+          let a : cap ≤ size = omega (arith, ltb-false size cap h) in
+          let b : cap ≤ min cap size = omega arith in
+          out-below (min cap size) b ∙ sym (out-below size a)
+      go false false h =
+          let a : 9223372036854775807 < size = omega (arith, ltb-false size cap h) in
+          let b : 9223372036854775807 < min cap size = omega arith in
+          out-above (min cap size) b ∙ sym (out-above size a)
+
+  -- so a size that is kept has the answer of the field, and none is kept of a malformed one
+  pub kept-of : (negative good : Bool) (size n : ℕ) → kept good size ≡ Of n
+      → inRange low high (number (signed negative n)) ≡ inRange low high (cond good (number (signed negative size)) malformed)
+  kept-of negative true size n h = let e : n ≡ min cap size = cc in rw e (cap-loses-nothing negative size)
+  kept-of negative false size n h = let z : _≡_ {A = ℕ} 0 1 = cc in absurd (omega arith)
+
+  pub kept-bad : (negative good : Bool) (size : ℕ) → kept good size ≡ Bad → Malformed ≡ inRange low high (cond good (number (signed negative size)) malformed)
+  unfolding inRange
+  kept-bad negative true size h = let z : _≡_ {A = ℕ} 0 1 = cc in absurd (omega arith)
+  kept-bad negative false size h = refl
+
+  pub sized-of : (format : Format) (negative : Bool) (bs : List ℕ) (n : ℕ) → keptOf format bs ≡ Of n
+      → inRange low high (number (signed negative n)) ≡ inRange low high (unsigned format negative bs)
+  unfolding keptOf unsigned
+  sized-of Whole negative bs n h = kept-of negative (wholeGood bs) (wholeSize bs) n h
+  sized-of (Fixed decimals) negative bs n h = kept-of negative (fixedGood decimals bs) (fixedSize decimals bs) n h
+
+  pub sized-bad : (format : Format) (negative : Bool) (bs : List ℕ) → keptOf format bs ≡ Bad → Malformed ≡ inRange low high (unsigned format negative bs)
+  unfolding keptOf unsigned
+  sized-bad Whole negative bs h = kept-bad negative (wholeGood bs) (wholeSize bs) h
+  sized-bad (Fixed decimals) negative bs h = kept-bad negative (fixedGood decimals bs) (fixedSize decimals bs) h
+
+-- the number below 0 that the reader makes of a size
+pub small-pos : (n : ℕ) → n < 9223372036854775808 → toZ w64 n ≡ pos n
+small-pos n h = toZ-pos w64 n (omega arith)
+
+minus : (m : ℕ) → negsuc 0 -ℤ pos m ≡ negsuc m
+minus zero = refl
+minus (suc m) = rw (zero-add m)
+
+pub minus-is : (m : ℕ) → m < 9223372036854775808 → negsuc 0 -ℤ toZ w64 m ≡ negsuc m
+minus-is m h = rw (small-pos m h) (minus m)
+
+pub minus-fits : (m : ℕ) → m < 9223372036854775808 → SFits w64 (negsuc 0 -ℤ toZ w64 m)
+minus-fits m h = rw (minus-is m h) record { sfits = omega arith }

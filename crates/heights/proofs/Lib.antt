@@ -1,0 +1,5 @@
+pub mod Turning
+pub mod Filling
+pub mod Shares
+pub mod Apart
+pub mod Distance

@@ -1,0 +1,3 @@
+pub mod Height
+pub mod Exact
+pub mod Angles

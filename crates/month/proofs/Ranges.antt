@@ -1,0 +1,56 @@
+-- A prepared month's frequencies are the table's: where every frequency of the table is at most a bound, so is every constituent's.
+-- By recursion on the records.
+use mathlib.Core.Path.{_≡_, refl, sym, subst}
+use mathlib.Core.List.{List, [], _∷_}
+use Prim.Native.Nat.{ℕ, zero, suc, _+_, _≤_, zero-le}
+use native.Mathlib.Omega.{arith}
+use lib.ListN.{getD, List·getD-map}
+use Rattle.table.specs.Table.{Table, Frequency, Main, Shallow}
+use Rattle.prepared.specs.Prepared.{Constituent}
+use Rattle.station.specs.Station.{Station}
+use Rattle.station.specs.declared.Record.{Record}
+use Rattle.arguments.specs.Longitudes.{Longitudes}
+use Rattle.nodal.specs.Latitude.{Factors}
+use Rattle.nodal.specs.Satellites.{Pair}
+use Rattle.nodal.specs.Shallow as pairs
+use Rattle.nodal.specs.Shallow.{Corrected, pair}
+use Rattle.month.specs.Month.{Prepared, tooLarge, prepared, before, recordThen, recordsPrepared, definitionAt, argumentOf, correctionOf, constituent, frequenciesIn, monthOf}
+
+module _ (most : ℕ) (none : Constituent) (z : none .frequency ≡ 0) where
+  -- every frequency of a list
+  abbrev Within : List Constituent → Type 0
+  Within cs = (j : ℕ) → getD cs j none .frequency ≤ most
+
+  -- one constituent before the others
+  with-one : (c : Constituent) (rest : Prepared) (cs : List Constituent) → before (c ∷ []) rest ≡ prepared cs → c .frequency ≤ most → ((ds : List Constituent) → rest ≡ prepared ds → Within ds) → Within cs
+  unfolding before
+  with-one c (tooLarge k) cs e h ih = λ j. let w : _≡_ {A = ℕ} 0 1 = cc in absurd (omega arith)
+  with-one c (prepared ds) cs e h ih = subst Within (let w : c ∷ ds ≡ cs = cc in w) (joined (ih ds refl))
+    where
+      joined : Within ds → Within (c ∷ ds)
+      joined w zero = h
+      joined w (suc j) = w j
+
+  one-more : (co : Corrected) (k : ℕ) (c : Pair → Constituent) (rest : Prepared) (cs : List Constituent) → recordThen co k c rest ≡ prepared cs → ((xy : Pair) → c xy .frequency ≤ most) → ((ds : List Constituent) → rest ≡ prepared ds → Within ds) → Within cs
+  unfolding recordThen
+  one-more pairs.tooLarge k c rest cs e h ih = λ j. let w : _≡_ {A = ℕ} 0 1 = cc in absurd (omega arith)
+  one-more (pair xy) k c rest cs e h ih = with-one (c xy) rest cs e (h xy) ih
+
+  module _ (frequencies : List ℕ) (mains : List Main) (shallows : List Shallow) (g : Factors) (l : Longitudes) (within : (k : ℕ) → getD frequencies k 0 ≤ most) where
+    records-within : (k : ℕ) (rs : List Record) (cs : List Constituent) → recordsPrepared frequencies mains shallows g l k rs ≡ prepared cs → Within cs
+    unfolding recordsPrepared constituent
+    records-within k [] cs e = subst Within (let w : [] ≡ cs = cc in w) (λ j. subst (λ (n : ℕ). n ≤ most) (sym z) zero-le)
+    records-within k (r ∷ rs) cs e =
+        one-more (correctionOf g l mains (definitionAt mains shallows (r .place))) k (constituent frequencies r (argumentOf l mains (definitionAt mains shallows (r .place)))) (recordsPrepared frequencies mains shallows g l (k + 1) rs) cs e
+        (λ xy. within (r .place)) (λ ds d. records-within (k + 1) rs ds d)
+
+pub prepared-in-range : (t : Table) (s : Station) (year month : ℕ) (cs : List Constituent) (none : Constituent) → none .frequency ≡ 0
+    → ((unused : Frequency) → unused .frequency ≡ 0 → (k : ℕ) → getD (t .frequencies) k unused .frequency ≤ 4_999_999_999)
+    → monthOf t s year month ≡ prepared cs → (k : ℕ) → getD cs k none .frequency ≤ 4_999_999_999
+unfolding monthOf
+prepared-in-range t s year month cs none z within e =
+    records-within 4_999_999_999 none z (frequenciesIn t) (t .mains) (t .shallows) _ _
+    (λ k. subst (λ (n : ℕ). n ≤ 4_999_999_999) (sym (List·getD-map (λ f. f .frequency) (t .frequencies) k unused)) (within unused refl k)) 1 (s .records) cs e
+  where
+    unused : Frequency
+    unused = record { name = []; frequency = 0 }

@@ -1,0 +1,61 @@
+-- `month::first_main` meets its contract. The invariant: the rows that are left give the first row of all.
+use borrow.Author.Needs.{needs}
+use Rattle.month.proofs.first_main.Statement.{statement}
+use Rattle.month.proofs.first_main.Tie as tie
+use mathlib.Core.Path.{_≡_}
+use Prim.Native.Nat.{_-_}
+use native.Mathlib.Nat.{sub-zero}
+use native.Mathlib.Omega.{arith}
+use borrow.Author.Tests.{eq-eqb, ne-eqb}
+use Rattle.month.specs.View.{firstRow, placeIn}
+use Rattle.month.proofs.Search.{first-more, first-none}
+
+abbrev Inv-loop : tie.InvT-loop
+Inv-loop cards mains place row₀ row = firstRow (placeIn 3 cards) place row (mains - row) ≡ firstRow (placeIn 3 cards) place 0 mains
+
+abbrev μ-loop : tie.MeasureT-loop
+μ-loop cards mains place row₀ row = mains - row
+
+loop-holds : tie.Need-loop-holds Inv-loop μ-loop
+loop-holds c = simp sub-zero
+
+main-place-requires : tie.Need-main-place-requires Inv-loop μ-loop
+main-place-requires c κs = search needs
+
+returns : tie.Need-returns Inv-loop μ-loop
+returns c =
+    let a = c .before .before .before .before .args in
+    let s = c .before .before .before in
+    rw (first-more (placeIn 3 (a .cards .now)) (a .place) (s .loop .row) (a .mains) (c .before .before .loop-test .taken), ← c .before .main-place .ensures, eq-eqb (c .before .main-place .result) (a .place) (c .if1 .taken)) at (s .loop .inv)
+
+add-row : tie.Need-add-row Inv-loop μ-loop
+add-row c = search needs
+
+loop-less : tie.Need-loop-less Inv-loop μ-loop
+loop-less c = omega arith
+
+loop-again : tie.Need-loop-again Inv-loop μ-loop
+loop-again c =
+    let a = c .before .before .before .before .args in
+    let s = c .before .before .before in
+    rw (first-more (placeIn 3 (a .cards .now)) (a .place) (s .loop .row) (a .mains) (c .before .before .loop-test .taken), ← c .before .main-place .ensures, ne-eqb (c .before .main-place .result) (a .place) (c .if1 .left)) at (s .loop .inv)
+
+returns-2 : tie.Need-returns-2 Inv-loop μ-loop
+returns-2 c =
+    let a = c .before .before .args in
+    let s = c .before in
+    rw (first-none (placeIn 3 (a .cards .now)) (a .place) (s .loop .row) (a .mains) (c .loop-test .left)) at (s .loop .inv)
+
+pub first-main-spec : {M : Type 1} → statement M
+first-main-spec =
+    tie.close
+    (tie.spec
+    Inv-loop
+    μ-loop
+    loop-holds
+    main-place-requires
+    returns
+    add-row
+    loop-less
+    loop-again
+    returns-2)

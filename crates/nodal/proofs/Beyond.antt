@@ -1,0 +1,21 @@
+-- Past the rows, the columns or the entries of the table, the default stands. By the lengths of rows and lists. Assumes nothing.
+use mathlib.Core.Path.{_≡_, sym, _∙_}
+use mathlib.Core.List.{List}
+use Prim.Native.Nat.{ℕ, _+_, _*_, _≤_, _<_}
+use native.Mathlib.Nat.{le-trans, le-of-eq, zero-add}
+use lib.ListN.{length, getD, List·getD-eq-default}
+use Rattle.table.specs.View.{listed, rowOf}
+use Rattle.table.proofs.Rows.{row-at, row-length, listed-at, listed-length}
+
+module _ {A : Type 0} (none : A) where
+  pub past-columns : (width : ℕ) (xs : List A) (k j : ℕ) → width ≤ j → none ≡ getD (rowOf none width xs k) j none
+  past-columns width xs k j h = sym (List·getD-eq-default (rowOf none width xs k) none (le-trans (le-of-eq (row-length none width xs k)) h))
+
+  pub past-rows : (width : ℕ) (xs : List A) (k j : ℕ) → j < width → length xs ≤ width * k + j → none ≡ getD (rowOf none width xs k) j none
+  past-rows width xs k j h l = sym (row-at none width xs k j h ∙ List·getD-eq-default xs none l)
+
+  pub past-entries : (f : ℕ → A) (n k : ℕ) → n ≤ k → none ≡ getD (listed f 0 n) k none
+  past-entries f n k h = sym (List·getD-eq-default (listed f 0 n) none (le-trans (le-of-eq (listed-length f 0 n)) h))
+
+  pub entry-at : (f : ℕ → A) (n k : ℕ) → k < n → f k ≡ getD (listed f 0 n) k none
+  entry-at f n k h = sym (rw (zero-add k) at (listed-at f 0 n k none h))

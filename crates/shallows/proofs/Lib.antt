@@ -1,0 +1,4 @@
+pub mod Coefficients
+pub mod PartLaws
+pub mod Rows
+pub mod Last

@@ -1,0 +1,20 @@
+-- `shallows::defined::is_defined` meets its contract. A place is among those of two kinds where it is among one: `among-both`. Assumes nothing.
+use borrow.Author.Needs.{needs}
+use Rattle.shallows.proofs.defined.is_defined.Statement.{statement}
+use Rattle.shallows.proofs.defined.is_defined.Tie as tie
+use Rattle.cards.proofs.Defined.{among-both}
+
+is-among-requires : tie.Need-is-among-requires
+is-among-requires c κs = search needs
+
+returns : tie.Need-returns
+returns c = rw (among-both, ← c .before .is-among .ensures, c .if1 .taken)
+
+is-among-requires-2 : tie.Need-is-among-requires-2
+is-among-requires-2 c κs = search needs
+
+returns-2 : tie.Need-returns-2
+returns-2 c = rw (among-both, ← c .before .before .is-among .ensures, c .before .if1 .left) (c .is-among2 .ensures)
+
+pub is-defined-spec : {M : Type 1} → statement M
+is-defined-spec = tie.close (tie.spec is-among-requires returns is-among-requires-2 returns-2)

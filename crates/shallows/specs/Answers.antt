@@ -1,0 +1,53 @@
+-- What the code's answers on part 4 stand for in 01's terms.
+use Prim.Native.Nat.{ℕ}
+use mathlib.Core.List.{List}
+use lib.ListN.{getD}
+use lib.IntN.{ℤ}
+use Rattle.table.specs.Table.{Part, Shallow, Table}
+use Rattle.table.specs.View.{listed, partOf}
+use Rattle.cards.specs.Card.{Card, good, bad, _>>=_, number, Next, ends, gives, fails}
+use Rattle.cards.specs.Formats.{coefficientField}
+use Rattle.cards.specs.Shallows.{coefficient}
+use Rattle.cards.specs.Cards.{Outcome, accepted, refused}
+use Rattle.cards.specs.Answers.{numberOf}
+use Rattle.shallows.specs.declared.parts.PartRead.{PartRead}
+use Rattle.shallows.specs.declared.parts.PartRead.the-variants as part
+use Rattle.shallows.specs.declared.parts.ShallowStep.{ShallowStep}
+use Rattle.shallows.specs.declared.parts.ShallowStep.the-variants as step
+use Rattle.shallows.specs.declared.parts.ShallowRead.{ShallowRead}
+use Rattle.shallows.specs.declared.defined.Defined.{Defined}
+use Rattle.shallows.specs.declared.defined.Defined.the-variants.{All, Not}
+
+-- the coefficient in the field from column `at` on, after parts whose sizes add up to `sizes`
+abbrev pub coefficientIn : ℕ → List ℕ → ℕ → Card ℤ
+coefficientIn sizes line at = number line (coefficientField at) >>= coefficient sizes
+
+-- a part
+abbrev pub partGives : PartRead → Card Part
+partGives (part.Gives c m) = good (record { coefficient = c; main = m })
+partGives (part.Bad r) = bad (numberOf r)
+
+-- a shallow constituent
+abbrev pub madeOf : ℕ → List Part → Shallow
+madeOf place parts = record { place = place; parts = parts }
+
+abbrev pub withParts : ℕ → Card (List Part) → Card Shallow
+withParts place parts = parts >>= λ ps. good (madeOf place ps)
+
+-- the one with these rows, as the table's view reads them
+abbrev pub inRows : List ℕ → List ℤ → Shallow
+inRows card coefficients = madeOf (getD card 0 0) (listed (partOf card coefficients) 0 (getD card 1 0))
+
+-- a shallow-water card
+abbrev pub stepGives : ShallowStep → Shallow → Next Shallow
+stepGives step.Ends s = ends
+stepGives step.Gives s = gives s
+stepGives (step.Fails r) s = fails (numberOf r)
+
+abbrev pub shallowGives : ShallowRead → Next Shallow
+shallowGives r = stepGives (r .step) (inRows (r .card) (r .coefficients))
+
+-- the end of the file's reading: the table, or the line of a frequency that is not defined
+abbrev pub definedGives : Defined → Table → Outcome
+definedGives All table = accepted table
+definedGives (Not line) table = refused 5 line

@@ -1,0 +1,77 @@
+use borrow.Author.Needs.{needs}
+use Rattle.station.proofs.take_station.Statement.{statement}
+use Rattle.station.proofs.take_station.Tie as tie
+use Rattle.station.proofs.take_station.Reads as reads
+use Rattle.station.proofs.take_station.Lts as lts
+use Rattle.station.proofs.no_station.Reads as no-station-reads
+use Rattle.station.proofs.take_records.Reads as take-records-reads
+use mathlib.Core.Path.{_≡_, sym, ap, _∙_}
+use mathlib.Core.Bool.{true, false}
+use native.Mathlib.Omega.{arith}
+use lib.ListN.{length}
+use lib.Dec.{ltb}
+use lib.IntN.{pos, negsuc}
+use lib.Signed.{ltZ}
+use borrow.Author.Tests.{lt-ltb, le-ltb}
+use mir.Val.{toZ, ofZ}
+use Rattle.refusals.specs.declared.Refusal.the-variants.{OutOfRange, TooMany}
+use Rattle.station.specs.Station.{stationOutcome}
+use Rattle.station.specs.Posts.{recordsOf}
+use Rattle.station.proofs.Laws.{not-accepted}
+use Rattle.station.proofs.Copies.{kept-is, records-length}
+use mathlib.Core.Path.{refl}
+use mir.Syntax.{w32}
+use mir.ValLaws.{toZ-ofZ}
+
+-- src/lib.rt:174:9
+no-station-requires : tie.Need-no-station-requires
+no-station-requires c κs = search needs
+
+-- src/lib.rt:176:9
+returns : tie.Need-returns
+unfolding stationOutcome
+returns c =
+    let a = c .before .before in
+    let low : ltZ (a .args .latitude) (negsuc 5399) ≡ true = rw (toZ-ofZ w32 (a .args .latitude) (a .fits .latitude)) at (c .if1 .taken) in
+    record { says = simp low; keeps = not-accepted _ OutOfRange 0 refl }
+
+-- src/lib.rt:182:9
+returns-2 : tie.Need-returns-2
+unfolding stationOutcome
+returns-2 c =
+    let a = c .before .before .before in
+    let low : ltZ (a .args .latitude) (negsuc 5399) ≡ false = rw (toZ-ofZ w32 (a .args .latitude) (a .fits .latitude)) at (c .before .if1 .left) in
+    let high : ltZ (pos 5400) (a .args .latitude) ≡ true = rw (toZ-ofZ w32 (a .args .latitude) (a .fits .latitude)) at (c .if2 .taken) in
+    record { says = simp (low, high); keeps = not-accepted _ OutOfRange 0 refl }
+
+-- src/lib.rt:188:9
+returns-3 : tie.Need-returns-3
+unfolding stationOutcome
+returns-3 c =
+    let a = c .before .before .before .before in
+    let low : ltZ (a .args .latitude) (negsuc 5399) ≡ false = rw (toZ-ofZ w32 (a .args .latitude) (a .fits .latitude)) at (c .before .before .if1 .left) in
+    let high : ltZ (pos 5400) (a .args .latitude) ≡ false = rw (toZ-ofZ w32 (a .args .latitude) (a .fits .latitude)) at (c .before .if2 .left) in
+    let long : ltb 146 (length (recordsOf (a .args .rows) (a .args .n))) ≡ true = rw (records-length (a .args .rows .places) (a .args .rows .amplitudes) (a .args .rows .phases) 0 (a .args .n)) (lt-ltb _ _ (c .if3 .taken)) in
+    record { says = simp (low, high, long); keeps = not-accepted _ TooMany 147 refl }
+
+-- src/lib.rt:193:5
+take-records-requires : tie.Need-take-records-requires
+take-records-requires c κs = search needs
+
+-- src/lib.rt:171:1
+returns-4 : tie.Need-returns-4
+unfolding stationOutcome
+returns-4 c =
+    let a = c .before .before .before .before .before in
+    let low : ltZ (a .args .latitude) (negsuc 5399) ≡ false = rw (toZ-ofZ w32 (a .args .latitude) (a .fits .latitude)) at (c .before .before .before .if1 .left) in
+    let high : ltZ (pos 5400) (a .args .latitude) ≡ false = rw (toZ-ofZ w32 (a .args .latitude) (a .fits .latitude)) at (c .before .before .if2 .left) in
+    let short : ltb 146 (length (recordsOf (a .args .rows) (a .args .n))) ≡ false = rw (records-length (a .args .rows .places) (a .args .rows .amplitudes) (a .args .rows .phases) 0 (a .args .n)) (le-ltb _ _ (c .before .if3 .left)) in
+    record {
+      says = simp (low, high, short) (c .take-records .ensures .says);
+      keeps = λ e. rw (c .take-records .ensures .keeps e, c .before .before .before .before .no-station .ensures, toZ-ofZ w32 (a .args .latitude) (a .fits .latitude)) (kept-is (a .args .latitude) (a .args .rows) (a .args .n) (c .before .if3 .left));
+    }
+
+pub take-station-spec : {M : Type 1} → statement M
+take-station-spec =
+    tie.close
+    (tie.spec no-station-requires returns returns-2 returns-3 take-records-requires returns-4)

@@ -1,0 +1,42 @@
+-- 01, "Satellites and weights": what a station is. "Turned down by the input": how its records are checked, and in which order.
+-- Assumes nothing.
+use Prim.Native.Nat.{ℕ, _+_}
+use mathlib.Core.List.{List, [], _∷_}
+use mathlib.Core.Bool.{Bool, true, false, cond}
+use lib.ListN.{length}
+use lib.Dec.{eqb, leb, ltb}
+use lib.IntN.{ℤ, pos, negsuc}
+use lib.Signed.{ltZ}
+use Rattle.refusals.specs.Outcome.{Outcome, accepted, refused, refuseIf, andThen}
+use Rattle.station.specs.declared.Record.{Record}
+
+-- "A station is a latitude in signed minutes [..] and at most 146 constituents [..] lent as one row of records: place, amplitude, phase."
+pub record Station : Type 0 where
+  pub latitude : ℤ
+  pub records : List Record
+
+-- "place repeated": whether a place stands among those of the records before
+unfoldable pub repeated : ℕ → List ℕ → Bool
+repeated place [] = false
+repeated place (earlier ∷ rest) = cond (eqb earlier place) true (repeated place rest)
+
+-- "each record's place (5, 4), amplitude, phase": the record number k, from 1, after records with the places `earlier`,
+-- in a table with so many frequencies. "Amplitude is 0 to 65,535 [..], phase lag 0 to 35,999."
+unfoldable pub recordOutcome : ℕ → List ℕ → ℕ → Record → Outcome
+recordOutcome frequencies earlier k r =
+    refuseIf (leb frequencies (r .place)) 5 k
+    (refuseIf (repeated (r .place) earlier) 4 k
+    (refuseIf (ltb 65_535 (r .amplitude)) 3 k (refuseIf (ltb 35_999 (r .phase)) 3 k accepted)))
+
+-- the records from number k on, each in its turn
+unfoldable pub recordsOutcome : ℕ → List ℕ → ℕ → List Record → Outcome
+recordsOutcome frequencies earlier k [] = accepted
+recordsOutcome frequencies earlier k (r ∷ rs) =
+    andThen (recordOutcome frequencies earlier k r) (recordsOutcome frequencies (r .place ∷ earlier) (k + 1) rs)
+
+-- "A station checks latitude (place 0), count (place 147, the first record too many), then each record". Latitude is -5,400 to 5,400.
+unfoldable pub stationOutcome : ℕ → ℤ → List Record → Outcome
+stationOutcome frequencies latitude rs =
+    refuseIf (ltZ latitude (negsuc 5_399)) 3 0
+    (refuseIf (ltZ (pos 5_400) latitude) 3 0
+    (refuseIf (ltb 146 (length rs)) 6 147 (recordsOutcome frequencies [] 1 rs)))

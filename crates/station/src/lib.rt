@@ -1,0 +1,208 @@
+// A station: a latitude and its constituents' records, accepted whole or refused at the first record that is at fault.
+ghost use mathlib.Core.Path.{_≡_};
+ghost use mathlib.Core.List.{[]};
+ghost use Prim.Native.Nat.{_+_, _%_, _<_, _≤_, min};
+ghost use lib.ListN.{length, getD};
+ghost use Rattle.refusals.specs.Outcome.{outcomeOf};
+ghost use Rattle.station.specs.Station.{repeated, recordOutcome};
+ghost use Rattle.station.specs.Rows.{noRows, putRow, rowsUpto, placesBefore, recordAt, noStation, putRecord};
+ghost use Rattle.station.specs.Posts.{RecordsPost, StationPost};
+use refusals::Answer;
+use refusals::Refusal;
+
+// One of a station's constituents, as it is lent: its place in the table, its amplitude and its phase lag.
+pub struct Record {
+    pub place: u8,
+    pub amplitude: u32,
+    pub phase: u32,
+}
+
+// The records taken apart: an array for each field.
+pub struct Rows {
+    pub places: [u8; 146],
+    pub amplitudes: [u32; 146],
+    pub phases: [u32; 146],
+}
+
+// An accepted station: amplitudes in tenths of a millimetre, phase lags in hundredths of a degree.
+pub struct Station {
+    pub latitude: i32,
+    pub count: usize,
+    pub places: [u8; 146],
+    pub amplitudes: [u16; 146],
+    pub lags: [u16; 146],
+}
+
+// What a station call says, and the station where it is accepted.
+pub struct Taken {
+    pub answer: Answer,
+    pub station: Station,
+}
+
+// A station with no records.
+pub fn no_station(latitude: i32) -> Station
+    ensures { λ r. ⌜ r ≡ noStation latitude ⌝ }
+{
+    Station {
+        latitude,
+        count: 0,
+        places: [0u8; 146],
+        amplitudes: [0u16; 146],
+        lags: [0u16; 146],
+    }
+}
+
+// Whether one of the first k places is this one.
+fn is_repeated(places: &[u8; 146], k: usize, place: u8) -> bool
+    requires { ⌜ k ≤ 146 ⌝ }
+    ensures { λ r. ⌜ r ≡ repeated place (placesBefore (now (places .entry)) k) ⌝ }
+{
+    let mut left = k;
+    while 0 < left {
+        left -= 1;
+        if places[left] == place {
+            return true;
+        }
+    }
+    false
+}
+
+// Record k, from 0: its place is in the table and new, its amplitude and its phase lag are in range.
+fn record_answer(frequencies: usize, rows: Rows, k: usize) -> Answer
+    requires { ⌜ k < 146 ⌝ }
+    ensures { λ r. ⌜ outcomeOf r ≡ recordOutcome frequencies (placesBefore (rows .places) k) (k + 1) (recordAt rows k) ⌝ }
+{
+    let place = rows.places[k];
+    if frequencies <= place as usize {
+        return Answer::Refused(Refusal::Missing, k + 1);
+    }
+    if is_repeated(&rows.places, k, place) {
+        return Answer::Refused(Refusal::BadName, k + 1);
+    }
+    if 65_535 < rows.amplitudes[k] {
+        return Answer::Refused(Refusal::OutOfRange, k + 1);
+    }
+    if 35_999 < rows.phases[k] {
+        return Answer::Refused(Refusal::OutOfRange, k + 1);
+    }
+    Answer::Accepted
+}
+
+// Rows with one more record.
+fn put(rows: Rows, k: usize, place: u8, amplitude: u32, phase: u32) -> Rows
+    requires { ⌜ k < 146 ⌝ }
+    ensures { λ r. ⌜ r ≡ putRow rows k place amplitude phase ⌝ }
+{
+    let mut out = rows;
+    out.places[k] = place;
+    out.amplitudes[k] = amplitude;
+    out.phases[k] = phase;
+    out
+}
+
+// No rows yet.
+fn none() -> Rows
+    ensures { λ r. ⌜ r ≡ noRows ⌝ }
+{
+    Rows {
+        places: [0u8; 146],
+        amplitudes: [0u32; 146],
+        phases: [0u32; 146],
+    }
+}
+
+// Past 146 nothing is taken: a longer row is refused by its count.
+fn at_most(n: usize) -> usize
+    ensures { λ r. ⌜ r ≡ min n 146 ⌝ }
+{
+    if n < 146 { n } else { 146 }
+}
+
+// The records taken apart, the first 146 of them: the thin function over the lent slice of structs. Its proof is a walk by hand.
+pub fn rows_of(rs: &[Record]) -> Rows
+    ensures { λ r. ⌜ r ≡ rowsUpto (now (rs .entry)) (min (length (now (rs .entry))) 146) ⌝ }
+{
+    let m = at_most(rs.len());
+    let mut rows = none();
+    let mut i: usize = 0;
+    while i < m {
+        let r = rs[i];
+        rows = put(rows, i, r.place, r.amplitude, r.phase);
+        i += 1;
+    }
+    rows
+}
+
+// The station with record k kept.
+fn with_record(station: Station, k: usize, place: u8, amplitude: u16, phase: u16) -> Station
+    requires { ⌜ k < 146 ⌝ }
+    ensures { λ r. ⌜ r ≡ putRecord station k place amplitude phase ⌝ }
+{
+    let mut out = station;
+    out.places[k] = place;
+    out.amplitudes[k] = amplitude;
+    out.lags[k] = phase;
+    out.count = k + 1;
+    out
+}
+
+// The low sixteen bits, which are all of a number that is in range.
+fn narrow(x: u32) -> u16
+    ensures { λ r. ⌜ r ≡ x % 65_536 ⌝ }
+{
+    (x % 65_536) as u16
+}
+
+// The first n records: each is checked in its turn, and added to the station, which starts with none.
+fn take_records(frequencies: usize, empty: Station, n: usize, rows: Rows) -> Taken
+    requires { ⌜ n ≤ 146 ⌝ }
+    ensures { λ r. ⌜ RecordsPost frequencies empty n rows r ⌝ }
+{
+    let mut station = empty;
+    let mut k = 0;
+    while k < n {
+        let answer = record_answer(frequencies, rows, k);
+        match answer {
+            Answer::Accepted => {
+                let place = rows.places[k];
+                let amplitude = narrow(rows.amplitudes[k]);
+                let phase = narrow(rows.phases[k]);
+                station = with_record(station, k, place, amplitude, phase);
+                k += 1;
+            }
+            Answer::Refused(_, _) => {
+                return Taken { answer, station };
+            }
+        }
+    }
+    Taken {
+        answer: Answer::Accepted,
+        station,
+    }
+}
+
+// A station of n records, of which the first 146 are in the rows: accepted whole, or refused with 01's number and place.
+pub fn take_station(frequencies: usize, latitude: i32, n: usize, rows: Rows) -> Taken
+    ensures { λ r. ⌜ StationPost frequencies latitude n rows r ⌝ }
+{
+    let station = no_station(latitude);
+    if latitude < -5_400 {
+        return Taken {
+            answer: Answer::Refused(Refusal::OutOfRange, 0),
+            station,
+        };
+    }
+    if 5_400 < latitude {
+        return Taken {
+            answer: Answer::Refused(Refusal::OutOfRange, 0),
+            station,
+        };
+    }
+    if 146 < n {
+        return Taken {
+            answer: Answer::Refused(Refusal::TooMany, 147),
+            station,
+        };
+    }
+    take_records(frequencies, station, n, rows)
+}

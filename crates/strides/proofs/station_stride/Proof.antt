@@ -1,0 +1,77 @@
+use borrow.Author.Needs.{needs}
+use Rattle.strides.proofs.station_stride.Statement.{statement}
+use Rattle.strides.proofs.station_stride.Tie as tie
+use Rattle.strides.proofs.station_stride.Reads as reads
+use Rattle.strides.proofs.station_stride.Lts as lts
+use Rattle.strides.proofs.amplitude_of.Reads as amplitude-of-reads
+use Rattle.turns.proofs.stride.Reads as stride-reads
+use Rattle.strides.specs.Strides.{stationStride}
+use mathlib.Core.Path.{_≡_, _∙_}
+use mathlib.Core.List.{[], _∷_}
+use Rattle.columns.specs.Columns.{padded}
+use Rattle.table.specs.View.{tableOf}
+use Rattle.station.specs.Rows.{stationOf}
+use Rattle.strides.specs.Strides.{amplitudeOf}
+
+-- src/lib.rt:44:43
+slice-aggregate-amplitude-of : tie.Need-slice-aggregate-amplitude-of
+slice-aggregate-amplitude-of c = search needs
+
+-- src/lib.rt:44:9
+amplitude-of-requires : tie.Need-amplitude-of-requires
+amplitude-of-requires c κs = search needs
+
+-- src/lib.rt:45:43
+slice-aggregate-amplitude-of-2 : tie.Need-slice-aggregate-amplitude-of-2
+slice-aggregate-amplitude-of-2 c = search needs
+
+-- src/lib.rt:45:9
+amplitude-of-requires-2 : tie.Need-amplitude-of-requires-2
+amplitude-of-requires-2 c κs = search needs
+
+-- src/lib.rt:46:43
+slice-aggregate-amplitude-of-3 : tie.Need-slice-aggregate-amplitude-of-3
+slice-aggregate-amplitude-of-3 c = search needs
+
+-- src/lib.rt:46:9
+amplitude-of-requires-3 : tie.Need-amplitude-of-requires-3
+amplitude-of-requires-3 c κs = search needs
+
+-- src/lib.rt:47:43
+slice-aggregate-amplitude-of-4 : tie.Need-slice-aggregate-amplitude-of-4
+slice-aggregate-amplitude-of-4 c = search needs
+
+-- src/lib.rt:47:9
+amplitude-of-requires-4 : tie.Need-amplitude-of-requires-4
+amplitude-of-requires-4 c κs = search needs
+
+-- src/lib.rt:48:5
+stride-requires : tie.Need-stride-requires
+stride-requires c κs = search needs
+
+-- src/lib.rt:40:1
+returns : tie.Need-returns
+unfolding stationStride padded
+returns c =
+    let t = tableOf (c .before .before .before .before .before .before .before .before .before .args .table) in
+    let s = stationOf (c .before .before .before .before .before .before .before .before .before .args .station) in
+    let k1 : c .before .before .before .before .before .before .before .amplitude-of .result ≡ amplitudeOf t s (75 ∷ 49 ∷ 32 ∷ 32 ∷ 32 ∷ []) = c .before .before .before .before .before .before .before .amplitude-of .ensures in
+    let o1 : c .before .before .before .before .before .amplitude-of2 .result ≡ amplitudeOf t s (79 ∷ 49 ∷ 32 ∷ 32 ∷ 32 ∷ []) = c .before .before .before .before .before .amplitude-of2 .ensures in
+    let m2 : c .before .before .before .amplitude-of3 .result ≡ amplitudeOf t s (77 ∷ 50 ∷ 32 ∷ 32 ∷ 32 ∷ []) = c .before .before .before .amplitude-of3 .ensures in
+    let s2 : c .before .amplitude-of4 .result ≡ amplitudeOf t s (83 ∷ 50 ∷ 32 ∷ 32 ∷ 32 ∷ []) = c .before .amplitude-of4 .ensures in
+    (rw (← k1, ← o1, ← m2, ← s2) (c .stride .ensures .0), c .stride .ensures .1)
+
+pub station-stride-spec : {M : Type 1} → statement M
+station-stride-spec =
+    tie.close
+    (tie.spec
+    slice-aggregate-amplitude-of
+    amplitude-of-requires
+    slice-aggregate-amplitude-of-2
+    amplitude-of-requires-2
+    slice-aggregate-amplitude-of-3
+    amplitude-of-requires-3
+    slice-aggregate-amplitude-of-4
+    amplitude-of-requires-4
+    stride-requires
+    returns)

@@ -1,0 +1,119 @@
+// The table that a card file gives, in flat arrays of rows. Types are so narrow that no sum over the table can overflow.
+ghost use mathlib.Core.Path.{_≡_};
+ghost use Prim.Native.Nat.{_+_, _≤_};
+ghost use lib.ListN.{length, getD};
+ghost use lib.Seq.{sets};
+ghost use lib.IntN.{pos};
+ghost use Rattle.table.specs.Table.{noCards};
+ghost use Rattle.table.specs.View.{tableOf};
+
+// 01's table; `specs/View.antt` says what each row holds.
+pub struct Table {
+    pub frequencies: usize,
+    pub names: [u8; 800],
+    pub speeds: [u64; 160],
+    pub longitudes: [u64; 5],
+    pub increases: [u64; 5],
+    pub mains: usize,
+    pub maincards: [u16; 192],
+    pub mainangles: [i8; 448],
+    pub satellites: usize,
+    pub satelliteangles: [i8; 1024],
+    pub satelliteratios: [u32; 512],
+    pub shallows: usize,
+    pub shallowcards: [u16; 768],
+    pub coefficients: [i8; 512],
+}
+
+// A table with no entry.
+pub fn no_cards() -> Table
+    ensures { λ r. ⌜ tableOf r ≡ noCards ⌝ }
+{
+    Table {
+        frequencies: 0,
+        names: [0u8; 800],
+        speeds: [0u64; 160],
+        longitudes: [0u64; 5],
+        increases: [0u64; 5],
+        mains: 0,
+        maincards: [0u16; 192],
+        mainangles: [0i8; 448],
+        satellites: 0,
+        satelliteangles: [0i8; 1024],
+        satelliteratios: [0u32; 512],
+        shallows: 0,
+        shallowcards: [0u16; 768],
+        coefficients: [0i8; 512],
+    }
+}
+
+// Number i of the row of bytes, or 0 past its end.
+pub fn at_u8(xs: &[u8], i: usize) -> u8
+    ensures { λ r. ⌜ r ≡ getD (now (xs .entry)) i 0 ⌝ }
+{
+    if i < xs.len() { xs[i] } else { 0 }
+}
+
+// Number i, or 0 past the end.
+pub fn at_u16(xs: &[u16], i: usize) -> u16
+    ensures { λ r. ⌜ r ≡ getD (now (xs .entry)) i 0 ⌝ }
+{
+    if i < xs.len() { xs[i] } else { 0 }
+}
+
+// Number i, or 0 past the end.
+pub fn at_u32(xs: &[u32], i: usize) -> u32
+    ensures { λ r. ⌜ r ≡ getD (now (xs .entry)) i 0 ⌝ }
+{
+    if i < xs.len() { xs[i] } else { 0 }
+}
+
+// Number i, or 0 past the end.
+pub fn at_u64(xs: &[u64], i: usize) -> u64
+    ensures { λ r. ⌜ r ≡ getD (now (xs .entry)) i 0 ⌝ }
+{
+    if i < xs.len() { xs[i] } else { 0 }
+}
+
+// Number i, or 0 past the end.
+pub fn at_i8(xs: &[i8], i: usize) -> i8
+    ensures { λ r. ⌜ r ≡ getD (now (xs .entry)) i (pos 0) ⌝ }
+{
+    if i < xs.len() { xs[i] } else { 0 }
+}
+
+// Writes a row over the numbers from number `at` on.
+pub fn put_u16(xs: &mut [u16], at: usize, row: &[u16])
+    requires { ⌜ at + length (now row) ≤ length (now xs) ⌝ }
+    ensures { λ _. ⌜ now (xs .exit) ≡ sets (now (xs .entry)) at (now (row .entry)) ⌝ }
+{
+    let mut j = 0;
+    while j < row.len() {
+        xs[at + j] = row[j];
+        j = j + 1;
+    }
+}
+
+// Writes a row over the numbers from number `at` on.
+pub fn put_u32(xs: &mut [u32], at: usize, row: &[u32])
+    requires { ⌜ at + length (now row) ≤ length (now xs) ⌝ }
+    ensures { λ _. ⌜ now (xs .exit) ≡ sets (now (xs .entry)) at (now (row .entry)) ⌝ }
+{
+    let mut j = 0;
+    while j < row.len() {
+        xs[at + j] = row[j];
+        j = j + 1;
+    }
+}
+
+// Writes a row over the numbers from number `at` on.
+pub fn put_i8(xs: &mut [i8], at: usize, row: &[i8])
+    requires { ⌜ at + length (now row) ≤ length (now xs) ⌝ }
+    ensures { λ _. ⌜ now (xs .exit) ≡ sets (now (xs .entry)) at (now (row .entry)) ⌝ }
+{
+    let mut j = 0;
+    while j < row.len() {
+        xs[at + j] = row[j];
+        j = j + 1;
+    }
+}

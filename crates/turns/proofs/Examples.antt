@@ -1,0 +1,44 @@
+-- 01, "Checked against": "K1+O1 against M2+S2"; and the search on slopes that fall evenly. By computing. Assumes nothing.
+use mathlib.Core.Path.{_≡_, refl}
+use mathlib.Core.Bool.{true}
+use mathlib.Core.List.{[], _∷_}
+use Prim.Native.Nat.{ℕ, _*_}
+use lib.IntN.{subℕ}
+use Rattle.turns.specs.Slope.{rising}
+use Rattle.turns.specs.Stride.{strideBy}
+use Rattle.turns.specs.Search.{differ, cutFrom, turnsFrom, turnsOf}
+
+pub quarter : strideBy 100 400 ≡ 180
+quarter = refl
+
+pub over-quarter : strideBy 101 400 ≡ 30
+over-quarter = refl
+
+pub over-three : strideBy 301 100 ≡ 360
+over-three = refl
+
+pub three : strideBy 300 100 ≡ 30
+three = refl
+
+pub none : strideBy 0 0 ≡ 180
+none = refl
+
+-- the slope 10 - minute: 0, which counts as rising, at minute 10
+pub zero-rises : turnsOf (λ (m : ℕ). subℕ 10 m) 4 0 20 ≡ record { minute = 10; high = true } ∷ []
+unfolding turnsFrom cutFrom differ rising
+zero-rises = refl
+
+-- a stride of one minute is not cut
+pub stride-of-one : turnsOf (λ (m : ℕ). subℕ 10 m) 1 0 20 ≡ record { minute = 10; high = true } ∷ []
+unfolding turnsFrom cutFrom differ rising
+stride-of-one = refl
+
+-- the slope 21 - 2 × minute: 1 at minute 10, -1 at 11
+pub earlier-if-equal : turnsOf (λ (m : ℕ). subℕ 21 (2 * m)) 4 0 20 ≡ record { minute = 10; high = true } ∷ []
+unfolding turnsFrom cutFrom differ rising
+earlier-if-equal = refl
+
+-- the stride from 8 to 12 would pass the last minute
+pub past-the-last : turnsOf (λ (m : ℕ). subℕ 10 m) 4 0 11 ≡ []
+unfolding turnsFrom cutFrom differ rising
+past-the-last = refl

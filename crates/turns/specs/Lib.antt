@@ -1,0 +1,5 @@
+pub mod Slope
+pub mod Stride
+pub mod Search
+pub mod Written
+pub mod Posts
