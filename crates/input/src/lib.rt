@@ -4,7 +4,6 @@ ghost use Prim.Native.Nat.{_+_, _-_, _≤_, _<_};
 ghost use lib.Dec.{eqb};
 ghost use lib.ListN.{length};
 ghost use Rattle.input.specs.Window.{Within, Ends, oneIf, feedsFrom};
-
 use libc::STDIN_FILENO;
 use std::num::wrapping_add_u64;
 

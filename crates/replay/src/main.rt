@@ -235,7 +235,19 @@ fn answer_call(
             series_call(clock, window, heights, page, at, line, start, step, count)
         }
         Call::Turns(first, last, m, h) => {
-            turns_call(clock, window, minutes, heights, page, at, line, first, last, m, h)
+            turns_call(
+                clock,
+                window,
+                minutes,
+                heights,
+                page,
+                at,
+                line,
+                first,
+                last,
+                m,
+                h,
+            )
         }
         Call::Bad => stop(clock, window, page, at, line),
     }
@@ -267,7 +279,17 @@ fn one_call(
     let heard = reading::read_call(buffer, held);
     let next = heard.window;
     let call = heard.call;
-    answer_call(call, heard.line, clock, next, buffer, minutes, heights, page, at)
+    answer_call(
+        call,
+        heard.line,
+        clock,
+        next,
+        buffer,
+        minutes,
+        heights,
+        page,
+        at,
+    )
 }
 
 // Calls until the run ends. A proved loop has to end, and nothing says that the input does, so the calls are counted down from a number that no run uses up.

@@ -1,14 +1,12 @@
-use Rattle.input.proofs.feeds.Statement.{statement}
-use Rattle.input.proofs.feeds.Tie as tie
-use Rattle.input.proofs.feeds.Reads as reads
-use Rattle.input.proofs.feeds.Lts as lts
-use Rattle.input.proofs.feed.Reads as feed-reads
+-- `input::feeds` meets its contract. The loop's invariant: the feeds passed and those left are all. Assumes nothing.
 use mathlib.Core.Path.{_≡_}
 use Prim.Native.Nat.{_+_, _-_, _≤_}
 use native.Mathlib.Omega.{arith}
 use borrow.Author.Needs.{needs}
 use Rattle.input.specs.Window.{feedsFrom}
 use Rattle.input.proofs.Counting.{feeds-more, feeds-none}
+use Rattle.input.proofs.feeds.Statement.{statement}
+use Rattle.input.proofs.feeds.Tie as tie
 
 abbrev Inv-loop : tie.InvT-loop
 Inv-loop buffer from to passed₀ i₀ passed i = (from ≤ i) × (i ≤ to) × (passed ≤ i - from) × (passed + feedsFrom buffer i (to - i) ≡ feedsFrom buffer from (to - from))
@@ -16,38 +14,30 @@ Inv-loop buffer from to passed₀ i₀ passed i = (from ≤ i) × (i ≤ to) × 
 abbrev μ-loop : tie.MeasureT-loop
 μ-loop buffer from to passed₀ i₀ passed i = to - i
 
--- src/lib.rt:155:5
 loop-holds : tie.Need-loop-holds Inv-loop μ-loop
 loop-holds c = search needs
 
--- src/lib.rt:156:24
 shared-slice-read-feed : tie.Need-shared-slice-read-feed Inv-loop μ-loop
 shared-slice-read-feed c = search needs
 
--- src/lib.rt:156:19
 feed-requires : tie.Need-feed-requires Inv-loop μ-loop
 feed-requires c κs = search needs
 
--- src/lib.rt:156:9
 add-passed : tie.Need-add-passed Inv-loop μ-loop
 add-passed c = search needs
 
--- src/lib.rt:157:9
 add-i : tie.Need-add-i Inv-loop μ-loop
 add-i c = search needs
 
--- src/lib.rt:155:5
 loop-less : tie.Need-loop-less Inv-loop μ-loop
 loop-less c = search needs
 
--- src/lib.rt:155:5
 loop-again : tie.Need-loop-again Inv-loop μ-loop
 loop-again c =
     let s = c .before .before .before in
     let a = s .before .before .args in
     (search needs, search needs, search needs, omega (arith, feeds-more (a .buffer .now) (s .loop .i) (a .to) (c .before .before .loop-test .taken), c .feed .ensures .0))
 
--- src/lib.rt:149:1
 returns : tie.Need-returns Inv-loop μ-loop
 returns c =
     let s = c .before in

@@ -1,12 +1,10 @@
-use Rattle.input.proofs.gather.Statement.{statement}
-use Rattle.input.proofs.gather.Tie as tie
-use Rattle.input.proofs.gather.Reads as reads
-use Rattle.input.proofs.gather.Lts as lts
-use Rattle.input.proofs.more.Reads as more-reads
-use lib.ListN.{length}
+-- `input::gather` meets its contract: each read leaves the window in the buffer. The measure is the turns left. Assumes nothing.
 use mathlib.Core.Path.{_≡_}
+use lib.ListN.{length}
 use borrow.Author.Needs.{needs}
 use Rattle.input.specs.Window.{Within}
+use Rattle.input.proofs.gather.Statement.{statement}
+use Rattle.input.proofs.gather.Tie as tie
 
 abbrev Inv-loop : tie.InvT-loop
 Inv-loop buffer₀ bytes turns₀ held₀ buffer turns held = (length buffer ≡ length buffer₀) × Within (length buffer₀) held
@@ -14,47 +12,36 @@ Inv-loop buffer₀ bytes turns₀ held₀ buffer turns held = (length buffer ≡
 abbrev μ-loop : tie.MeasureT-loop
 μ-loop buffer₀ bytes turns₀ held₀ buffer turns held = turns
 
--- src/lib.rt:114:21
 add-turns : tie.Need-add-turns Inv-loop μ-loop
 add-turns c = search needs
 
--- src/lib.rt:116:5
 loop-holds : tie.Need-loop-holds Inv-loop μ-loop
 loop-holds c = search needs
 
--- src/lib.rt:117:21
 sub-if1 : tie.Need-sub-if1 Inv-loop μ-loop
 sub-if1 c = search needs
 
--- src/lib.rt:118:13
 same-length : tie.Need-same-length Inv-loop μ-loop
 same-length c = search needs
 
--- src/lib.rt:118:13
 returns : tie.Need-returns Inv-loop μ-loop
 returns c = search needs
 
--- src/lib.rt:120:9
 more-requires : tie.Need-more-requires Inv-loop μ-loop
 more-requires c κs = search needs
 
--- src/lib.rt:121:9
 sub-turns : tie.Need-sub-turns Inv-loop μ-loop
 sub-turns c = search needs
 
--- src/lib.rt:116:5
 loop-less : tie.Need-loop-less Inv-loop μ-loop
 loop-less c = search needs
 
--- src/lib.rt:116:5
 loop-again : tie.Need-loop-again Inv-loop μ-loop
 loop-again c = search needs
 
--- src/lib.rt:110:1
 same-length-2 : tie.Need-same-length-2 Inv-loop μ-loop
 same-length-2 c = search needs
 
--- src/lib.rt:110:1
 returns-2 : tie.Need-returns-2 Inv-loop μ-loop
 returns-2 c = search needs
 

@@ -1,146 +1,105 @@
+-- `replay::answer_call` meets its contract, by what each call's function says. Assumes nothing.
 use borrow.Author.Needs.{needs}
+use Rattle.replay.proofs.Steps.{step-made, step-kept}
 use Rattle.replay.proofs.answer_call.Statement.{statement}
 use Rattle.replay.proofs.answer_call.Tie as tie
-use Rattle.replay.proofs.answer_call.Reads as reads
-use Rattle.replay.proofs.answer_call.Lts as lts
-use Rattle.replay.proofs.cards_call.Reads as cards-call-reads
-use Rattle.replay.proofs.date_call.Reads as date-call-reads
-use Rattle.replay.proofs.height_call.Reads as height-call-reads
-use Rattle.replay.proofs.series_call.Reads as series-call-reads
-use Rattle.replay.proofs.station_call.Reads as station-call-reads
-use Rattle.replay.proofs.stop.Reads as stop-reads
-use Rattle.replay.proofs.turns_call.Reads as turns-call-reads
-use Rattle.replay.proofs.Steps.{step-made, step-kept}
 
--- src/main.rt:228:21
 enum-known-call : tie.Need-enum-known-call
 enum-known-call c = search needs
 
--- src/main.rt:228:31
 cards-call-requires : tie.Need-cards-call-requires
 cards-call-requires c κs = search needs
 
--- src/main.rt:229:23
 enum-known-call-2 : tie.Need-enum-known-call-2
 enum-known-call-2 c = search needs
 
--- src/main.rt:230:13
 station-call-requires : tie.Need-station-call-requires
 station-call-requires c κs = search needs
 
--- src/main.rt:232:20
 enum-known-call-3 : tie.Need-enum-known-call-3
 enum-known-call-3 c = search needs
 
--- src/main.rt:232:36
 date-call-requires : tie.Need-date-call-requires
 date-call-requires c κs = search needs
 
--- src/main.rt:233:22
 enum-known-call-4 : tie.Need-enum-known-call-4
 enum-known-call-4 c = search needs
 
--- src/main.rt:233:33
 height-call-requires : tie.Need-height-call-requires
 height-call-requires c κs = search needs
 
--- src/main.rt:234:22
 enum-known-call-5 : tie.Need-enum-known-call-5
 enum-known-call-5 c = search needs
 
--- src/main.rt:235:13
 series-call-requires : tie.Need-series-call-requires
 series-call-requires c κs = search needs
 
--- src/main.rt:237:21
 enum-known-call-6 : tie.Need-enum-known-call-6
 enum-known-call-6 c = search needs
 
--- src/main.rt:238:13
 turns-call-requires : tie.Need-turns-call-requires
 turns-call-requires c κs = search needs
 
--- src/main.rt:240:42
 enum-told : tie.Need-enum-told
 enum-told c = search needs
 
--- src/main.rt:240:22
 stop-requires : tie.Need-stop-requires
 stop-requires c κs = search needs
 
--- src/main.rt:212:1
 same-length : tie.Need-same-length
 same-length c = search needs
 
--- src/main.rt:212:1
 same-length-2 : tie.Need-same-length-2
 same-length-2 c = search needs
 
--- src/main.rt:212:1
 returns : tie.Need-returns
 returns c = search needs
 
--- src/main.rt:212:1
 same-length-3 : tie.Need-same-length-3
 same-length-3 c = search needs
 
--- src/main.rt:212:1
 same-length-4 : tie.Need-same-length-4
 same-length-4 c = search needs
 
--- src/main.rt:212:1
 returns-2 : tie.Need-returns-2
 returns-2 c = search needs
 
--- src/main.rt:212:1
 same-length-5 : tie.Need-same-length-5
 same-length-5 c = search needs
 
--- src/main.rt:212:1
 returns-3 : tie.Need-returns-3
 returns-3 c = step-made _ _ (c .before .before .date-call .ensures .0) (c .before .before .date-call .ensures .1) (c .before .before .before .before .before .before .before .before .before .before .pre .1)
 
--- src/main.rt:212:1
 same-length-6 : tie.Need-same-length-6
 same-length-6 c = search needs
 
--- src/main.rt:212:1
 returns-4 : tie.Need-returns-4
 returns-4 c = step-kept _ _ _ (c .before .before .height-call .ensures) (c .before .before .before .before .before .before .before .before .before .before .pre .0) (c .before .before .before .before .before .before .before .before .before .before .pre .1)
 
--- src/main.rt:212:1
 same-length-7 : tie.Need-same-length-7
 same-length-7 c = search needs
 
--- src/main.rt:212:1
 same-length-8 : tie.Need-same-length-8
 same-length-8 c = search needs
 
--- src/main.rt:212:1
 returns-5 : tie.Need-returns-5
 returns-5 c = step-kept _ _ _ (c .before .before .before .series-call .ensures) (c .before .before .before .before .before .before .before .before .before .before .before .before .pre .0) (c .before .before .before .before .before .before .before .before .before .before .before .before .pre .1)
 
--- src/main.rt:212:1
 same-length-9 : tie.Need-same-length-9
 same-length-9 c = search needs
 
--- src/main.rt:212:1
 same-length-10 : tie.Need-same-length-10
 same-length-10 c = search needs
 
--- src/main.rt:212:1
 same-length-11 : tie.Need-same-length-11
 same-length-11 c = search needs
 
--- src/main.rt:212:1
 returns-6 : tie.Need-returns-6
 returns-6 c = step-kept _ _ _ (c .before .before .before .before .before .turns-call .ensures) (c .before .before .before .before .before .before .before .before .before .before .before .before .before .before .before .pre .0) (c .before .before .before .before .before .before .before .before .before .before .before .before .before .before .before .pre .1)
 
--- src/main.rt:212:1
 same-length-12 : tie.Need-same-length-12
 same-length-12 c = search needs
 
--- src/main.rt:212:1
 returns-7 : tie.Need-returns-7
 returns-7 c = step-kept _ _ _ (c .before .before .stop .ensures) (c .before .before .before .before .before .before .before .before .before .pre .0) (c .before .before .before .before .before .before .before .before .before .pre .1)
 

@@ -1,53 +1,37 @@
+-- `replay::one_call` meets its contract: the buffer keeps its length through the reads. Assumes nothing.
+use mathlib.Core.Path.{_∙_}
 use borrow.Author.Needs.{needs}
+use Rattle.replay.proofs.Steps.{step-over}
 use Rattle.replay.proofs.one_call.Statement.{statement}
 use Rattle.replay.proofs.one_call.Tie as tie
-use Rattle.replay.proofs.one_call.Reads as reads
-use Rattle.replay.proofs.one_call.Lts as lts
-use Rattle.input.proofs.gather.Reads as gather-reads
-use Rattle.replay.proofs.answer_call.Reads as answer-call-reads
-use Rattle.replay.proofs.reading.read_call.Reads as read-call-reads
-use mathlib.Core.Path.{_∙_, subst}
-use Prim.Native.Nat.{ℕ}
-use Rattle.replay.specs.Posts.{StepPost}
-use Rattle.replay.proofs.Steps.{step-over}
 
--- src/main.rt:258:9
 gather-requires : tie.Need-gather-requires
 gather-requires c κs = search needs
 
--- src/main.rt:260:9
 same-length : tie.Need-same-length
 same-length c = search needs
 
--- src/main.rt:260:9
 returns : tie.Need-returns
 returns c = search needs
 
--- src/main.rt:267:9
 read-call-requires : tie.Need-read-call-requires
 read-call-requires c κs = search needs
 
--- src/main.rt:270:5
 answer-call-requires : tie.Need-answer-call-requires
 answer-call-requires c κs = search needs
 
--- src/main.rt:245:1
 same-length-2 : tie.Need-same-length-2
 same-length-2 c = c .before .before .before .before .before .before .before .answer-call .kept .1 .1 .1 .1 .0 ∙ c .before .before .before .before .before .before .before .before .before .before .before .before .before .before .before .read-call .kept .0 ∙ c .before .before .before .before .before .before .before .before .before .before .before .before .before .before .before .before .before .before .before .before .before .gather .kept .0
 
--- src/main.rt:245:1
 same-length-3 : tie.Need-same-length-3
 same-length-3 c = search needs
 
--- src/main.rt:245:1
 same-length-4 : tie.Need-same-length-4
 same-length-4 c = search needs
 
--- src/main.rt:245:1
 same-length-5 : tie.Need-same-length-5
 same-length-5 c = search needs
 
--- src/main.rt:245:1
 returns-2 : tie.Need-returns-2
 returns-2 c = step-over (c .before .before .before .before .before .before .before .answer-call .result) (c .before .before .before .before .before .before .before .before .before .before .before .before .before .before .before .read-call .kept .0 ∙ c .before .before .before .before .before .before .before .before .before .before .before .before .before .before .before .before .before .before .before .before .before .gather .kept .0) (c .before .before .before .before .before .before .before .answer-call .ensures)
 

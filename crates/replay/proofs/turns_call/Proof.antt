@@ -1,75 +1,55 @@
+-- `replay::turns_call` meets its contract: the parts that it lends are as long as it says. Assumes nothing.
+use mathlib.Core.Path.{sym}
+use lib.Seq.{length-take-le}
 use borrow.Author.Needs.{needs}
 use Rattle.replay.proofs.turns_call.Statement.{statement}
 use Rattle.replay.proofs.turns_call.Tie as tie
-use Rattle.replay.proofs.turns_call.Reads as reads
-use Rattle.replay.proofs.turns_call.Lts as lts
-use Rattle.clock.proofs.turns.Reads as turns-reads
-use Rattle.replay.proofs.answers.put_turns.Reads as put-turns-reads
-use Rattle.replay.proofs.stop.Reads as stop-reads
-use mathlib.Core.Path.{sym}
-use lib.Seq.{length-take-le}
 
--- src/main.rt:196:9
 stop-requires : tie.Need-stop-requires
 stop-requires c κs = search needs
 
--- src/main.rt:196:9
 same-length : tie.Need-same-length
 same-length c = search needs
 
--- src/main.rt:196:9
 returns : tie.Need-returns
 returns c = search needs
 
--- src/main.rt:199:9
 stop-requires-2 : tie.Need-stop-requires-2
 stop-requires-2 c κs = search needs
 
--- src/main.rt:199:9
 same-length-2 : tie.Need-same-length-2
 same-length-2 c = search needs
 
--- src/main.rt:199:9
 returns-2 : tie.Need-returns-2
 returns-2 c = search needs
 
--- src/main.rt:201:51
 slice-relend-prefix-turns : tie.Need-slice-relend-prefix-turns
 slice-relend-prefix-turns c = search needs
 
--- src/main.rt:201:51
 slice-aggregate-turns : tie.Need-slice-aggregate-turns
 slice-aggregate-turns c = sym (length-take-le _ _ (c .before .before .if1 .left))
 
--- src/main.rt:201:70
 slice-relend-prefix-turns-2 : tie.Need-slice-relend-prefix-turns-2
 slice-relend-prefix-turns-2 c = search needs
 
--- src/main.rt:201:70
 slice-aggregate-turns-2 : tie.Need-slice-aggregate-turns-2
 slice-aggregate-turns-2 c = sym (length-take-le _ _ (c .before .before .if2 .left))
 
--- src/main.rt:201:9
 turns-requires : tie.Need-turns-requires
 turns-requires c κs = search needs
 
--- src/main.rt:202:9
 put-turns-requires : tie.Need-put-turns-requires
 put-turns-requires c κs = search needs
 
--- src/main.rt:177:1
 same-length-3 : tie.Need-same-length-3
 same-length-3 c = search needs
 
--- src/main.rt:177:1
 same-length-4 : tie.Need-same-length-4
 same-length-4 c = search needs
 
--- src/main.rt:177:1
 same-length-5 : tie.Need-same-length-5
 same-length-5 c = search needs
 
--- src/main.rt:177:1
 returns-3 : tie.Need-returns-3
 returns-3 c = search needs
 

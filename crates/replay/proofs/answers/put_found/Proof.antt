@@ -1,15 +1,10 @@
-use Rattle.replay.proofs.answers.put_found.Statement.{statement}
-use Rattle.replay.proofs.answers.put_found.Tie as tie
-use Rattle.replay.proofs.answers.put_found.Reads as reads
-use Rattle.replay.proofs.answers.put_found.Lts as lts
-use Rattle.output.proofs.put.Reads as put-reads
-use Rattle.replay.proofs.answers.height_at.Reads as height-at-reads
-use Rattle.replay.proofs.answers.minute_at.Reads as minute-at-reads
-use Rattle.replay.proofs.answers.put_turn.Reads as put-turn-reads
+-- `replay::answers::put_found` is safe and ends: the page keeps its length. The measure is the turns left. Assumes nothing.
 use mathlib.Core.Path.{_≡_}
 use Prim.Native.Nat.{_-_}
 use lib.ListN.{length}
 use borrow.Author.Needs.{needs}
+use Rattle.replay.proofs.answers.put_found.Statement.{statement}
+use Rattle.replay.proofs.answers.put_found.Tie as tie
 
 abbrev Inv-loop : tie.InvT-loop
 Inv-loop page₀ at count minutes heights next₀ i₀ page next i = length page ≡ length page₀
@@ -17,43 +12,33 @@ Inv-loop page₀ at count minutes heights next₀ i₀ page next i = length page
 abbrev μ-loop : tie.MeasureT-loop
 μ-loop page₀ at count minutes heights next₀ i₀ page next i = count - i
 
--- src/answers.rt:102:5
 loop-holds : tie.Need-loop-holds Inv-loop μ-loop
 loop-holds c = search needs
 
--- src/answers.rt:103:37
 minute-at-requires : tie.Need-minute-at-requires Inv-loop μ-loop
 minute-at-requires c κs = search needs
 
--- src/answers.rt:103:60
 height-at-requires : tie.Need-height-at-requires Inv-loop μ-loop
 height-at-requires c κs = search needs
 
--- src/answers.rt:103:9
 put-turn-requires : tie.Need-put-turn-requires Inv-loop μ-loop
 put-turn-requires c κs = search needs
 
--- src/answers.rt:104:9
 add-i : tie.Need-add-i Inv-loop μ-loop
 add-i c = search needs
 
--- src/answers.rt:102:5
 loop-less : tie.Need-loop-less Inv-loop μ-loop
 loop-less c = search needs
 
--- src/answers.rt:102:5
 loop-again : tie.Need-loop-again Inv-loop μ-loop
 loop-again c = search needs
 
--- src/answers.rt:106:5
 put-requires : tie.Need-put-requires Inv-loop μ-loop
 put-requires c κs = search needs
 
--- src/answers.rt:93:1
 same-length : tie.Need-same-length Inv-loop μ-loop
 same-length c = search needs
 
--- src/answers.rt:93:1
 returns : tie.Need-returns Inv-loop μ-loop
 returns c = search needs
 

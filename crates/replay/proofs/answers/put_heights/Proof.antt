@@ -1,14 +1,10 @@
-use Rattle.replay.proofs.answers.put_heights.Statement.{statement}
-use Rattle.replay.proofs.answers.put_heights.Tie as tie
-use Rattle.replay.proofs.answers.put_heights.Reads as reads
-use Rattle.replay.proofs.answers.put_heights.Lts as lts
-use Rattle.output.proofs.put.Reads as put-reads
-use Rattle.output.proofs.put_bytes.Reads as put-bytes-reads
-use Rattle.output.proofs.put_signed.Reads as put-signed-reads
+-- `replay::answers::put_heights` is safe and ends: the page keeps its length. The measure is the heights left. Assumes nothing.
 use mathlib.Core.Path.{_≡_}
 use Prim.Native.Nat.{_-_}
 use lib.ListN.{length}
 use borrow.Author.Needs.{needs}
+use Rattle.replay.proofs.answers.put_heights.Statement.{statement}
+use Rattle.replay.proofs.answers.put_heights.Tie as tie
 
 abbrev Inv-loop : tie.InvT-loop
 Inv-loop page₀ at heights next₀ i₀ page next i = length page ≡ length page₀
@@ -16,55 +12,42 @@ Inv-loop page₀ at heights next₀ i₀ page next i = length page ≡ length pa
 abbrev μ-loop : tie.MeasureT-loop
 μ-loop page₀ at heights next₀ i₀ page next i = length heights - i
 
--- src/answers.rt:46:48
 slice-aggregate-put-bytes : tie.Need-slice-aggregate-put-bytes Inv-loop μ-loop
 slice-aggregate-put-bytes c = search needs
 
--- src/answers.rt:46:9
 put-bytes-requires : tie.Need-put-bytes-requires Inv-loop μ-loop
 put-bytes-requires c κs = search needs
 
--- src/answers.rt:48:5
 loop-holds : tie.Need-loop-holds Inv-loop μ-loop
 loop-holds c = search needs
 
--- src/answers.rt:49:9
 put-requires : tie.Need-put-requires Inv-loop μ-loop
 put-requires c κs = search needs
 
--- src/answers.rt:50:47
 mul-put-signed : tie.Need-mul-put-signed Inv-loop μ-loop
 mul-put-signed c = search needs
 
--- src/answers.rt:50:47
 shared-slice-copy-out-put-signed : tie.Need-shared-slice-copy-out-put-signed Inv-loop μ-loop
 shared-slice-copy-out-put-signed c = search needs
 
--- src/answers.rt:50:9
 put-signed-requires : tie.Need-put-signed-requires Inv-loop μ-loop
 put-signed-requires c κs = search needs
 
--- src/answers.rt:51:9
 add-i : tie.Need-add-i Inv-loop μ-loop
 add-i c = search needs
 
--- src/answers.rt:48:5
 loop-less : tie.Need-loop-less Inv-loop μ-loop
 loop-less c = search needs
 
--- src/answers.rt:48:5
 loop-again : tie.Need-loop-again Inv-loop μ-loop
 loop-again c = search needs
 
--- src/answers.rt:53:5
 put-requires-2 : tie.Need-put-requires-2 Inv-loop μ-loop
 put-requires-2 c κs = search needs
 
--- src/answers.rt:45:1
 same-length : tie.Need-same-length Inv-loop μ-loop
 same-length c = search needs
 
--- src/answers.rt:45:1
 returns : tie.Need-returns Inv-loop μ-loop
 returns c = search needs
 

@@ -1,15 +1,11 @@
-use Rattle.replay.proofs.reading.read_records.Statement.{statement}
-use Rattle.replay.proofs.reading.read_records.Tie as tie
-use Rattle.replay.proofs.reading.read_records.Reads as reads
-use Rattle.replay.proofs.reading.read_records.Lts as lts
-use Rattle.replay.proofs.reading.no_rows.Reads as no-rows-reads
-use Rattle.replay.proofs.reading.read_record.Reads as read-record-reads
-use Rattle.replay.proofs.reading.with_row.Reads as with-row-reads
+-- `replay::reading::read_records` meets its contract: each line leaves the window in the buffer. The measure is the lines left. Assumes nothing.
 use mathlib.Core.Path.{_≡_}
 use Prim.Native.Nat.{_-_}
 use lib.ListN.{length}
 use borrow.Author.Needs.{needs}
 use Rattle.input.specs.Window.{Within}
+use Rattle.replay.proofs.reading.read_records.Statement.{statement}
+use Rattle.replay.proofs.reading.read_records.Tie as tie
 
 abbrev Inv-loop : tie.InvT-loop
 Inv-loop buffer₀ count rows₀ held₀ k₀ buffer rows held k = (length buffer ≡ length buffer₀) × Within (length buffer₀) held
@@ -17,59 +13,45 @@ Inv-loop buffer₀ count rows₀ held₀ k₀ buffer rows held k = (length buffe
 abbrev μ-loop : tie.MeasureT-loop
 μ-loop buffer₀ count rows₀ held₀ k₀ buffer rows held k = count - k
 
--- src/reading.rt:160:9
 no-rows-requires : tie.Need-no-rows-requires Inv-loop μ-loop
 no-rows-requires c κs = search needs
 
--- src/reading.rt:163:5
 loop-holds : tie.Need-loop-holds Inv-loop μ-loop
 loop-holds c = search needs
 
--- src/reading.rt:164:13
 read-record-requires : tie.Need-read-record-requires Inv-loop μ-loop
 read-record-requires c κs = search needs
 
--- src/reading.rt:169:17
 enum-known-entry : tie.Need-enum-known-entry Inv-loop μ-loop
 enum-known-entry c = search needs
 
--- src/reading.rt:173:39
 cast-with-row : tie.Need-cast-with-row Inv-loop μ-loop
 cast-with-row c = search needs
 
--- src/reading.rt:173:17
 with-row-requires : tie.Need-with-row-requires Inv-loop μ-loop
 with-row-requires c κs = search needs
 
--- src/reading.rt:174:17
 add-k : tie.Need-add-k Inv-loop μ-loop
 add-k c = search needs
 
--- src/reading.rt:163:5
 loop-less : tie.Need-loop-less Inv-loop μ-loop
 loop-less c = search needs
 
--- src/reading.rt:163:5
 loop-again : tie.Need-loop-again Inv-loop μ-loop
 loop-again c = search needs
 
--- src/reading.rt:177:17
 enum-told : tie.Need-enum-told Inv-loop μ-loop
 enum-told c = search needs
 
--- src/reading.rt:177:17
 same-length : tie.Need-same-length Inv-loop μ-loop
 same-length c = search needs
 
--- src/reading.rt:177:17
 returns : tie.Need-returns Inv-loop μ-loop
 returns c = search needs
 
--- src/reading.rt:156:1
 same-length-2 : tie.Need-same-length-2 Inv-loop μ-loop
 same-length-2 c = search needs
 
--- src/reading.rt:156:1
 returns-2 : tie.Need-returns-2 Inv-loop μ-loop
 returns-2 c = search needs
 
