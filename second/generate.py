@@ -3,7 +3,7 @@
 Usage: python3 second/generate.py cards SEED COUNT OUTDIR [STANDARD]
        python3 second/generate.py scripts SEED COUNT OUTDIR [STANDARD]
 
-STANDARD is the standard card file (default /work/brief/data/standard-cards.txt).
+STANDARD is the standard card file (default data/standard-cards.txt of this repository).
 cards: NNNNN.cards, the same as a one-call script NNNNN.replay, and all of them in order in all.replay.
 scripts: NNNNN.replay, about 100 calls each.
 """
@@ -16,7 +16,7 @@ import decks
 from clock import Clock
 from refusal import Refusal
 
-STANDARD_PATH = "/work/brief/data/standard-cards.txt"
+STANDARD_PATH = os.path.join(os.path.dirname(os.path.abspath(__file__)), "..", "data", "standard-cards.txt")
 CALLS = 100
 LARGEST = 4_294_967_295
 # What a replay program takes at least; nothing larger is asked.

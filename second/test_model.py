@@ -15,7 +15,7 @@ from month import argument, day_count, latitude_factors, longitudes_at
 from refusal import Refusal
 from replay import replay
 
-FOLDER = sys.argv[1] if len(sys.argv) > 1 else "/work/brief/data"
+FOLDER = sys.argv[1] if len(sys.argv) > 1 else os.path.join(os.path.dirname(os.path.abspath(__file__)), "..", "data")
 PASSED = 0
 FAILED = 0
 

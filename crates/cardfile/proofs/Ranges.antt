@@ -13,11 +13,14 @@ use Rattle.fields.specs.declared.Field.{Field}
 use Rattle.fields.specs.declared.Field.the-variants.{Value, Malformed, OutOfRange}
 use Rattle.table.specs.Table.{Frequency, Table}
 use Rattle.columns.specs.Lines.{linesOf}
-use Rattle.cards.specs.Formats.{Number, upTo, frequencyName, frequencyField}
+use Rattle.cards.specs.Formats.{frequencyName, frequencyField, longitudeField, increaseField}
 use Rattle.cards.specs.Card as card
 use Rattle.cards.specs.Card.{Card, good, bad, _>>=_, number, newName, fieldGives, Next, ends, gives, fails, Opening, blankEnds, readFields, failsFirst, opening, opened, Reading, given, onwardOrEnd, isAmong}
 use Rattle.cards.specs.Frequencies.{namesOf, frequencyCard, nextFrequency, frequenciesFrom}
 use Rattle.cards.specs.Cards.{Outcome, accepted, refused, followed, allDefined, readCards}
+use Rattle.cards.specs.Longitudes.{fiveFrom}
+use Rattle.cards.specs.Mains.{mainPlaces, mainsFrom}
+use Rattle.cards.specs.Shallows.{shallowPlaces, shallowsFrom}
 use Rattle.cards.proofs.Ranges.{natural-is}
 
 -- every entry of a list is at most `most`
@@ -93,13 +96,16 @@ defined-is (f ∷ fs) k defined whole t e = by (λ q. defined-is fs (k + 1) defi
     by more true q = more q
     by more false q = let z : _≡_ {A = ℕ} 0 1 = cc in absurd (omega arith)
 
+abbrev LowIn : Table → Type 0
+LowIn t = Low 4_999_999_999 (t .frequencies)
+
 pub accepted-in-range : (file : List ℕ) (t : Table) (none : Frequency) → none .frequency ≡ 0 → readCards file ≡ accepted t → (k : ℕ) → getD (t .frequencies) k none .frequency ≤ 4_999_999_999
 unfolding readCards
 accepted-in-range file t none z e k =
-    followed-through (λ (x : Table). Low 4_999_999_999 (x .frequencies)) _ _ t (λ fs lines n r q.
-    followed-through (λ (x : Table). Low 4_999_999_999 (x .frequencies)) _ _ t (λ ls lines₂ n₂ r₂ q₂.
-    followed-through (λ (x : Table). Low 4_999_999_999 (x .frequencies)) _ _ t (λ is lines₃ n₃ r₃ q₃.
-    followed-through (λ (x : Table). Low 4_999_999_999 (x .frequencies)) _ _ t (λ ms lines₄ n₄ r₄ q₄.
-    followed-through (λ (x : Table). Low 4_999_999_999 (x .frequencies)) _ _ t (λ ss lines₅ n₅ r₅ q₅.
-    subst (λ (x : Table). Low 4_999_999_999 (x .frequencies)) (defined-is fs 0 _ _ t q₅)
+    followed-through LowIn (frequenciesFrom (linesOf file) 1 []) _ t (λ fs lines n r q.
+    followed-through LowIn (fiveFrom longitudeField lines n) _ t (λ ls lines₂ n₂ r₂ q₂.
+    followed-through LowIn (fiveFrom increaseField lines₂ n₂) _ t (λ is lines₃ n₃ r₃ q₃.
+    followed-through LowIn (mainsFrom (namesOf fs) lines₃ n₃ [] 0) _ t (λ ms lines₄ n₄ r₄ q₄.
+    followed-through LowIn (shallowsFrom (namesOf fs) (mainPlaces ms) lines₄ n₄ []) _ t (λ ss lines₅ n₅ r₅ q₅.
+    subst LowIn (defined-is fs 0 (mainPlaces ms ++ shallowPlaces ss) (record { frequencies = fs; longitudes = ls; increases = is; mains = ms; shallows = ss }) t q₅)
     (part-low (linesOf file) 1 [] fs lines n (λ n₀ z₀ j. rw z₀ (omega arith)) r)) q₄) q₃) q₂) q) e none z k
