@@ -142,7 +142,7 @@ pub fn load_cards(clock: Clock, file: &[u8]) -> After
     }
 }
 
-// A station of n records, of which the first 146 are in the rows.
+// A station as `set_station` takes it, for a caller whose records lie in plain arrays: n records, of which the first 146 are in the rows.
 pub fn place_station(clock: Clock, latitude: i32, n: usize, rows: Rows) -> After
     requires { ⌜ Made clock ⌝ }
     ensures { λ r. ⌜ StationPost clock latitude (recordsOf rows n) (r .answer) (r .clock) ⌝ }
