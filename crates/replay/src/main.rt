@@ -7,8 +7,7 @@ ghost use Rattle.clock.specs.View.{Made};
 ghost use Rattle.input.specs.Window.{Within};
 ghost use Rattle.replay.specs.Posts.{StepPost};
 
-mod answers;
-mod reading;
+mod results;
 
 use clock::Clock;
 use input::Window;
@@ -134,7 +133,7 @@ fn height_call(clock: Clock, window: Window, page: &mut [u8], at: usize, minute:
     ensures { λ r. ⌜ (r .clock ≡ clock) × (r .window ≡ window) ⌝ }
 {
     let answer = clock::height(clock, minute);
-    let place = answers::put_height(page, at, answer);
+    let place = results::put_height(page, at, answer);
     Step {
         clock,
         window,
@@ -164,7 +163,7 @@ fn series_call(
     }
     let lent = &mut heights[..n];
     let answer = clock::series(clock, start, step, lent);
-    let place = answers::put_series(page, at, answer, lent);
+    let place = results::put_series(page, at, answer, lent);
     Step {
         clock,
         window,
@@ -199,7 +198,7 @@ fn turns_call(
         return stop(clock, window, page, at, line);
     }
     let answer = clock::turns(clock, first, last, &mut minutes[..m], &mut heights[..h]);
-    let place = answers::put_turns(page, at, answer, minutes, heights);
+    let place = results::put_turns(page, at, answer, minutes, heights);
     Step {
         clock,
         window,

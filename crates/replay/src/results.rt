@@ -1,33 +1,7 @@
-// The lines that answer a script. Each function puts one on the page and gives the place behind it.
+// The lines that answer a height, a series and a search. Each function puts one on the page and gives the place behind it.
 use clock::HeightAnswer;
 use clock::TurnsAnswer;
 use refusals::Answer;
-use refusals::Refusal;
-
-// script LINE
-pub fn put_script(page: &mut [u8], at: usize, line: u64) -> usize {
-    let word = output::put_bytes(page, at, b"script ");
-    let end = output::put_number(page, word, line);
-    output::put(page, end, 10)
-}
-
-// refused NUMBER PLACE
-fn put_refused(page: &mut [u8], at: usize, refusal: Refusal, place: usize) -> usize {
-    let number = refusals::number_of(refusal);
-    let word = output::put_bytes(page, at, b"refused ");
-    let first = output::put_number(page, word, number as u64);
-    let blank = output::put(page, first, 32);
-    let end = output::put_number(page, blank, place as u64);
-    output::put(page, end, 10)
-}
-
-// accepted, or refused NUMBER PLACE
-pub fn put_answer(page: &mut [u8], at: usize, answer: Answer) -> usize {
-    match answer {
-        Answer::Accepted => output::put_bytes(page, at, b"accepted\n"),
-        Answer::Refused(refusal, place) => put_refused(page, at, refusal, place),
-    }
-}
 
 // height H
 pub fn put_height(page: &mut [u8], at: usize, answer: HeightAnswer) -> usize {
@@ -37,7 +11,7 @@ pub fn put_height(page: &mut [u8], at: usize, answer: HeightAnswer) -> usize {
             let end = output::put_signed(page, word, height);
             output::put(page, end, 10)
         }
-        HeightAnswer::Refused(refusal, place) => put_refused(page, at, refusal, place),
+        HeightAnswer::Refused(refusal, place) => answers::put_refused(page, at, refusal, place),
     }
 }
 
@@ -57,7 +31,7 @@ fn put_heights(page: &mut [u8], at: usize, heights: &[i64]) -> usize {
 pub fn put_series(page: &mut [u8], at: usize, answer: Answer, heights: &[i64]) -> usize {
     match answer {
         Answer::Accepted => put_heights(page, at, heights),
-        Answer::Refused(refusal, place) => put_refused(page, at, refusal, place),
+        Answer::Refused(refusal, place) => answers::put_refused(page, at, refusal, place),
     }
 }
 
@@ -119,6 +93,6 @@ pub fn put_turns<'a>(
             let next = put_count(page, at, count, high);
             put_found(page, next, count, minutes, heights)
         }
-        TurnsAnswer::Refused(refusal, place) => put_refused(page, at, refusal, place),
+        TurnsAnswer::Refused(refusal, place) => answers::put_refused(page, at, refusal, place),
     }
 }
