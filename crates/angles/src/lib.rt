@@ -1,6 +1,7 @@
 // Whole numbers of ticks: division that rounds down, and the remainder modulo a turn.
 ghost use mathlib.Core.Path.{_≡_};
 ghost use Prim.Native.Nat.{_<_, _^_};
+ghost use lib.IntN.{natAbs};
 ghost use lib.Signed.{mag};
 ghost use Rattle.angles.specs.Ticks.{turn};
 ghost use Rattle.angles.specs.Floor.{floorDiv, modTurn};
@@ -25,6 +26,17 @@ fn distance(a: i64) -> u64
         return (-1 - a) as u64;
     }
     a as u64
+}
+
+// The size of a.
+pub fn size(a: i64) -> u64
+    ensures { λ r. ⌜ r ≡ natAbs a ⌝ }
+{
+    let m = distance(a);
+    if a < 0 {
+        return m + 1;
+    }
+    m
 }
 
 // floor(a / n), for any a and any n but 0.

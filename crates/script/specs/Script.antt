@@ -1,0 +1,182 @@
+-- REPLAY.md, "Input": one line of a script, without its LF, as the call or the record that it says; Bad where it is not of the form.
+use Prim.Native.Nat.{ℕ, _+_, _*_, _-_, _^_}
+use mathlib.Core.List.{List, [], _∷_}
+use mathlib.Core.Bool.{Bool, true, false, cond, _&&_}
+use lib.Dec.{leb, eqb}
+use lib.IntN.{ℤ, pos, negℤ}
+use Rattle.script.specs.declared.Number.{Number}
+use Rattle.script.specs.declared.Number.the-variants.{Value, NoNumber}
+use Rattle.script.specs.declared.Call.{Call}
+use Rattle.script.specs.declared.Call.the-variants.{Cards, Station, Date, Height, Series, Turns, Bad}
+use Rattle.script.specs.declared.Entry.{Entry}
+use Rattle.script.specs.declared.Entry.the-variants.{Record, Bad as NoRecord}
+
+-- ---- words
+
+-- a byte in front of the first of some words
+abbrev pub inFront : ℕ → List (List ℕ) → List (List ℕ)
+inFront b [] = (b ∷ []) ∷ []
+inFront b (w ∷ ws) = (b ∷ w) ∷ ws
+
+-- "one blank between them": what stands between the blanks of a line (32 is the blank). So two blanks have an empty word between them.
+unfoldable pub words : List ℕ → List (List ℕ)
+words [] = [] ∷ []
+words (b ∷ bs) = cond (eqb b 32) ([] ∷ words bs) (inFront b (words bs))
+
+-- two words are the same, byte by byte
+unfoldable pub same : List ℕ → List ℕ → Bool
+same [] [] = true
+same [] (b ∷ bs) = false
+same (a ∷ bs) [] = false
+same (a ∷ bs) (c ∷ cs) = eqb a c && same bs cs
+
+-- ---- numbers
+
+-- "every other number 0 to 4294967295"
+abbrev pub largest : ℕ
+largest = 4294967295
+
+-- 48 to 57 are the digits 0 to 9
+abbrev pub isDigit : ℕ → Bool
+isDigit b = leb 48 b && leb b 57
+
+-- a digit behind the digits of n
+abbrev pub withDigit : ℕ → ℕ → ℕ
+withDigit n b = 10 * n + (b - 48)
+
+-- the number of some digits behind those of n, where it is at most `most`
+unfoldable pub numberAfter : ℕ → ℕ → List ℕ → Number
+numberAfter most n [] = Value n
+numberAfter most n (b ∷ bs) = cond (isDigit b) (cond (leb (withDigit n b) most) (numberAfter most (withDigit n b) bs) NoNumber) NoNumber
+
+-- a decimal number of at most `most`: one digit or more
+unfoldable pub number : ℕ → List ℕ → Number
+number most [] = NoNumber
+number most (b ∷ bs) = numberAfter most 0 (b ∷ bs)
+
+-- the number that some words begin with, and the words behind it
+pub data Reading : Type 0 where
+  read : ℕ → List (List ℕ) → Reading
+  unread : Reading
+
+abbrev pub readingOf : Number → List (List ℕ) → Reading
+readingOf (Value n) ws = read n ws
+readingOf NoNumber ws = unread
+
+abbrev pub reading : ℕ → List (List ℕ) → Reading
+reading most [] = unread
+reading most (w ∷ ws) = readingOf (number most w) ws
+
+-- goes on with the number and the words behind it; the line is bad where there is no number
+abbrev pub onward : {A : Type 0} → A → Reading → (ℕ → List (List ℕ) → A) → A
+onward bad (read n ws) f = f n ws
+onward bad unread f = bad
+
+-- a last number, with no word behind it
+abbrev pub ended : List (List ℕ) → ℕ → Number
+ended [] n = Value n
+ended (w ∷ ws) n = NoNumber
+
+unfoldable pub lastNumber : List (List ℕ) → Number
+lastNumber ws = onward NoNumber (reading largest ws) (λ n ws. ended ws n)
+
+-- goes on with the last number
+abbrev pub given : {A : Type 0} → A → Number → (ℕ → A) → A
+given bad (Value n) f = f n
+given bad NoNumber f = bad
+
+-- ---- the calls, from the words behind the first
+
+-- "cards BYTES"
+unfoldable pub cardsOf : List (List ℕ) → Call
+cardsOf ws = given Bad (lastNumber ws) (λ bytes. Cards bytes)
+
+-- a latitude's minus is byte 45
+abbrev pub hasMinus : List (List ℕ) → Bool
+hasMinus [] = false
+hasMinus ([] ∷ ws) = false
+hasMinus ((b ∷ bs) ∷ ws) = eqb b 45
+
+-- the words without the first byte of the first
+abbrev pub behindMinus : List (List ℕ) → List (List ℕ)
+behindMinus [] = []
+behindMinus ([] ∷ ws) = [] ∷ ws
+behindMinus ((b ∷ bs) ∷ ws) = bs ∷ ws
+
+unfoldable pub stationAt : ℤ → List (List ℕ) → Call
+stationAt latitude ws = given Bad (lastNumber ws) (λ count. Station latitude count)
+
+-- "station LATITUDE COUNT": "A minus may stand before a latitude only", "a signed 32-bit number"
+unfoldable pub stationOf : List (List ℕ) → Call
+stationOf ws =
+    cond (hasMinus ws)
+    (onward Bad (reading (2 ^ 31) (behindMinus ws)) (λ n ws. stationAt (negℤ (pos n)) ws))
+    (onward Bad (reading (2 ^ 31 - 1) ws) (λ n ws. stationAt (pos n) ws))
+
+-- "date YEAR MONTH"
+unfoldable pub dateOf : List (List ℕ) → Call
+dateOf ws = onward Bad (reading largest ws) (λ year ws. given Bad (lastNumber ws) (λ month. Date year month))
+
+-- "height MINUTE"
+unfoldable pub heightOf : List (List ℕ) → Call
+heightOf ws = given Bad (lastNumber ws) (λ minute. Height minute)
+
+-- "series START STEP COUNT"
+unfoldable pub seriesOf : List (List ℕ) → Call
+seriesOf ws =
+    onward Bad (reading largest ws) (λ start ws.
+    onward Bad (reading largest ws) (λ step ws.
+    given Bad (lastNumber ws) (λ count. Series start step count)))
+
+-- "turns FIRST LAST MINUTES HEIGHTS"
+unfoldable pub turnsOf : List (List ℕ) → Call
+turnsOf ws =
+    onward Bad (reading largest ws) (λ first ws.
+    onward Bad (reading largest ws) (λ last ws.
+    onward Bad (reading largest ws) (λ minutes ws.
+    given Bad (lastNumber ws) (λ heights. Turns first last minutes heights))))
+
+-- the words of the calls, letter by letter
+abbrev pub cardsWord : List ℕ
+cardsWord = 99 ∷ 97 ∷ 114 ∷ 100 ∷ 115 ∷ []
+
+abbrev pub stationWord : List ℕ
+stationWord = 115 ∷ 116 ∷ 97 ∷ 116 ∷ 105 ∷ 111 ∷ 110 ∷ []
+
+abbrev pub dateWord : List ℕ
+dateWord = 100 ∷ 97 ∷ 116 ∷ 101 ∷ []
+
+abbrev pub heightWord : List ℕ
+heightWord = 104 ∷ 101 ∷ 105 ∷ 103 ∷ 104 ∷ 116 ∷ []
+
+abbrev pub seriesWord : List ℕ
+seriesWord = 115 ∷ 101 ∷ 114 ∷ 105 ∷ 101 ∷ 115 ∷ []
+
+abbrev pub turnsWord : List ℕ
+turnsWord = 116 ∷ 117 ∷ 114 ∷ 110 ∷ 115 ∷ []
+
+-- "Each call is a line: a word, then decimal numbers"
+unfoldable pub callOfWords : List (List ℕ) → Call
+callOfWords [] = Bad
+callOfWords (w ∷ ws) =
+    cond (same w cardsWord) (cardsOf ws)
+    (cond (same w stationWord) (stationOf ws)
+    (cond (same w dateWord) (dateOf ws)
+    (cond (same w heightWord) (heightOf ws)
+    (cond (same w seriesWord) (seriesOf ws)
+    (cond (same w turnsWord) (turnsOf ws) Bad)))))
+
+abbrev pub callOf : List ℕ → Call
+callOf line = callOfWords (words line)
+
+-- ---- the lines behind a station's
+
+-- "COUNT lines: PLACE AMPLITUDE PHASE", "PLACE one byte"
+unfoldable pub recordOfWords : List (List ℕ) → Entry
+recordOfWords ws =
+    onward NoRecord (reading 255 ws) (λ place ws.
+    onward NoRecord (reading largest ws) (λ amplitude ws.
+    given NoRecord (lastNumber ws) (λ phase. Record place amplitude phase)))
+
+abbrev pub recordOf : List ℕ → Entry
+recordOf line = recordOfWords (words line)

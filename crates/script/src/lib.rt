@@ -1,0 +1,324 @@
+// One line of a replay script, read as a call or as a record of a station.
+ghost use mathlib.Core.Path.{_≡_};
+ghost use mathlib.Core.List.{_∷_};
+ghost use Prim.Native.Nat.{_+_, _-_, _≤_, _^_};
+ghost use lib.ListN.{length, drop};
+ghost use lib.IntN.{pos, negℤ};
+ghost use Rattle.script.specs.Script as script;
+ghost use Rattle.script.specs.Script.{callOf, callOfWords, recordOf, reading, lastNumber, same, hasMinus, stationAt, stationOf, cardsOf, dateOf, heightOf, seriesOf, turnsOf};
+ghost use Rattle.script.specs.Left.{wordsFrom, wordLength, readingAt};
+
+// A line's call: its word and its numbers.
+pub enum Call {
+    Cards(u32),
+    Station(i32, u32),
+    Date(u32, u32),
+    Height(u32),
+    Series(u32, u32, u32),
+    Turns(u32, u32, u32, u32),
+    Bad,
+}
+
+// A line of a station.
+pub enum Entry {
+    Record {
+        place: u8,
+        amplitude: u32,
+        phase: u32,
+    },
+    Bad,
+}
+
+// A word that is a number, or is not.
+pub enum Number {
+    Value(u32),
+    NoNumber,
+}
+
+// A number in a line, and where the next word begins; past the line's end where there is none.
+pub enum Field {
+    Read(u32, usize),
+    NoField,
+}
+
+const LARGEST: u32 = 4_294_967_295;
+
+// The digit's value.
+fn digit(byte: u8) -> u64
+    requires { ⌜ 48 ≤ byte ⌝ }
+    ensures { λ r. ⌜ r ≡ byte - 48 ⌝ }
+    ensures { λ r. ⌜ r ≤ 255 ⌝ }
+{
+    (byte - 48) as u64
+}
+
+// A word as a decimal number of at most `most`.
+fn number_of(word: &[u8], most: u32) -> Number
+    ensures { λ r. ⌜ r ≡ script.number most (now (word .entry)) ⌝ }
+{
+    if word.len() == 0 {
+        return Number::NoNumber;
+    }
+    let mut value: u64 = 0;
+    let mut i = 0;
+    while i < word.len() {
+        let byte = word[i];
+        if byte < 48 {
+            return Number::NoNumber;
+        }
+        if 57 < byte {
+            return Number::NoNumber;
+        }
+        let next = 10 * value + digit(byte);
+        if (most as u64) < next {
+            return Number::NoNumber;
+        }
+        value = next;
+        i += 1;
+    }
+    Number::Value(value as u32)
+}
+
+// Where the word ends that begins at a byte of a line.
+fn word_end(line: &[u8], at: usize) -> usize
+    requires { ⌜ at ≤ length (now line) ⌝ }
+    ensures { λ r. ⌜ r ≡ at + wordLength (drop at (now (line .entry))) ⌝ }
+    ensures { λ r. ⌜ r ≤ length (now (line .entry)) ⌝ }
+{
+    let mut i = at;
+    while i < line.len() {
+        if line[i] == 32 {
+            return i;
+        }
+        i += 1;
+    }
+    i
+}
+
+// The number that stands at a byte of a line, of at most `most`.
+fn field_at(line: &[u8], at: usize, most: u32) -> Field
+    ensures { λ r. ⌜ readingAt (now (line .entry)) r ≡ reading most (wordsFrom (now (line .entry)) at) ⌝ }
+{
+    if line.len() < at {
+        return Field::NoField;
+    }
+    let end = word_end(line, at);
+    let number = number_of(&line[at..end], most);
+    match number {
+        Number::Value(value) => Field::Read(value, end + 1),
+        Number::NoNumber => Field::NoField,
+    }
+}
+
+// The number that stands at a byte of a line, with nothing behind it.
+fn last_at(line: &[u8], at: usize) -> Number
+    ensures { λ r. ⌜ r ≡ lastNumber (wordsFrom (now (line .entry)) at) ⌝ }
+{
+    let field = field_at(line, at, LARGEST);
+    let Field::Read(value, next) = field else {
+        return Number::NoNumber;
+    };
+    if next <= line.len() {
+        return Number::NoNumber;
+    }
+    Number::Value(value)
+}
+
+// cards BYTES
+fn cards_at(line: &[u8], at: usize) -> Call
+    ensures { λ r. ⌜ r ≡ cardsOf (wordsFrom (now (line .entry)) at) ⌝ }
+{
+    let last = last_at(line, at);
+    let Number::Value(bytes) = last else {
+        return Call::Bad;
+    };
+    Call::Cards(bytes)
+}
+
+// date YEAR MONTH
+fn date_at(line: &[u8], at: usize) -> Call
+    ensures { λ r. ⌜ r ≡ dateOf (wordsFrom (now (line .entry)) at) ⌝ }
+{
+    let first = field_at(line, at, LARGEST);
+    let Field::Read(year, next) = first else {
+        return Call::Bad;
+    };
+    let last = last_at(line, next);
+    let Number::Value(month) = last else {
+        return Call::Bad;
+    };
+    Call::Date(year, month)
+}
+
+// height MINUTE
+fn height_at(line: &[u8], at: usize) -> Call
+    ensures { λ r. ⌜ r ≡ heightOf (wordsFrom (now (line .entry)) at) ⌝ }
+{
+    let last = last_at(line, at);
+    let Number::Value(minute) = last else {
+        return Call::Bad;
+    };
+    Call::Height(minute)
+}
+
+// series START STEP COUNT
+fn series_at(line: &[u8], at: usize) -> Call
+    ensures { λ r. ⌜ r ≡ seriesOf (wordsFrom (now (line .entry)) at) ⌝ }
+{
+    let first = field_at(line, at, LARGEST);
+    let Field::Read(start, second_at) = first else {
+        return Call::Bad;
+    };
+    let second = field_at(line, second_at, LARGEST);
+    let Field::Read(step, last_place) = second else {
+        return Call::Bad;
+    };
+    let last = last_at(line, last_place);
+    let Number::Value(count) = last else {
+        return Call::Bad;
+    };
+    Call::Series(start, step, count)
+}
+
+// turns FIRST LAST MINUTES HEIGHTS
+fn turns_at(line: &[u8], at: usize) -> Call
+    ensures { λ r. ⌜ r ≡ turnsOf (wordsFrom (now (line .entry)) at) ⌝ }
+{
+    let first = field_at(line, at, LARGEST);
+    let Field::Read(from, second_at) = first else {
+        return Call::Bad;
+    };
+    let second = field_at(line, second_at, LARGEST);
+    let Field::Read(to, third_at) = second else {
+        return Call::Bad;
+    };
+    let third = field_at(line, third_at, LARGEST);
+    let Field::Read(minutes, last_place) = third else {
+        return Call::Bad;
+    };
+    let last = last_at(line, last_place);
+    let Number::Value(heights) = last else {
+        return Call::Bad;
+    };
+    Call::Turns(from, to, minutes, heights)
+}
+
+// A latitude without a minus.
+fn north(size: u32) -> i32
+    requires { ⌜ size ≤ 2 ^ 31 - 1 ⌝ }
+    ensures { λ r. ⌜ r ≡ pos size ⌝ }
+{
+    size as i32
+}
+
+// A latitude with a minus.
+fn south(size: u32) -> i32
+    requires { ⌜ size ≤ 2 ^ 31 ⌝ }
+    ensures { λ r. ⌜ r ≡ negℤ (pos size) ⌝ }
+{
+    (0 - size as i64) as i32
+}
+
+// A station's count, behind its latitude.
+fn station_at(line: &[u8], at: usize, latitude: i32) -> Call
+    ensures { λ r. ⌜ r ≡ stationAt latitude (wordsFrom (now (line .entry)) at) ⌝ }
+{
+    let last = last_at(line, at);
+    let Number::Value(count) = last else {
+        return Call::Bad;
+    };
+    Call::Station(latitude, count)
+}
+
+// Whether a minus stands at a byte of a line.
+fn minus_at(line: &[u8], at: usize) -> bool
+    ensures { λ r. ⌜ r ≡ hasMinus (wordsFrom (now (line .entry)) at) ⌝ }
+{
+    if at < line.len() {
+        return line[at] == 45;
+    }
+    false
+}
+
+// station LATITUDE COUNT
+fn latitude_at(line: &[u8], at: usize) -> Call
+    requires { ⌜ at ≤ length (now line) + 1 ⌝ }
+    ensures { λ r. ⌜ r ≡ stationOf (wordsFrom (now (line .entry)) at) ⌝ }
+{
+    if minus_at(line, at) {
+        let southern = field_at(line, at + 1, 2_147_483_648);
+        let Field::Read(size, next) = southern else {
+            return Call::Bad;
+        };
+        return station_at(line, next, south(size));
+    }
+    let northern = field_at(line, at, 2_147_483_647);
+    let Field::Read(size, next) = northern else {
+        return Call::Bad;
+    };
+    station_at(line, next, north(size))
+}
+
+// Whether a word is the one of a name.
+fn is_word(word: &[u8], name: &[u8]) -> bool
+    ensures { λ r. ⌜ r ≡ same (now (word .entry)) (now (name .entry)) ⌝ }
+{
+    check::same(word, name)
+}
+
+// The call of a word and of the numbers at a byte of a line.
+fn call_at(word: &[u8], line: &[u8], at: usize) -> Call
+    requires { ⌜ at ≤ length (now line) + 1 ⌝ }
+    ensures { λ r. ⌜ r ≡ callOfWords (now (word .entry) ∷ wordsFrom (now (line .entry)) at) ⌝ }
+{
+    if is_word(word, b"cards") {
+        return cards_at(line, at);
+    }
+    if is_word(word, b"station") {
+        return latitude_at(line, at);
+    }
+    if is_word(word, b"date") {
+        return date_at(line, at);
+    }
+    if is_word(word, b"height") {
+        return height_at(line, at);
+    }
+    if is_word(word, b"series") {
+        return series_at(line, at);
+    }
+    if is_word(word, b"turns") {
+        return turns_at(line, at);
+    }
+    Call::Bad
+}
+
+// A line of a script, without its LF, as a call: Bad where it is not of the form.
+pub fn parse_call(line: &[u8]) -> Call
+    ensures { λ r. ⌜ r ≡ callOf (now (line .entry)) ⌝ }
+{
+    let end = word_end(line, 0);
+    call_at(&line[..end], line, end + 1)
+}
+
+// A line of a station, without its LF: Bad where it is not of the form.
+pub fn parse_record(line: &[u8]) -> Entry
+    ensures { λ r. ⌜ r ≡ recordOf (now (line .entry)) ⌝ }
+{
+    let first = field_at(line, 0, 255);
+    let Field::Read(place, second_at) = first else {
+        return Entry::Bad;
+    };
+    let second = field_at(line, second_at, LARGEST);
+    let Field::Read(amplitude, last_place) = second else {
+        return Entry::Bad;
+    };
+    let last = last_at(line, last_place);
+    let Number::Value(phase) = last else {
+        return Entry::Bad;
+    };
+    Entry::Record {
+        place: place as u8,
+        amplitude,
+        phase,
+    }
+}
