@@ -9,19 +9,20 @@ import os
 import random
 import subprocess
 import sys
+from collections import Counter
+from itertools import zip_longest
 
 ROOT = os.path.join(os.path.dirname(os.path.abspath(__file__)), "..")
 sys.path.insert(0, os.path.join(ROOT, "second"))
 
 import decks
+import month
 import weights
 from generate import ScriptWriter, cards_call
-from month import pair_of_main, too_large
-import month
 
 # A program is run once for so many cases.
 BATCH = 100
-# "small" is as in nature; "large" and "any" bring refusal 11.
+# "small" is as in nature; "large" and "any" bring refusal 11 of mains, "medium" of products.
 RATIOS = ("small", "small", "medium", "large", "any")
 
 
@@ -80,7 +81,7 @@ def refused_main(clock, date, place):
     name, _ = clock.table.frequencies[clock.station.records[place - 1][0]]
     definition = clock.table.definitions[name]
     mains = [main for _, main in definition.parts] if hasattr(definition, "parts") else [definition]
-    return any(too_large(*pair_of_main(main, longitudes, factors)) for main in mains)
+    return any(month.too_large(*month.pair_of_main(main, longitudes, factors)) for main in mains)
 
 
 def run(program, script):
@@ -90,38 +91,42 @@ def run(program, script):
     return lines + ["ended with %d" % done.returncode] if done.returncode else lines
 
 
+def count_line(counts, line, writer):
+    """Counts what an answer line of a case says."""
+    if line.startswith("month"):
+        counts["months"] += 1
+        counts["records"] += (len(line.split()) - 1) // 3
+    elif line.startswith("refused 11 "):
+        main = refused_main(writer.clock, writer.calls[2], int(line.split()[2]))
+        counts["mains" if main else "products"] += 1
+
+
+def compare(counts, program, seed, indices):
+    """Both answers to some cases, three lines each; shows what differs."""
+    cases = [case(seed, index) for index in indices]
+    script = b"".join(writer.data() for writer in cases)
+    theirs = list(weights.answers(script))
+    for at, line in enumerate(theirs):
+        count_line(counts, line, cases[at // 3])
+    for at, (their, our) in enumerate(zip_longest(theirs, run(program, script), fillvalue="nothing")):
+        if their != our:
+            counts["differences"] += 1
+            print("differs: seed %d case %d\n< %s\n> %s" % (seed, indices[0] + at // 3, their[:300], our[:300]))
+
+
 def main():
     if len(sys.argv) != 4:
         sys.exit(__doc__)
     program, seed, count = os.path.abspath(sys.argv[1]), int(sys.argv[2]), int(sys.argv[3])
-    months = records = mains = products = differences = 0
+    counts = Counter()
     for first in range(0, count, BATCH):
-        cases = [case(seed, index) for index in range(first, min(first + BATCH, count))]
-        script = b"".join(writer.data() for writer in cases)
-        theirs = list(weights.answers(script))
-        ours = run(program, script)
-        for at, line in enumerate(theirs):
-            if line.startswith("month"):
-                months += 1
-                records += (len(line.split()) - 1) // 3
-            elif line.startswith("refused 11 "):
-                writer = cases[at // 3]
-                if refused_main(writer.clock, writer.calls[2], int(line.split()[2])):
-                    mains += 1
-                else:
-                    products += 1
-            our_line = ours[at] if at < len(ours) else "nothing"
-            if our_line != line:
-                differences += 1
-                print("differs: seed %d case %d\n< %s\n> %s" % (seed, first + at // 3, line[:300], our_line[:300]))
-        if len(ours) > len(theirs):
-            differences += 1
-            print("more lines than calls from case %d on: %s" % (first, ours[len(theirs)][:300]))
+        compare(counts, program, seed, range(first, min(first + BATCH, count)))
     print(
         "%d cases: %d months given with %d records, %d refusals 11 (%d of a main, %d of a product), %d differences"
-        % (count, months, records, mains + products, mains, products, differences)
+        % (count, counts["months"], counts["records"], counts["mains"] + counts["products"],
+           counts["mains"], counts["products"], counts["differences"])
     )
-    return 1 if differences or not months else 0
+    return 1 if counts["differences"] or not counts["months"] else 0
 
 
 if __name__ == "__main__":
