@@ -1,17 +1,10 @@
--- What the functions of the replay hand on to one another, over a buffer of n bytes. Assumes nothing.
-use Prim.Native.Nat.{ℕ, _≤_}
+-- What a call of the replay leaves, over a buffer of n bytes. Assumes nothing.
+use Prim.Native.Nat.{ℕ}
 use Rattle.clock.specs.View.{Made}
 use Rattle.input.specs.Window.{Within}
 use Rattle.replay.specs.declared.Step.{Step}
-use Rattle.replay.specs.declared.reading.CardFile.{CardFile}
 
 -- the clock is one that a clock call made, and the window stands in the buffer
 pub record StepPost (n : ℕ) (s : Step) : Type 0 where
   pub made : Made (s .clock)
   pub within : Within n (s .window)
-
--- the card file stands in the buffer
-pub record FilePost (n : ℕ) (f : CardFile) : Type 0 where
-  pub within : Within n (f .window)
-  pub ordered : f .from ≤ f .end
-  pub inside : f .end ≤ n

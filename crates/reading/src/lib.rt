@@ -2,7 +2,7 @@
 ghost use Prim.Native.Nat.{_+_, _≤_, _<_};
 ghost use lib.ListN.{length};
 ghost use Rattle.input.specs.Window.{Within};
-ghost use Rattle.replay.specs.Posts.{FilePost};
+ghost use Rattle.reading.specs.Posts.{FilePost};
 use input::Window;
 use script::Call;
 use script::Entry;

@@ -1,18 +1,22 @@
-// The lines that answer a script. Each function puts one on the page and gives the place behind it.
-use clock::HeightAnswer;
-use clock::TurnsAnswer;
+// The lines that answer a script. Each function puts one on the page and gives the place behind it, which is on the page.
+ghost use Prim.Native.Nat.{_≤_};
+ghost use lib.ListN.{length};
 use refusals::Answer;
 use refusals::Refusal;
 
 // script LINE
-pub fn put_script(page: &mut [u8], at: usize, line: u64) -> usize {
+pub fn put_script(page: &mut [u8], at: usize, line: u64) -> usize
+    ensures { λ r. ⌜ r ≤ length (now (page .entry)) ⌝ }
+{
     let word = output::put_bytes(page, at, b"script ");
     let end = output::put_number(page, word, line);
     output::put(page, end, 10)
 }
 
 // refused NUMBER PLACE
-fn put_refused(page: &mut [u8], at: usize, refusal: Refusal, place: usize) -> usize {
+pub fn put_refused(page: &mut [u8], at: usize, refusal: Refusal, place: usize) -> usize
+    ensures { λ r. ⌜ r ≤ length (now (page .entry)) ⌝ }
+{
     let number = refusals::number_of(refusal);
     let word = output::put_bytes(page, at, b"refused ");
     let first = output::put_number(page, word, number as u64);
@@ -21,28 +25,37 @@ fn put_refused(page: &mut [u8], at: usize, refusal: Refusal, place: usize) -> us
     output::put(page, end, 10)
 }
 
+// accepted
+fn put_accepted(page: &mut [u8], at: usize) -> usize
+    ensures { λ r. ⌜ r ≤ length (now (page .entry)) ⌝ }
+{
+    let end = output::put_bytes(page, at, b"accepted");
+    output::put(page, end, 10)
+}
+
 // accepted, or refused NUMBER PLACE
-pub fn put_answer(page: &mut [u8], at: usize, answer: Answer) -> usize {
+pub fn put_answer(page: &mut [u8], at: usize, answer: Answer) -> usize
+    ensures { λ r. ⌜ r ≤ length (now (page .entry)) ⌝ }
+{
     match answer {
-        Answer::Accepted => output::put_bytes(page, at, b"accepted\n"),
+        Answer::Accepted => put_accepted(page, at),
         Answer::Refused(refusal, place) => put_refused(page, at, refusal, place),
     }
 }
 
 // height H
-pub fn put_height(page: &mut [u8], at: usize, answer: HeightAnswer) -> usize {
-    match answer {
-        HeightAnswer::Height(height) => {
-            let word = output::put_bytes(page, at, b"height ");
-            let end = output::put_signed(page, word, height);
-            output::put(page, end, 10)
-        }
-        HeightAnswer::Refused(refusal, place) => put_refused(page, at, refusal, place),
-    }
+pub fn put_height(page: &mut [u8], at: usize, height: i64) -> usize
+    ensures { λ r. ⌜ r ≤ length (now (page .entry)) ⌝ }
+{
+    let word = output::put_bytes(page, at, b"height ");
+    let end = output::put_signed(page, word, height);
+    output::put(page, end, 10)
 }
 
 // heights H0 H1 ...
-fn put_heights(page: &mut [u8], at: usize, heights: &[i64]) -> usize {
+fn put_heights(page: &mut [u8], at: usize, heights: &[i64]) -> usize
+    ensures { λ r. ⌜ r ≤ length (now (page .entry)) ⌝ }
+{
     let mut next = output::put_bytes(page, at, b"heights");
     let mut i = 0;
     while i < heights.len() {
@@ -54,7 +67,9 @@ fn put_heights(page: &mut [u8], at: usize, heights: &[i64]) -> usize {
 }
 
 // What a series says: its heights where it is accepted.
-pub fn put_series(page: &mut [u8], at: usize, answer: Answer, heights: &[i64]) -> usize {
+pub fn put_series(page: &mut [u8], at: usize, answer: Answer, heights: &[i64]) -> usize
+    ensures { λ r. ⌜ r ≤ length (now (page .entry)) ⌝ }
+{
     match answer {
         Answer::Accepted => put_heights(page, at, heights),
         Answer::Refused(refusal, place) => put_refused(page, at, refusal, place),
@@ -96,7 +111,9 @@ fn put_found<'a>(
     count: usize,
     minutes: &'a [u32],
     heights: &'a [i64],
-) -> usize {
+) -> usize
+    ensures { λ r. ⌜ r ≤ length (now (page .entry)) ⌝ }
+{
     let mut next = at;
     let mut i = 0;
     while i < count {
@@ -106,19 +123,17 @@ fn put_found<'a>(
     output::put(page, next, 10)
 }
 
-// What a search says: turns COUNT FIRST_HIGH M0 H0 M1 H1 ... where it is accepted.
+// turns COUNT FIRST_HIGH M0 H0 M1 H1 ...
 pub fn put_turns<'a>(
     page: &mut [u8],
     at: usize,
-    answer: TurnsAnswer,
+    count: usize,
+    high: bool,
     minutes: &'a [u32],
     heights: &'a [i64],
-) -> usize {
-    match answer {
-        TurnsAnswer::Turns(count, high) => {
-            let next = put_count(page, at, count, high);
-            put_found(page, next, count, minutes, heights)
-        }
-        TurnsAnswer::Refused(refusal, place) => put_refused(page, at, refusal, place),
-    }
+) -> usize
+    ensures { λ r. ⌜ r ≤ length (now (page .entry)) ⌝ }
+{
+    let next = put_count(page, at, count, high);
+    put_found(page, next, count, minutes, heights)
 }

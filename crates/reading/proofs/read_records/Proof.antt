@@ -1,11 +1,11 @@
--- `replay::reading::read_records` meets its contract: each line leaves the window in the buffer. The measure is the lines left. Assumes nothing.
+-- `reading::read_records` meets its contract: each line leaves the window in the buffer. The measure is the lines left. Assumes nothing.
 use mathlib.Core.Path.{_≡_}
 use Prim.Native.Nat.{_-_}
 use lib.ListN.{length}
 use borrow.Author.Needs.{needs}
 use Rattle.input.specs.Window.{Within}
-use Rattle.replay.proofs.reading.read_records.Statement.{statement}
-use Rattle.replay.proofs.reading.read_records.Tie as tie
+use Rattle.reading.proofs.read_records.Statement.{statement}
+use Rattle.reading.proofs.read_records.Tie as tie
 
 abbrev Inv-loop : tie.InvT-loop
 Inv-loop buffer₀ count rows₀ held₀ k₀ buffer rows held k = (length buffer ≡ length buffer₀) × Within (length buffer₀) held
