@@ -2,4 +2,3 @@ pub mod Reduced
 pub mod Rows
 pub mod Chain
 pub mod Views
-pub mod Cases

@@ -1,21 +1,18 @@
 -- Laws of places: a place that a name finds is one of those counted, and the searches through rows of cards go one row on.
 -- By induction on the names, and by the clauses of the definitions. Assumes nothing.
-use mathlib.Core.Path.{_≡_, refl, sym, ap, _∙_}
+use mathlib.Core.Path.{_≡_, refl, ap}
 use Prim.Native.Nat.{ℕ, zero, suc, _+_, _-_, _*_, _≤_, _<_}
 use mathlib.Core.List.{List, [], _∷_, _++_}
 use mathlib.Core.Bool.{Bool, true, false, cond, _||_}
 use lib.Dec.{eqb}
 use lib.ListN.{length, getD}
 use native.Mathlib.Omega.{arith}
-use native.Mathlib.Numerals.{add-one}
 use Rattle.columns.specs.Names.{same, namesFrom, placeFrom, placeOf}
-use Rattle.columns.specs.declared.Found.{Found}
-use Rattle.columns.specs.declared.Found.the-variants.{At, Nothing}
+use Rattle.columns.specs.declared.Found.the-variants.{At}
 use Rattle.table.specs.View.{listed}
 use Rattle.table.proofs.Rows.{listed-next, listed-end}
 use Rattle.cards.specs.Card.{good, bad, isAmong}
 use Rattle.cards.specs.Shallows.{mainAt}
-use Rattle.cards.specs.Answers.{placesIn}
 
 -- names from place k on are found at place k or above, and below their end
 place-before : (name names : List ℕ) (k n place : ℕ) → placeFrom name (namesFrom names k n) k ≡ At place → place < k + n

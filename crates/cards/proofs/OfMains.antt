@@ -1,9 +1,9 @@
 -- Laws of part 3: the satellites and mains that the stored rows stand for. A row stored gives its entry and keeps those before it,
 -- since no main has a satellite past those stored.
 -- By the laws of rows of the table. Assumes nothing.
-use mathlib.Core.Path.{_≡_, refl, sym, ap, _∙_}
-use Prim.Native.Nat.{ℕ, zero, suc, _+_, _-_, _*_, _≤_, _<_, min}
-use mathlib.Core.List.{List, [], _∷_, _++_, map}
+use mathlib.Core.Path.{_≡_, refl, sym, _∙_}
+use Prim.Native.Nat.{ℕ, zero, suc, _+_, _-_, _*_, _≤_, _<_}
+use mathlib.Core.List.{List, [], _∷_, _++_}
 use mathlib.Core.Bool.{Bool, true, false, cond}
 use native.Mathlib.Omega.{arith}
 use native.Mathlib.Nat.{zero-add, add-zero}
@@ -11,7 +11,7 @@ use native.Mathlib.Numerals.{lt-of-le-of-ne}
 use lib.Dec.{leb, ltb, eqb}
 use borrow.Author.Tests.{ltb-false, eqb-true, eqb-false}
 use lib.IntN.{ℤ, pos, natAbs}
-use lib.ListN.{length, getD, set, take, drop, length-append}
+use lib.ListN.{length, getD, set, drop, length-append}
 use lib.Seq.{sets, getD-set-same, getD-set-other, take-at, getD-at}
 use Rattle.table.specs.Table.{markOf, Satellite, Main}
 use Rattle.table.specs.View.{listed, rowOf, naturals, integers, satelliteOf, mainOf}
@@ -21,7 +21,7 @@ use Rattle.columns.specs.Lines.{linesOf, firstLine, restLines}
 use Rattle.cards.specs.declared.mains.MainRead.{MainRead}
 use Rattle.cards.proofs.Walk.{lines-here, lines-end}
 use Rattle.cards.proofs.Rows.{had-room, opened-good}
-use Rattle.cards.specs.Card.{Card, good, bad, _>>=_, gives, opening, opened, newPlace, number, numbers, given, refused, onward, onwardOrEnd}
+use Rattle.cards.specs.Card.{Card, good, bad, _>>=_, gives, opening, newPlace, number, numbers, given, refused, onward, onwardOrEnd}
 use Rattle.cards.specs.Formats.{satelliteColumn, mainName, doodsonField, mainPhaseField, satelliteCountField}
 use Rattle.cards.specs.Mains.{MainCard, mainMade, mainNumbers, mainCard, nextMain, satellite, satellitesOn, satelliteCard, withMore, mainPlaces, mainsFrom, satellitesFrom}
 use Rattle.cards.specs.Answers.{mainGives, placesIn, Kept, satellitesEnd, Stored, mainsIn}

@@ -1,11 +1,11 @@
 -- Laws of number fields: what a range tells of the number in it, and a row of fields with one field more.
 -- By cases on the signs, and by the clauses of the definitions. Assumes nothing.
-use mathlib.Core.Path.{_≡_, refl, sym, ap, _∙_, subst}
+use mathlib.Core.Path.{_≡_, refl, ap, _∙_}
 use Prim.Native.Nat.{ℕ, zero, suc, _+_, _-_, _^_, _≤_, _<_}
 use mathlib.Core.List.{List, [], _∷_, _++_, map, map-map, map-id}
 use mathlib.Core.Bool.{Bool, true, false, false≢true, cond, _&&_}
-use lib.Dec.{T, leb, ltb}
-use lib.ListN.{length, getD, set, take}
+use lib.Dec.{T}
+use lib.ListN.{length, set, take}
 use lib.Seq.{take-suc-set}
 use lib.IntN.{ℤ, pos, negsuc, negℤ, natAbs, _-ℤ_, +ℤ-idl}
 use lib.Signed.{leZ, nonNeg}
@@ -17,7 +17,7 @@ use native.Mathlib.Omega.{arith}
 use native.Mathlib.Numerals.{add-one}
 use Rattle.fields.specs.Number as field
 use Rattle.fields.specs.Number.{inRange}
-use Rattle.fields.specs.declared.Field.the-variants.{Value, Malformed, OutOfRange}
+use Rattle.fields.specs.declared.Field.the-variants.{Value, OutOfRange}
 use Rattle.fields.specs.declared.Field.{Field}
 use Rattle.columns.specs.Columns.{columns}
 use Rattle.cards.specs.Formats.{Number}

@@ -1,21 +1,20 @@
 -- Laws of part 1: a frequency that is read is the card's, and a name and a frequency stored at the next place are the table's last entry.
 -- By the clauses of the definitions, and the laws of rows of the table.
-use mathlib.Core.Path.{_≡_, refl, sym, ap, _∙_}
+use mathlib.Core.Path.{_≡_, refl, ap, _∙_}
 use Prim.Native.Nat.{ℕ, zero, suc, _+_, _-_, _*_, _≤_, _<_}
-use mathlib.Core.List.{List, [], _∷_, _++_, map}
+use mathlib.Core.List.{List, [], _∷_, _++_}
 use mathlib.Core.Bool.{Bool, true, false, cond}
 use native.Mathlib.Omega.{arith}
-use native.Mathlib.Nat.{zero-add, add-zero, ne-of-lt}
+use native.Mathlib.Nat.{zero-add, add-zero}
 use native.Mathlib.Numerals.{add-one}
 use lib.Dec.{leb}
 use lib.IntN.{natAbs}
-use lib.ListN.{length, getD, set, drop, length-drop}
+use lib.ListN.{length, getD, set, drop}
 use lib.Seq.{sets, getD-set-same, getD-set-other}
 use borrow.Author.Tests.{leb-false}
 use Rattle.columns.specs.Columns.{padded, columns}
 use Rattle.columns.specs.Lines.{lineGood, blankCard, linesOf, firstLine, restLines}
-use Rattle.columns.specs.Names.{nameAt, namesFrom}
-use Rattle.columns.proofs.Columns.{length-padded}
+use Rattle.columns.specs.Names.{namesFrom}
 use Rattle.table.specs.Table.{Frequency}
 use Rattle.table.specs.View.{listed, rowOf, frequencyOf}
 use Rattle.table.proofs.Rows.{listed-same, listed-one-more, row-put, row-kept}

@@ -1,7 +1,7 @@
 -- 01: one card. "Cards go line by line, 1 first, then fields left to right, each 2, 3, 4, 5".
 use Prim.Native.Nat.{ℕ, zero, suc, _+_}
 use mathlib.Core.List.{List, [], _∷_, _++_}
-use mathlib.Core.Bool.{Bool, true, false, cond, _||_}
+use mathlib.Core.Bool.{Bool, false, cond, _||_}
 use lib.Dec.{leb, eqb}
 use lib.IntN.{ℤ}
 use Rattle.columns.specs.Bytes.{blank, every}

@@ -3,7 +3,7 @@ use Prim.Native.Nat.{ℕ, _+_}
 use mathlib.Core.List.{List, [], _∷_, _++_}
 use mathlib.Core.Bool.{cond}
 use Rattle.columns.specs.Lines.{linesOf}
-use Rattle.table.specs.Table.{Frequency, Main, Shallow, Table}
+use Rattle.table.specs.Table.{Frequency, Table}
 use Rattle.cards.specs.Formats.{longitudeField, increaseField}
 use Rattle.cards.specs.Card as card
 use Rattle.cards.specs.Card.{Reading, given, isAmong}

@@ -6,7 +6,7 @@ use lib.IntN.{natAbs}
 use Rattle.columns.specs.Columns.{columns}
 use Rattle.table.specs.Table.{Frequency}
 use Rattle.cards.specs.Formats.{frequencyName, frequencyField}
-use Rattle.cards.specs.Card.{Card, good, _>>=_, number, newName, Next, nextCard, Reading, given, refused, onwardOrEnd}
+use Rattle.cards.specs.Card.{Card, good, number, newName, Next, nextCard, Reading, given, refused, onwardOrEnd, _>>=_}
 
 -- the names of the frequencies
 abbrev pub namesOf : List Frequency → List (List ℕ)

@@ -3,7 +3,7 @@ use Prim.Native.Nat.{ℕ, _+_}
 use mathlib.Core.List.{List, [], _∷_, map}
 use lib.IntN.{natAbs}
 use Rattle.cards.specs.Formats.{Number}
-use Rattle.cards.specs.Card.{Card, good, _>>=_, numbers, dueCard, Reading, given, refused, onward}
+use Rattle.cards.specs.Card.{Card, good, numbers, dueCard, Reading, given, refused, onward, _>>=_}
 
 -- a card of five numbers
 unfoldable pub fiveCard : (ℕ → Number) → List ℕ → Card (List ℕ)

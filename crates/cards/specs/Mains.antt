@@ -8,7 +8,7 @@ use lib.IntN.{ℤ, natAbs}
 use Rattle.columns.specs.Columns.{column, columns}
 use Rattle.table.specs.Table.{markOf, Satellite, Main}
 use Rattle.cards.specs.Formats.{mainName, doodsonField, mainPhaseField, satelliteCountField, satelliteColumn, differenceField, satellitePhaseField, ratioField, markColumn}
-use Rattle.cards.specs.Card.{Card, good, bad, _>>=_, number, numbers, newPlace, Next, nextCard, dueCard, Reading, given, refused, onward, onwardOrEnd}
+use Rattle.cards.specs.Card.{Card, good, bad, number, numbers, newPlace, Next, nextCard, dueCard, Reading, given, refused, onward, onwardOrEnd, _>>=_}
 
 -- the places that mains define
 abbrev pub mainPlaces : List Main → List ℕ

@@ -1,7 +1,7 @@
 -- 01, The card file, part 4: shallow-water constituents.
 use Prim.Native.Nat.{ℕ, zero, suc, _+_}
 use mathlib.Core.List.{List, [], _∷_, _++_, map}
-use mathlib.Core.Bool.{Bool, cond, _||_, not}
+use mathlib.Core.Bool.{cond, _||_, not}
 use lib.Dec.{ltb, eqb}
 use lib.ListN.{length}
 use lib.IntN.{ℤ, pos, natAbs}
@@ -10,7 +10,7 @@ use Rattle.columns.specs.Columns.{columns}
 use Rattle.columns.specs.Names.{placeOf}
 use Rattle.table.specs.Table.{Part, Shallow}
 use Rattle.cards.specs.Formats.{shallowName, partCountField, partColumn, coefficientField, partName}
-use Rattle.cards.specs.Card.{Card, good, bad, _>>=_, number, placeFound, newPlace, Next, nextCard, Reading, given, refused, onwardOrEnd}
+use Rattle.cards.specs.Card.{Card, good, bad, number, placeFound, newPlace, Next, nextCard, Reading, given, refused, onwardOrEnd, _>>=_}
 
 -- a coefficient, of hundredths, after parts whose sizes add up to `sizes`:
 -- "3 number outside its stated range, coefficient not whole, or the one that takes the sizes past 12"; it is not 0

@@ -1,1 +1,3 @@
+pub mod Advance
+pub mod Level
 pub mod Starred

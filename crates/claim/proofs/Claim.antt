@@ -12,6 +12,7 @@ use lib.IntN.{ℤ}
 use Rattle.cards.specs.Cards as cards
 use Rattle.cards.specs.Cards.{readCards}
 use Rattle.station.specs.declared.Record.{Record}
+use Rattle.station.specs.Posts.{recordsOf}
 use Rattle.clock.specs.declared.Clock.{Clock}
 use Rattle.clock.specs.State as state
 use Rattle.clock.specs.State.{State, some, none}
@@ -19,7 +20,7 @@ use Rattle.clock.specs.Returned.{Returned, accepted, heightIs, turnsAre, refuse
 use Rattle.clock.specs.Calls.{cardsReturns, cardsLeaves, fileReturns, fileLeaves, stationReturns, stationLeaves, dateReturns, dateLeaves, heightReturns, seriesGives, turnsGives}
 use Rattle.clock.specs.View.{view, Made}
 use Rattle.clock.specs.Posts.{NewPost, CardsPost, StationPost, DatePost, HeightPost, SeriesPost, TurnsPost}
-use Rattle.claim.specs.Calls.{Keeps, New, news, Call, loads, stations, dates, heights, serieses, searches, Calls, done, _then_}
+use Rattle.claim.specs.Calls.{Keeps, New, news, Call, loads, stations, placed, dates, heights, serieses, searches, Calls, done, _then_}
 use Rattle.claim.specs.Document.{Request, Cards, Station, Date, Height, Series, Turns, Gave, told, wrote, found, Last, nothing, tableIn, workedOut, after, gives, givesAll, lastAfter, EachNear}
 use Rattle.claim.proofs.Points.{near-calls}
 use Rattle.claim.proofs.Decided.{same-once}
@@ -77,6 +78,12 @@ call-agrees l h (stations κs a r s k) =
     ∥∥₁-map (k .keeps (Made (a .0)) (StationPost (a .0) (a .1 .0) (now (a .1 .1 .0)) (r .answer) (r .clock)) (λ w. id⊢ (w .𝓤) _) (λ w. id⊢ (w .𝓤) _) (h .made)) (λ p. (
       ap told (p .returns ∙ ap (λ (x : State). stationReturns x (a .1 .0) (now (a .1 .1 .0))) (h .keeps)),
       record { made = p .made; keeps = p .leaves ∙ ap (λ (x : State). stationLeaves x (a .1 .0) (now (a .1 .1 .0))) (h .keeps) ∙ station-works l (a .1 .0) (now (a .1 .1 .0)) },
+    ))
+call-agrees l h (placed κs a r s k) =
+    let records = recordsOf (a .1 .1 .1 .0) (a .1 .1 .0) in
+    ∥∥₁-map (k .keeps (Made (a .0)) (StationPost (a .0) (a .1 .0) records (r .answer) (r .clock)) (λ w. id⊢ (w .𝓤) _) (λ w. id⊢ (w .𝓤) _) (h .made)) (λ p. (
+      ap told (p .returns ∙ ap (λ (x : State). stationReturns x (a .1 .0) records) (h .keeps)),
+      record { made = p .made; keeps = p .leaves ∙ ap (λ (x : State). stationLeaves x (a .1 .0) records) (h .keeps) ∙ station-works l (a .1 .0) records },
     ))
 call-agrees l h (dates κs a r s k) =
     ∥∥₁-map (k .keeps (Made (a .0)) (DatePost (a .0) (a .1 .0) (a .1 .1 .0) (r .answer) (r .clock)) (λ w. id⊢ (w .𝓤) _) (λ w. id⊢ (w .𝓤) _) (h .made)) (λ p. (

@@ -8,12 +8,14 @@ use contract.Lifetimes.{Lfts}
 use denote.Ref.{now}
 use denote.Triple.Clauses.{AtExit}
 use borrow.Fn.World.{World, ArgsD, ResD}
+use Rattle.station.specs.Posts.{recordsOf}
 use Rattle.clock.specs.declared.Clock.{Clock}
 use Rattle.clock.specs.Returned.{answerReturned, heightReturned, turnsReturned}
 use Rattle.claim.specs.Document.{Request, Cards, Station, Date, Height, Series, Turns, Gave, told, wrote, found}
 use Rattle.clock.proofs.new as new
 use Rattle.clock.proofs.load_cards as load
 use Rattle.clock.proofs.set_station as station
+use Rattle.clock.proofs.place_station as placing
 use Rattle.clock.proofs.set_date as date
 use Rattle.clock.proofs.height as height
 use Rattle.clock.proofs.series as series
@@ -32,6 +34,7 @@ pub data New : Clock → Type 2 where
       (λ w. new.clauses (w .𝓤) (w .H) (w .𝓖 .A) (w .𝓜 .mem) (w .𝓡 .run) κs a .ensures tt r s)
       → New r
 
+-- (A station is lent as a row of records, `stations`, or with its records taken apart into plain arrays, `placed`.)
 -- One call: the clock that it gets, the call with all that is lent to it, what it gives, and the clock that it leaves. (`a` are the
 -- arguments, `r` is the result, and `s` has the lent buffers at exit.)
 pub data Call : Clock → Request → Gave → Clock → Type 2 where
@@ -43,6 +46,10 @@ pub data Call : Clock → Request → Gave → Clock → Type 2 where
       → Keeps (λ w. station.clauses (w .𝓤) (w .H) (w .𝓖 .A) (w .𝓜 .mem) (w .𝓡 .run) κs a .requires tt)
       (λ w. station.clauses (w .𝓤) (w .H) (w .𝓖 .A) (w .𝓜 .mem) (w .𝓡 .run) κs a .ensures tt r s)
       → Call (a .0) (Station (a .1 .0) (now (a .1 .1 .0))) (told (answerReturned (r .answer))) (r .clock)
+  placed : (κs : Lfts 0) (a : ArgsD placing.signature κs) (r : ResD placing.signature κs) (s : AtExit placing.ended κs)
+      → Keeps (λ w. placing.clauses (w .𝓤) (w .H) (w .𝓖 .A) (w .𝓜 .mem) (w .𝓡 .run) κs a .requires tt)
+      (λ w. placing.clauses (w .𝓤) (w .H) (w .𝓖 .A) (w .𝓜 .mem) (w .𝓡 .run) κs a .ensures tt r s)
+      → Call (a .0) (Station (a .1 .0) (recordsOf (a .1 .1 .1 .0) (a .1 .1 .0))) (told (answerReturned (r .answer))) (r .clock)
   dates : (κs : Lfts 0) (a : ArgsD date.signature κs) (r : ResD date.signature κs) (s : AtExit date.ended κs)
       → Keeps (λ w. date.clauses (w .𝓤) (w .H) (w .𝓖 .A) (w .𝓜 .mem) (w .𝓡 .run) κs a .requires tt)
       (λ w. date.clauses (w .𝓤) (w .H) (w .𝓖 .A) (w .𝓜 .mem) (w .𝓡 .run) κs a .ensures tt r s)

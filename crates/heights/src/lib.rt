@@ -43,7 +43,7 @@ pub fn angle_at(argument: u64, lag: u16, frequency: u64, minute: u64) -> u64
 }
 
 // The angles of the first `count` constituents at a minute.
-pub fn angles_at<'a>(
+fn angles_at<'a>(
     arguments: &'a [u64; 146],
     lags: &'a [u16; 146],
     frequencies: &'a [u64; 146],
@@ -71,7 +71,7 @@ fn advance(frequency: u64, step: u64) -> u64
 }
 
 // What the first `count` constituents advance in `step` minutes.
-pub fn advances(frequencies: &[u64; 146], count: usize, step: u64) -> [u64; 146]
+fn advances(frequencies: &[u64; 146], count: usize, step: u64) -> [u64; 146]
     requires { ⌜ (count ≤ 146) × (step ≤ 1_440) ⌝ }
     ensures { λ r. ⌜ Advances (now (frequencies .entry)) count step r ⌝ }
 {
@@ -94,7 +94,7 @@ fn sum_of(angle: u64, ticks: u64) -> u64
 }
 
 // Moves the first `count` angles on, each by its own advance.
-pub fn move_on(angles: &mut [u64; 146], ticks: &[u64; 146], count: usize)
+fn move_on(angles: &mut [u64; 146], ticks: &[u64; 146], count: usize)
     requires { ⌜ (length (now angles) ≡ 146) × ((count ≤ 146) × (Below count (now angles) × Below count (now ticks))) ⌝ }
     ensures { λ r. ⌜ length (now (angles .exit)) ≡ 146 ⌝ }
     ensures { λ r. ⌜ MovedOn count (now (ticks .entry)) (now (angles .entry)) (now (angles .exit)) ⌝ }
@@ -116,7 +116,7 @@ pub fn weigh(weight: i32, wave: i64) -> i64
 }
 
 // The share of weights P and Q at an angle.
-pub fn share_at(table: &[u32; ENTRIES], angle: u64, p: i32, q: i32) -> i64
+fn share_at(table: &[u32; ENTRIES], angle: u64, p: i32, q: i32) -> i64
     requires { ⌜ IsTable (now table) ⌝ }
     ensures { λ r. ⌜ r ≡ share p q angle ⌝ }
     ensures { λ r. ⌜ natAbs r ≤ 2 ^ 32 ⌝ }
@@ -126,7 +126,7 @@ pub fn share_at(table: &[u32; ENTRIES], angle: u64, p: i32, q: i32) -> i64
 }
 
 // The height of the first `count` constituents at the minute that the angles are for.
-pub fn height_of<'a>(
+fn height_of<'a>(
     table: &'a [u32; ENTRIES],
     angles: &'a [u64; 146],
     ps: &'a [i32; 146],

@@ -1,7 +1,7 @@
 -- 01, The card file: what an accepted card file gives, in the units of its cards.
 -- Frequencies and longitudes are in 10^-10 cycle, phases in hundredths of a cycle, ratios in ten-thousandths.
 use Prim.Native.Nat.{ℕ}
-use mathlib.Core.List.{List, [], _∷_}
+use mathlib.Core.List.{List, []}
 use mathlib.Core.Bool.{cond}
 use lib.Dec.{eqb}
 use lib.ListN.{replicate}

@@ -1,4 +1,5 @@
--- 01, "Checked against": "K1+O1 against M2+S2"; and the search on slopes that fall evenly. By computing. Assumes nothing.
+-- 01, "Checked against": "K1+O1 against M2+S2: .. 300, 100 gives 30; 0, 0 gives 180" (the starred strides are in crate cases);
+-- and the search on slopes that fall evenly. By computing. Assumes nothing.
 use mathlib.Core.Path.{_≡_, refl}
 use mathlib.Core.Bool.{true}
 use mathlib.Core.List.{[], _∷_}
@@ -7,15 +8,6 @@ use lib.IntN.{subℕ}
 use Rattle.turns.specs.Slope.{rising}
 use Rattle.turns.specs.Stride.{strideBy}
 use Rattle.turns.specs.Search.{differ, cutFrom, turnsFrom, turnsOf}
-
-pub quarter : strideBy 100 400 ≡ 180
-quarter = refl
-
-pub over-quarter : strideBy 101 400 ≡ 30
-over-quarter = refl
-
-pub over-three : strideBy 301 100 ≡ 360
-over-three = refl
 
 pub three : strideBy 300 100 ≡ 30
 three = refl

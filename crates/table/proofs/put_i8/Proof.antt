@@ -1,13 +1,11 @@
+-- `table::put_i8` meets its contract. The loop keeps that storing what is left of the row gives what storing all of it gives.
 use borrow.Author.Needs.{needs}
 use Rattle.table.proofs.put_i8.Statement.{statement}
 use Rattle.table.proofs.put_i8.Tie as tie
-use Rattle.table.proofs.put_i8.Reads as reads
-use Rattle.table.proofs.put_i8.Lts as lts
-use mathlib.Core.Path.{_≡_, refl, sym, ap, _∙_}
-use native.Mathlib.Omega.{arith}
+use mathlib.Core.Path.{_≡_, refl}
 use native.Mathlib.Nat.{add-zero}
-use Prim.Native.Nat.{_+_, _-_, _≤_}
-use lib.ListN.{length, getD, drop, length-set}
+use Prim.Native.Nat.{_+_, _-_}
+use lib.ListN.{length, getD, drop}
 use lib.Seq.{sets}
 use lib.IntN.{pos}
 use mir.Syntax.{w8}
@@ -21,31 +19,24 @@ Inv-loop xs₀ at row j₀ xs j = (length xs ≡ length xs₀) × (sets xs (at +
 abbrev μ-loop : tie.MeasureT-loop
 μ-loop xs₀ at row j₀ xs j = length row - j
 
--- src/lib.rt:115:5
 loop-holds : tie.Need-loop-holds Inv-loop μ-loop
 loop-holds c = (refl, rw (add-zero _))
 
--- src/lib.rt:116:22
 shared-slice-copy-out-xs : tie.Need-shared-slice-copy-out-xs Inv-loop μ-loop
 shared-slice-copy-out-xs c = search needs
 
--- src/lib.rt:116:12
 add-t5 : tie.Need-add-t5 Inv-loop μ-loop
 add-t5 c = search needs
 
--- src/lib.rt:116:9
 slice-set-from-xs : tie.Need-slice-set-from-xs Inv-loop μ-loop
 slice-set-from-xs c = search needs
 
--- src/lib.rt:117:13
 add-j : tie.Need-add-j Inv-loop μ-loop
 add-j c = search needs
 
--- src/lib.rt:115:5
 loop-less : tie.Need-loop-less Inv-loop μ-loop
 loop-less c = search needs
 
--- src/lib.rt:115:5
 loop-again : tie.Need-loop-again Inv-loop μ-loop
 loop-again c =
     let s = c .before .before in
@@ -53,11 +44,9 @@ loop-again c =
     let f : SFits w8 (getD (a .row .now) (s .loop .j) (pos 0)) = search needs in
     (search needs, rw (toZ-ofZ w8 (getD (a .row .now) (s .loop .j) (pos 0)) f) (rw (copy-next (s .loop .xs) (a .row .now) (a .at) (s .loop .j) (pos 0) (c .before .loop-test .taken)) at (s .loop .inv .1)))
 
--- src/lib.rt:110:1
 same-length : tie.Need-same-length Inv-loop μ-loop
 same-length c = search needs
 
--- src/lib.rt:110:1
 returns : tie.Need-returns Inv-loop μ-loop
 returns c =
     let s = c .before in

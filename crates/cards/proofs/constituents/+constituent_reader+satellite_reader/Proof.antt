@@ -1,3 +1,6 @@
+-- `cards::constituents::constituent_reader` and `satellite_reader` meet their contracts together, by induction on the bytes left.
+-- First what is known once a main is stored (`begun`) or has satellites more (`grown`): its rows, that no main has a satellite past those stored,
+-- and what is left to read. Each call is then that last fact, with the branch taken. Rests on the laws of part 3.
 use borrow.Author.Needs.{needs}
 use borrow.Fn.Kinds.{In}
 use borrow.Fn.PlainCycle.{Measures, is, falls, and}
@@ -18,8 +21,8 @@ use Rattle.cards.proofs.constituents.+constituent_reader+satellite_read
 use Rattle.cards.proofs.constituents.+constituent_reader+satellite_reader.Tie.{close}
 use Prim.Native.Nat.{ℕ, _+_, _-_, _*_, _≤_, _<_, min}
 use lib.ListN.{length}
-use mathlib.Core.Path.{_≡_, refl, sym, ap, _∙_}
-use mathlib.Core.List.{List, [], _∷_, _++_}
+use mathlib.Core.Path.{_≡_, sym, ap, _∙_}
+use mathlib.Core.List.{[], _∷_}
 use native.Mathlib.Omega.{arith}
 use native.Mathlib.Nat.{add-zero}
 use native.Mathlib.Numerals.{add-one-le}
@@ -29,17 +32,15 @@ use Rattle.columns.specs.Lines.{linesOf}
 use Rattle.table.specs.View.{listed, satelliteOf, mainOf}
 use lib.ListN.{getD, set, drop, length-set}
 use lib.Seq.{sets, length-sets}
-use lib.IntN.{ℤ}
 use mir.Syntax.{w8}
 use mir.Val.{SFits}
 use mir.ValLaws.{toZ-ofZ}
 use borrow.Author.Tests.{eq-eqb, ne-eqb, le-leb, lt-leb}
 use Rattle.columns.specs.Names.{namesFrom}
-use Rattle.table.specs.Table.{Main}
 use Rattle.table.proofs.Rows.{listed-length, row-at}
-use Rattle.cards.specs.Mains.{MainCard, nextMain, satelliteCard, mainsFrom, satellitesFrom}
+use Rattle.cards.specs.Mains.{nextMain, satelliteCard, mainsFrom, satellitesFrom}
 use Rattle.cards.specs.Card.{good, gives}
-use Rattle.cards.specs.Answers.{faultGives, mainStepGives, mainGives, placesIn, MainRoom, Stored, satellitesEnd, mainsIn}
+use Rattle.cards.specs.Answers.{faultGives, mainStepGives, placesIn, MainRoom, Stored, satellitesEnd, mainsIn}
 use Rattle.cards.proofs.OfMains.{main-room, main-begun, begun-row, begun-stored, mains-kept-begun, mains-begun, main-grown, mains-kept-grown, mains-grown, grown-end, grown-stored, stored-one-more, mains-step, mains-end, satellites-step, satellites-end}
 
 abbrev μ-constituent-reader : Measures 6 constituent-reader-kinds.ps ℕ
@@ -161,49 +162,38 @@ begun-step t c =
     (rw (c .before .before .before .before .step .given .1) at (mains-step names (a .file .now) (a .at) (a .n) (a .cards .now) (a .angles .now) (a .sat .now) (a .ratios .now) (a .mains) (a .satellites) (c .before .before .before .before .before .before .before .before .before .before .before .before .next-line .result) (c .before .before .before .before .before .before .before .before .before .before .before .line-at .result .now) r
     (c .before .before .before .before .before .before .before .before .before .before .before .before .before .if1 .left) (c .before .before .before .before .before .before .before .before .before .before .before .line-at .ensures) (c .before .before .before .before .before .before .before .before .before .before .before .before .next-line .ensures .2) (c .before .before .before .before .before .before .before .before .next-main .ensures)))
 
--- src/constituents.rt:31:9
 constituent-reader-returns : (t : ℕ) → constituent-reader-lts.Need-returns (constituent-reader-claims t) (constituent-reader-at t) constituent-reader.Post
 constituent-reader-returns t c =
     let a = c .before .before .before .args in
     (rw (mains-end (namesFrom (a .names .now) 0 (a .frequencies)) (a .file .now) (a .at) (a .n) (a .cards .now) (a .angles .now) (a .sat .now) (a .ratios .now) (a .mains) (a .satellites) (c .if1 .taken)), (tt, c .before .before .before .pre .1 .3))
 
--- src/constituents.rt:33:9
 constituent-reader-next-line-requires : (t : ℕ) → constituent-reader-lts.Need-next-line-requires (constituent-reader-claims t) (constituent-reader-at t) constituent-reader.Post
 constituent-reader-next-line-requires t c κs = search needs
 
--- src/constituents.rt:34:26
 constituent-reader-line-at-requires : (t : ℕ) → constituent-reader-lts.Need-line-at-requires (constituent-reader-claims t) (constituent-reader-at t) constituent-reader.Post
 constituent-reader-line-at-requires t c κs = search needs
 
--- src/constituents.rt:34:9
 constituent-reader-next-main-requires : (t : ℕ) → constituent-reader-lts.Need-next-main-requires (constituent-reader-claims t) (constituent-reader-at t) constituent-reader.Post
 constituent-reader-next-main-requires t c κs = search needs
 
--- src/constituents.rt:39:73
 constituent-reader-enum-told : (t : ℕ) → constituent-reader-lts.Need-enum-told (constituent-reader-claims t) (constituent-reader-at t) constituent-reader.Post
 constituent-reader-enum-told t c = search needs
 
--- src/constituents.rt:39:73
 constituent-reader-add-t27 : (t : ℕ) → constituent-reader-lts.Need-add-t27 (constituent-reader-claims t) (constituent-reader-at t) constituent-reader.Post
 constituent-reader-add-t27 t c = search needs
 
--- src/constituents.rt:40:25
 constituent-reader-enum-known-step : (t : ℕ) → constituent-reader-lts.Need-enum-known-step (constituent-reader-claims t) (constituent-reader-at t) constituent-reader.Post
 constituent-reader-enum-known-step t c = search needs
 
--- src/constituents.rt:41:13
 constituent-reader-put-main-requires : (t : ℕ) → constituent-reader-lts.Need-put-main-requires (constituent-reader-claims t) (constituent-reader-at t) constituent-reader.Post
 constituent-reader-put-main-requires t c κs = (room t (c .before .before) .0, c .before .before .before .before .before .before .before .before .before .before .before .before .before .before .before .pre .1 .4)
 
--- src/constituents.rt:43:55
 constituent-reader-add-constituent-reader : (t : ℕ) → constituent-reader-lts.Need-add-constituent-reader (constituent-reader-claims t) (constituent-reader-at t) constituent-reader.Post
 constituent-reader-add-constituent-reader t c = omega (arith, c .before .before .before .before .before .before .before .before .before .before .before .before .before .before .before .before .before .pre .1 .0, c .before .before .before .before .before .before .before .before .before .before .before .before .before .before .before .before .before .pre .1 .1, c .before .before .before .before .before .before .before .before .before .before .before .before .before .before .before .before .before .good .0 .1)
 
--- src/constituents.rt:43:82
 constituent-reader-add-constituent-reader-2 : (t : ℕ) → constituent-reader-lts.Need-add-constituent-reader-2 (constituent-reader-claims t) (constituent-reader-at t) constituent-reader.Post
 constituent-reader-add-constituent-reader-2 t c = omega (arith, c .before .before .before .before .before .before .before .before .before .before .before .before .before .before .before .before .before .pre .1 .3)
 
--- src/constituents.rt:43:17
 constituent-reader-constituent-reader-requires : (t : ℕ) → constituent-reader-lts.Need-constituent-reader-requires (constituent-reader-claims t) (constituent-reader-at t) constituent-reader.Post
 constituent-reader-constituent-reader-requires t c κs =
     let p = c .before .before .before .before .before .before .before .before .before .before .before .before .before .before .before .before .before .before .before .before .before .pre .1 in
@@ -223,20 +213,16 @@ constituent-reader-constituent-reader-requires t c κs =
       ),
     )
 
--- src/constituents.rt:43:17
 constituent-reader-returns-2 : (t : ℕ) → constituent-reader-lts.Need-returns-2 (constituent-reader-claims t) (constituent-reader-at t) constituent-reader.Post
 constituent-reader-returns-2 t c =
     (c .constituent-reader .ensures .0 ∙ sym (rw (eq-eqb _ 0 (c .before .before .before .before .before .if2 .taken)) at (begun-step t (c .before .before .before .before .before .before))), c .constituent-reader .ensures .1)
 
--- src/constituents.rt:45:42
 constituent-reader-add-satellite-reader : (t : ℕ) → constituent-reader-lts.Need-add-satellite-reader (constituent-reader-claims t) (constituent-reader-at t) constituent-reader.Post
 constituent-reader-add-satellite-reader t c = omega (arith, c .before .before .before .before .before .before .before .before .before .before .before .before .before .before .before .before .before .pre .1 .0, c .before .before .before .before .before .before .before .before .before .before .before .before .before .before .before .before .before .pre .1 .1, c .before .before .before .before .before .before .before .before .before .before .before .before .before .before .before .before .before .good .0 .1)
 
--- src/constituents.rt:45:88
 constituent-reader-cast-satellite-reader : (t : ℕ) → constituent-reader-lts.Need-cast-satellite-reader (constituent-reader-claims t) (constituent-reader-at t) constituent-reader.Post
 constituent-reader-cast-satellite-reader t c = omega (arith, room t (c .before .before .before .before) .1)
 
--- src/constituents.rt:45:13
 constituent-reader-satellite-reader-requires : (t : ℕ) → constituent-reader-lts.Need-satellite-reader-requires (constituent-reader-claims t) (constituent-reader-at t) constituent-reader.Post
 constituent-reader-satellite-reader-requires t c κs =
     let p = c .before .before .before .before .before .before .before .before .before .before .before .before .before .before .before .before .before .before .before .before .before .pre .1 in
@@ -246,11 +232,9 @@ constituent-reader-satellite-reader-requires t c κs =
       (next .1, omega (arith, p .1, next .0), p .2, room t (c .before .before .before .before .before .before .before .before) .0, room t (c .before .before .before .before .before .before .before .before) .1, s .1, s .0, begun-room t (c .before .before .before .before .before), p .7),
     )
 
--- src/constituents.rt:47:25
 constituent-reader-enum-known-step-2 : (t : ℕ) → constituent-reader-lts.Need-enum-known-step-2 (constituent-reader-claims t) (constituent-reader-at t) constituent-reader.Post
 constituent-reader-enum-known-step-2 t c = search needs
 
--- src/constituents.rt:25:1
 constituent-reader-returns-3 : (t : ℕ) → constituent-reader-lts.Need-returns-3 (constituent-reader-claims t) (constituent-reader-at t) constituent-reader.Post
 constituent-reader-returns-3 t c =
     let a = c .before .before .before .before .before .before .before .before .before .before .before .before .args in
@@ -263,12 +247,10 @@ constituent-reader-returns-3 t c =
       ((next .ensures .1, omega (arith, c .before .before .before .before .before .before .before .before .before .before .before .before .pre .1 .1, next .ensures .0)), c .before .before .before .before .before .before .before .before .before .before .before .before .pre .1 .3),
     )
 
--- src/constituents.rt:25:1
 constituent-reader-returns-4 : (t : ℕ) → constituent-reader-lts.Need-returns-4 (constituent-reader-claims t) (constituent-reader-at t) constituent-reader.Post
 constituent-reader-returns-4 t c =
     (c .satellite-reader .ensures .0 ∙ sym (rw (ne-eqb _ 0 (c .before .before .before .before .before .if2 .left)) at (begun-step t (c .before .before .before .before .before .before))), c .satellite-reader .ensures .1)
 
--- src/constituents.rt:25:1
 constituent-reader-returns-5 : (t : ℕ) → constituent-reader-lts.Need-returns-5 (constituent-reader-claims t) (constituent-reader-at t) constituent-reader.Post
 constituent-reader-returns-5 t c =
     let a = c .before .before .before .before .before .before .before .before .before .before .before .before .before .args in
@@ -333,7 +315,6 @@ grown-step t c =
     (mainOf (a .cards .now) (a .angles .now) (a .sat .now) (a .ratios .now) (a .mains)) (a .count) (c .before .before .before .before .before .before .before .before .before .next-line .result) (c .before .before .before .before .before .before .before .before .line-at .result .now)
     (c .before .before .before .before .before .before .before .before .before .before .if1 .left) (c .before .before .before .before .before .before .before .before .line-at .ensures) (c .before .before .before .before .before .before .before .before .before .next-line .ensures .2)))
 
--- src/constituents.rt:58:9
 satellite-reader-returns : (t : ℕ) → satellite-reader-lts.Need-returns (satellite-reader-claims t) (satellite-reader-at t) satellite-reader.Post
 satellite-reader-returns t c =
     let a = c .before .before .before .args in (
@@ -342,50 +323,39 @@ satellite-reader-returns t c =
       (tt, omega (arith, c .before .before .before .pre .1 .3)),
     )
 
--- src/constituents.rt:60:9
 satellite-reader-next-line-requires : (t : ℕ) → satellite-reader-lts.Need-next-line-requires (satellite-reader-claims t) (satellite-reader-at t) satellite-reader.Post
 satellite-reader-next-line-requires t c κs = c .if1 .left
 
--- src/constituents.rt:61:26
 satellite-reader-line-at-requires : (t : ℕ) → satellite-reader-lts.Need-line-at-requires (satellite-reader-claims t) (satellite-reader-at t) satellite-reader.Post
 satellite-reader-line-at-requires t c κs = c .before .before .before .before .pre .1 .0
 
--- src/constituents.rt:61:11
 satellite-reader-satellite-card-requires : (t : ℕ) → satellite-reader-lts.Need-satellite-card-requires (satellite-reader-claims t) (satellite-reader-at t) satellite-reader.Post
 satellite-reader-satellite-card-requires t c κs = (c .before .before .before .before .before .before .before .pre .1 .4, c .before .before .before .before .before .before .before .pre .1 .8)
 
--- src/constituents.rt:63:28
 satellite-reader-enum-told : (t : ℕ) → satellite-reader-lts.Need-enum-told (satellite-reader-claims t) (satellite-reader-at t) satellite-reader.Post
 satellite-reader-enum-told t c = search needs
 
--- src/constituents.rt:63:42
 satellite-reader-at-most-three-requires : (t : ℕ) → satellite-reader-lts.Need-at-most-three-requires (satellite-reader-claims t) (satellite-reader-at t) satellite-reader.Post
 satellite-reader-at-most-three-requires t c κs = search needs
 
--- src/constituents.rt:63:42
 satellite-reader-cast-add-satellites : (t : ℕ) → satellite-reader-lts.Need-cast-add-satellites (satellite-reader-claims t) (satellite-reader-at t) satellite-reader.Post
 satellite-reader-cast-add-satellites t c = omega (arith, c .at-most-three .ensures)
 
--- src/constituents.rt:63:13
 satellite-reader-add-satellites-requires : (t : ℕ) → satellite-reader-lts.Need-add-satellites-requires (satellite-reader-claims t) (satellite-reader-at t) satellite-reader.Post
 satellite-reader-add-satellites-requires t c κs =
     let a = c .before .before .before .before .before .before .before .before .before .before .before .before .args in
     let p = c .before .before .before .before .before .before .before .before .before .before .before .before .pre .1 in
     (p .3, omega (arith, c .at-most-three .ensures, p .4, p .5, row-at 0 3 (a .cards .now) (a .mains) 2 (omega arith)))
 
--- src/constituents.rt:65:55
 satellite-reader-add-constituent-reader : (t : ℕ) → satellite-reader-lts.Need-add-constituent-reader (satellite-reader-claims t) (satellite-reader-at t) satellite-reader.Post
 satellite-reader-add-constituent-reader t c = omega (arith, c .before .before .before .before .before .before .before .before .before .before .before .before .before .before .pre .1 .0, c .before .before .before .before .before .before .before .before .before .before .before .before .before .before .pre .1 .1, c .before .before .before .before .before .before .before .before .before .before .before .before .before .before .good .0 .1)
 
--- src/constituents.rt:65:82
 satellite-reader-add-constituent-reader-2 : (t : ℕ) → satellite-reader-lts.Need-add-constituent-reader-2 (satellite-reader-claims t) (satellite-reader-at t) satellite-reader.Post
 satellite-reader-add-constituent-reader-2 t c = omega (arith, c .before .before .before .before .before .before .before .before .before .before .before .before .before .before .pre .1 .3)
 
--- src/constituents.rt:65:93
 satellite-reader-add-constituent-reader-3 : (t : ℕ) → satellite-reader-lts.Need-add-constituent-reader-3 (satellite-reader-claims t) (satellite-reader-at t) satellite-reader.Post
 satellite-reader-add-constituent-reader-3 t c = omega (arith, c .before .before .before .before .before .before .before .before .before .before .before .before .before .before .pre .1 .4)
 
--- src/constituents.rt:65:17
 satellite-reader-constituent-reader-requires : (t : ℕ) → satellite-reader-lts.Need-constituent-reader-requires (satellite-reader-claims t) (satellite-reader-at t) satellite-reader.Post
 satellite-reader-constituent-reader-requires t c κs =
     let a = c .before .before .before .before .before .before .before .before .before .before .before .before .before .before .before .before .before .before .args in
@@ -405,24 +375,19 @@ satellite-reader-constituent-reader-requires t c κs =
       ),
     )
 
--- src/constituents.rt:65:17
 satellite-reader-returns-2 : (t : ℕ) → satellite-reader-lts.Need-returns-2 (satellite-reader-claims t) (satellite-reader-at t) satellite-reader.Post
 satellite-reader-returns-2 t c =
     (c .constituent-reader .ensures .0 ∙ sym (rw (le-leb _ 3 (c .before .before .before .before .before .if2 .taken)) at (grown-step t (c .before .before .before .before .before .before))), c .constituent-reader .ensures .1)
 
--- src/constituents.rt:67:42
 satellite-reader-add-satellite-reader : (t : ℕ) → satellite-reader-lts.Need-add-satellite-reader (satellite-reader-claims t) (satellite-reader-at t) satellite-reader.Post
 satellite-reader-add-satellite-reader t c = omega (arith, c .before .before .before .before .before .before .before .before .before .before .before .before .before .before .pre .1 .0, c .before .before .before .before .before .before .before .before .before .before .before .before .before .before .pre .1 .1, c .before .before .before .before .before .before .before .before .before .before .before .before .before .before .good .0 .1)
 
--- src/constituents.rt:67:76
 satellite-reader-add-satellite-reader-2 : (t : ℕ) → satellite-reader-lts.Need-add-satellite-reader-2 (satellite-reader-claims t) (satellite-reader-at t) satellite-reader.Post
 satellite-reader-add-satellite-reader-2 t c = omega (arith, c .before .before .before .before .before .before .before .before .before .before .before .before .before .before .pre .1 .4)
 
--- src/constituents.rt:67:92
 satellite-reader-sub-satellite-reader : (t : ℕ) → satellite-reader-lts.Need-sub-satellite-reader (satellite-reader-claims t) (satellite-reader-at t) satellite-reader.Post
 satellite-reader-sub-satellite-reader t c = omega (arith, c .if2 .left)
 
--- src/constituents.rt:67:13
 satellite-reader-satellite-reader-requires : (t : ℕ) → satellite-reader-lts.Need-satellite-reader-requires (satellite-reader-claims t) (satellite-reader-at t) satellite-reader.Post
 satellite-reader-satellite-reader-requires t c κs =
     let a = c .before .before .before .before .before .before .before .before .before .before .before .before .before .before .before .before .before .before .args in
@@ -433,16 +398,13 @@ satellite-reader-satellite-reader-requires t c κs =
       (next .1, omega (arith, p .1, next .0), p .2, p .3, omega (arith, p .4, c .before .before .before .before .if2 .left), omega (arith, s .1, c .before .before .before .before .if2 .left), s .0, grown-room t (c .before .before .before .before .before), c .before .before .before .before .before .before .before .before .before .before .satellite-card .ensures .1 .1),
     )
 
--- src/constituents.rt:69:20
 satellite-reader-enum-known-r : (t : ℕ) → satellite-reader-lts.Need-enum-known-r (satellite-reader-claims t) (satellite-reader-at t) satellite-reader.Post
 satellite-reader-enum-known-r t c = search needs
 
--- src/constituents.rt:52:1
 satellite-reader-returns-3 : (t : ℕ) → satellite-reader-lts.Need-returns-3 (satellite-reader-claims t) (satellite-reader-at t) satellite-reader.Post
 satellite-reader-returns-3 t c =
     (c .satellite-reader .ensures .0 ∙ sym (rw (lt-leb _ 3 (c .before .before .before .before .before .if2 .left)) at (grown-step t (c .before .before .before .before .before .before))), c .satellite-reader .ensures .1)
 
--- src/constituents.rt:52:1
 satellite-reader-returns-4 : (t : ℕ) → satellite-reader-lts.Need-returns-4 (satellite-reader-claims t) (satellite-reader-at t) satellite-reader.Post
 satellite-reader-returns-4 t c =
     let a = c .before .before .before .before .before .before .before .before .before .before .before .args in (

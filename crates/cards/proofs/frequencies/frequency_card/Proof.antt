@@ -1,58 +1,43 @@
+-- `cards::frequencies::frequency_card` meets its contract: how the card begins, then its fields.
 use borrow.Author.Needs.{needs}
 use Rattle.cards.proofs.frequencies.frequency_card.Statement.{statement}
 use Rattle.cards.proofs.frequencies.frequency_card.Tie as tie
-use Rattle.cards.proofs.frequencies.frequency_card.Reads as reads
-use Rattle.cards.proofs.frequencies.frequency_card.Lts as lts
-use Rattle.cards.proofs.frequencies.frequency_fields.Reads as frequency-fields-reads
-use Rattle.cards.proofs.opening.begins.Reads as begins-reads
-use mathlib.Core.Path.{_≡_, refl, sym, ap, _∙_}
 use Rattle.cards.specs.Frequencies.{nextFrequency}
 use Rattle.cards.proofs.Defined.{names-count}
 
--- src/frequencies.rt:42:11
 begins-requires : tie.Need-begins-requires
 begins-requires c κs = search needs
 
--- src/frequencies.rt:43:26
 enum-told : tie.Need-enum-told
 enum-told c = search needs
 
--- src/frequencies.rt:44:34
 enum-told-2 : tie.Need-enum-told-2
 enum-told-2 c = search needs
 
--- src/frequencies.rt:44:34
 frequency-fields-requires : tie.Need-frequency-fields-requires
 frequency-fields-requires c κs = search needs
 
--- src/frequencies.rt:45:28
 enum-known-v : tie.Need-enum-known-v
 enum-known-v c = search needs
 
--- src/frequencies.rt:46:26
 enum-known-r : tie.Need-enum-known-r
 enum-known-r c = search needs
 
--- src/frequencies.rt:48:24
 enum-known-r-2 : tie.Need-enum-known-r-2
 enum-known-r-2 c = search needs
 
--- src/frequencies.rt:39:1
 returns : tie.Need-returns
 unfolding nextFrequency
 returns c = let a = c .before .before .before .before .before .args in rw (names-count (a .names .now) 0 (a .count), ← c .before .before .begins .ensures, c .enum-told .given .1)
 
--- src/frequencies.rt:39:1
 returns-2 : tie.Need-returns-2
 unfolding nextFrequency
 returns-2 c = let a = c .before .before .before .before .before .before .before .before .before .args in rw (names-count (a .names .now) 0 (a .count), ← c .before .before .before .before .before .before .begins .ensures, c .before .before .before .before .enum-told2 .given .1, ← c .before .before .before .frequency-fields .ensures, c .before .v .given .1)
 
--- src/frequencies.rt:39:1
 returns-3 : tie.Need-returns-3
 unfolding nextFrequency
 returns-3 c = let a = c .before .before .before .before .before .before .before .before .before .args in rw (names-count (a .names .now) 0 (a .count), ← c .before .before .before .before .before .before .begins .ensures, c .before .before .before .before .enum-told2 .given .1, ← c .before .before .before .frequency-fields .ensures, c .before .r .given .1)
 
--- src/frequencies.rt:39:1
 returns-4 : tie.Need-returns-4
 unfolding nextFrequency
 returns-4 c = let a = c .before .before .before .before .before .before .args in rw (names-count (a .names .now) 0 (a .count), ← c .before .before .before .begins .ensures, c .before .r2 .given .1)

@@ -1,26 +1,21 @@
+-- `cards::frequencies::read_frequencies` meets its contract. The loop keeps that reading on from here gives what reading the whole part gives.
+-- Rests on the laws of part 1.
 use borrow.Author.Needs.{needs}
 use Rattle.cards.proofs.frequencies.read_frequencies.Statement.{statement}
 use Rattle.cards.proofs.frequencies.read_frequencies.Tie as tie
-use Rattle.cards.proofs.frequencies.read_frequencies.Reads as reads
-use Rattle.cards.proofs.frequencies.read_frequencies.Lts as lts
-use Rattle.cards.proofs.frequencies.frequency_card.Reads as frequency-card-reads
-use Rattle.cards.proofs.frequencies.put_name.Reads as put-name-reads
-use Rattle.cards.proofs.lines.line_at.Reads as line-at-reads
-use Rattle.cards.proofs.lines.next_line.Reads as next-line-reads
 use native.Mathlib.Omega.{arith}
 use mathlib.Core.Path.{_≡_, refl, sym, ap, _∙_}
-use mathlib.Core.List.{List, []}
-use Prim.Native.Nat.{ℕ, _+_, _-_, _*_, _≤_, _<_}
-use lib.ListN.{length, drop, replicate, length-set}
+use mathlib.Core.List.{[]}
+use Prim.Native.Nat.{_+_, _-_, _*_, _≤_, _<_}
+use lib.ListN.{length, drop}
 use lib.Seq.{sets, length-sets}
 use Rattle.columns.specs.Columns.{columns}
-use Rattle.columns.specs.Lines.{linesOf, firstLine}
-use Rattle.columns.specs.Names.{namesFrom}
+use Rattle.columns.specs.Lines.{linesOf}
 use Rattle.columns.proofs.Columns.{length-padded}
 use Rattle.table.specs.View.{listed, frequencyOf}
-use Rattle.cards.specs.Frequencies.{namesOf, nextFrequency, frequenciesFrom}
+use Rattle.cards.specs.Frequencies.{frequenciesFrom}
 use Rattle.cards.specs.Answers.{frequencyGives}
-use Rattle.cards.proofs.Rows.{frequency-room, names-of, frequency-put, frequencies-end}
+use Rattle.cards.proofs.Rows.{frequency-room, frequency-put, frequencies-end}
 use Rattle.cards.proofs.Rows.{frequencies-step}
 
 abbrev Inv-loop : tie.InvT-loop
@@ -31,36 +26,28 @@ Inv-loop file names₀ speeds₀ count₀ at₀ n₀ names speeds count at n =
 abbrev μ-loop : tie.MeasureT-loop
 μ-loop file names₀ speeds₀ count₀ at₀ n₀ names speeds count at n = length file - at
 
--- src/frequencies.rt:83:5
 loop-holds : tie.Need-loop-holds Inv-loop μ-loop
 unfolding listed
 loop-holds c = (omega arith, omega arith, omega arith, refl, refl, refl)
 
--- src/frequencies.rt:84:13
 line-at-requires : tie.Need-line-at-requires Inv-loop μ-loop
 line-at-requires c κs = search needs
 
--- src/frequencies.rt:85:13
 next-line-requires : tie.Need-next-line-requires Inv-loop μ-loop
 next-line-requires c κs = search needs
 
--- src/frequencies.rt:86:36
 slice-aggregate-frequency-card : tie.Need-slice-aggregate-frequency-card Inv-loop μ-loop
 slice-aggregate-frequency-card c = search needs
 
--- src/frequencies.rt:86:15
 frequency-card-requires : tie.Need-frequency-card-requires Inv-loop μ-loop
 frequency-card-requires c κs = search needs
 
--- src/frequencies.rt:88:72
 enum-told : tie.Need-enum-told Inv-loop μ-loop
 enum-told c = search needs
 
--- src/frequencies.rt:88:72
 add-t16 : tie.Need-add-t16 Inv-loop μ-loop
 add-t16 c = search needs
 
--- src/frequencies.rt:88:17
 returns : tie.Need-returns Inv-loop μ-loop
 returns c =
     let s = c .before .before .before .before .before .before .before in
@@ -68,31 +55,25 @@ returns c =
     let next = c .before .before .before .before .next-line in
     (rw (frequencies-step (a .file .now) (s .loop .at) (s .loop .n) (s .loop .names) (s .loop .speeds) (s .loop .count) (next .result) (c .before .before .before .before .before .line-at .result .now) (c .before .before .frequency-card .result) (c .before .before .before .before .before .before .loop-test .taken) (c .before .before .before .before .before .line-at .ensures) (next .ensures .2) (c .before .before .frequency-card .ensures), c .enum-told .given .1) at (s .loop .inv .5), ((omega arith, omega arith), s .loop .inv .2))
 
--- src/frequencies.rt:90:34
 enum-known-v : tie.Need-enum-known-v Inv-loop μ-loop
 enum-known-v c = search needs
 
--- src/frequencies.rt:91:17
 put-name-requires : tie.Need-put-name-requires Inv-loop μ-loop
 put-name-requires c κs =
     let s = c .before .before .before .before .before .before .before .before .before in
     (frequency-room (s .loop .names) (c .before .before .before .before .before .before .before .line-at .result .now) (s .loop .count) _ (sym (c .before .before .before .before .frequency-card .ensures) ∙ ap (frequencyGives (c .before .before .before .before .before .before .before .line-at .result .now)) (c .before .before .v .given .1)), omega arith)
 
--- src/frequencies.rt:92:17
 mul-speeds : tie.Need-mul-speeds Inv-loop μ-loop
 mul-speeds c = search needs
 
--- src/frequencies.rt:92:17
 array-write-speeds : tie.Need-array-write-speeds Inv-loop μ-loop
 array-write-speeds c =
     let s = c .before .before .before .before .before .before .before .before .before .before in
     frequency-room (s .loop .names) (c .before .before .before .before .before .before .before .before .line-at .result .now) (s .loop .count) _ (sym (c .before .before .before .before .before .frequency-card .ensures) ∙ ap (frequencyGives (c .before .before .before .before .before .before .before .before .line-at .result .now)) (c .before .before .before .v .given .1))
 
--- src/frequencies.rt:94:34
 enum-known-r : tie.Need-enum-known-r Inv-loop μ-loop
 enum-known-r c = search needs
 
--- src/frequencies.rt:95:17
 returns-2 : tie.Need-returns-2 Inv-loop μ-loop
 returns-2 c =
     let s = c .before .before .before .before .before .before .before .before in
@@ -100,19 +81,15 @@ returns-2 c =
     let next = c .before .before .before .before .before .next-line in
     (rw (frequencies-step (a .file .now) (s .loop .at) (s .loop .n) (s .loop .names) (s .loop .speeds) (s .loop .count) (next .result) (c .before .before .before .before .before .before .line-at .result .now) (c .before .before .before .frequency-card .result) (c .before .before .before .before .before .before .before .loop-test .taken) (c .before .before .before .before .before .before .line-at .ensures) (next .ensures .2) (c .before .before .before .frequency-card .ensures), c .before .r .given .1) at (s .loop .inv .5), (tt, s .loop .inv .2))
 
--- src/frequencies.rt:98:17
 add-count : tie.Need-add-count Inv-loop μ-loop
 add-count c = let s = c .before .before .before .before .before .before .before .before .before .before in omega (arith, s .loop .inv .2)
 
--- src/frequencies.rt:100:13
 add-n : tie.Need-add-n Inv-loop μ-loop
 add-n c = search needs
 
--- src/frequencies.rt:83:5
 loop-less : tie.Need-loop-less Inv-loop μ-loop
 loop-less c = search needs
 
--- src/frequencies.rt:83:5
 loop-again : tie.Need-loop-again Inv-loop μ-loop
 loop-again c =
     let s = c .before .before .before .before .before .before .before .before .before .before in
@@ -132,7 +109,6 @@ loop-again c =
           (rw (frequencies-step (a .file .now) (s .loop .at) (s .loop .n) (s .loop .names) (s .loop .speeds) (s .loop .count) (next .result) line (c .before .before .before .before .before .frequency-card .result) (c .before .before .before .before .before .before .before .before .before .loop-test .taken) (c .before .before .before .before .before .before .before .before .line-at .ensures) (next .ensures .2) (c .before .before .before .before .before .frequency-card .ensures), c .before .before .before .v .given .1) at (s .loop .inv .5)),
     )
 
--- src/frequencies.rt:74:1
 returns-3 : tie.Need-returns-3 Inv-loop μ-loop
 returns-3 c =
     let s = c .before in

@@ -1,39 +1,31 @@
+-- `cards::lines::next_line` meets its contract: the lines behind the first are found again by their length.
 use borrow.Author.Needs.{needs}
 use Rattle.cards.proofs.lines.next_line.Statement.{statement}
 use Rattle.cards.proofs.lines.next_line.Tie as tie
-use Rattle.cards.proofs.lines.next_line.Reads as reads
-use Rattle.cards.proofs.lines.next_line.Lts as lts
-use Rattle.columns.proofs.rest_lines.Reads as rest-lines-reads
-use mathlib.Core.Path.{_≡_, refl, sym, ap, _∙_}
+use mathlib.Core.Path.{_≡_, ap}
 use native.Mathlib.Omega.{arith}
 use lib.ListN.{length, drop}
 use Rattle.columns.specs.Lines.{restLines}
 use Rattle.cards.proofs.Walk.{tail-is, rest-shorter, rest-again}
 
--- src/lines.rt:20:38
 sub-rest-lines : tie.Need-sub-rest-lines
 sub-rest-lines c = search needs
 
--- src/lines.rt:20:38
 part-rest-lines-start : tie.Need-part-rest-lines-start
 part-rest-lines-start c = search needs
 
--- src/lines.rt:20:38
 part-rest-lines-end : tie.Need-part-rest-lines-end
 part-rest-lines-end c = search needs
 
--- src/lines.rt:20:18
 rest-lines-requires : tie.Need-rest-lines-requires
 rest-lines-requires c κs = search needs
 
--- src/lines.rt:20:5
 sub-result : tie.Need-sub-result
 sub-result c =
     let a = c .before .before .before .args in
     let e : c .rest-lines .result .now ≡ restLines (drop (a .at) (a .file .now)) = rw (tail-is (a .file .now) (a .at)) at (c .rest-lines .ensures) in
     omega (arith, ap length e, rest-shorter (a .file .now) (a .at) (omega arith))
 
--- src/lines.rt:16:1
 returns : tie.Need-returns
 returns c =
     let a = c .before .before .before .args in

@@ -1,70 +1,52 @@
+-- `cards::longitudes::read_five` meets its contract: the definition at the line there, with the tests on the way.
 use borrow.Author.Needs.{needs}
 use Rattle.cards.proofs.longitudes.read_five.Statement.{statement}
 use Rattle.cards.proofs.longitudes.read_five.Tie as tie
-use Rattle.cards.proofs.longitudes.read_five.Reads as reads
-use Rattle.cards.proofs.longitudes.read_five.Lts as lts
-use Rattle.cards.proofs.lines.line_at.Reads as line-at-reads
-use Rattle.cards.proofs.lines.next_line.Reads as next-line-reads
-use Rattle.cards.proofs.numbers.five_card.Reads as five-card-reads
-use Rattle.columns.proofs.line_good.Reads as line-good-reads
-use mathlib.Core.Path.{_≡_, refl, sym, ap, _∙_}
 use native.Mathlib.Omega.{arith}
-use Prim.Native.Nat.{_*_, _≤_, _<_}
-use lib.ListN.{length}
+use Prim.Native.Nat.{_*_}
 use Rattle.fields.specs.declared.Format.the-variants.{Fixed}
 use Rattle.cards.specs.Formats.{upTo}
 use Rattle.cards.specs.Card.{dueCard}
 use Rattle.cards.proofs.Walk.{five-here, five-end}
 
--- src/longitudes.rt:27:9
 returns : tie.Need-returns
 returns c =
     let a = c .before .before .args in
     (rw (five-end (λ k. upTo (a .most) (13 * k) 13 (Fixed 10)) (a .file .now) (a .at) (a .n) (c .if1 .taken)), tt)
 
--- src/longitudes.rt:29:9
 line-at-requires : tie.Need-line-at-requires
 line-at-requires c κs = search needs
 
--- src/longitudes.rt:30:8
 line-good-requires : tie.Need-line-good-requires
 line-good-requires c κs = search needs
 
--- src/longitudes.rt:31:13
 five-card-requires : tie.Need-five-card-requires
 five-card-requires c κs = search needs
 
--- src/longitudes.rt:32:13
 next-line-requires : tie.Need-next-line-requires
 next-line-requires c κs = search needs
 
--- src/longitudes.rt:36:74
 enum-told : tie.Need-enum-told
 enum-told c = search needs
 
--- src/longitudes.rt:36:74
 add-t18 : tie.Need-add-t18
 add-t18 c = search needs
 
--- src/longitudes.rt:37:24
 enum-known-fault : tie.Need-enum-known-fault
 enum-known-fault c = search needs
 
--- src/longitudes.rt:35:9
 returns-2 : tie.Need-returns-2
 unfolding dueCard
 returns-2 c =
     let a = c .before .before .before .before .before .before .before .before .before .before .args in
     (rw (five-here (λ k. upTo (a .most) (13 * k) 13 (Fixed 10)) (a .file .now) (a .at) (a .n) (c .before .before .before .before .before .before .before .line-at .result .now) (c .before .before .before .before .before .before .before .before .if1 .left) (c .before .before .before .before .before .before .before .line-at .ensures), ← c .before .before .before .before .before .before .line-good .ensures, c .before .before .before .before .before .if2 .taken, ← c .before .before .before .before .five-card .ensures, c .enum-told .given .1, c .before .before .before .next-line .ensures .2), (omega arith, omega arith))
 
--- src/longitudes.rt:35:9
 returns-3 : tie.Need-returns-3
 unfolding dueCard
 returns-3 c =
     let a = c .before .before .before .before .before .before .before .before .before .before .before .args in
     (rw (five-here (λ k. upTo (a .most) (13 * k) 13 (Fixed 10)) (a .file .now) (a .at) (a .n) (c .before .before .before .before .before .before .before .before .line-at .result .now) (c .before .before .before .before .before .before .before .before .before .if1 .left) (c .before .before .before .before .before .before .before .before .line-at .ensures), ← c .before .before .before .before .before .before .before .line-good .ensures, c .before .before .before .before .before .before .if2 .taken, ← c .before .before .before .before .before .five-card .ensures, c .before .fault .given .1), tt)
 
--- src/longitudes.rt:21:1
 returns-4 : tie.Need-returns-4
 unfolding dueCard
 returns-4 c =

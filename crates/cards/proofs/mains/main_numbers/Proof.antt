@@ -1,16 +1,9 @@
+-- `cards::mains::main_numbers` meets its contract: the fields from left to right, each as the definition has it.
 use borrow.Author.Needs.{needs}
 use Rattle.cards.proofs.mains.main_numbers.Statement.{statement}
 use Rattle.cards.proofs.mains.main_numbers.Tie as tie
-use Rattle.cards.proofs.mains.main_numbers.Reads as reads
-use Rattle.cards.proofs.mains.main_numbers.Lts as lts
-use Rattle.cards.proofs.mains.failed.Reads as failed-reads
-use Rattle.cards.proofs.mains.main_made.Reads as main-made-reads
-use Rattle.cards.proofs.numbers.natural_field.Reads as natural-field-reads
-use Rattle.cards.proofs.numbers.small_field.Reads as small-field-reads
-use Rattle.cards.proofs.numbers.small_row.Reads as small-row-reads
-use mathlib.Core.Path.{_≡_, refl, sym, ap, _∙_}
+use mathlib.Core.Path.{_≡_}
 use native.Mathlib.Omega.{arith}
-use Prim.Native.Nat.{_≤_}
 use Rattle.cards.specs.Mains.{mainNumbers}
 use lib.ListN.{length}
 use lib.Seq.{take-all}
@@ -18,59 +11,45 @@ use mir.Syntax.{w8}
 use mir.Val.{SFits}
 use mir.ValLaws.{toZ-ofZ}
 
--- src/mains.rt:56:9
 small-row-requires : tie.Need-small-row-requires
 small-row-requires c κs = search needs
 
--- src/mains.rt:60:56
 enum-told : tie.Need-enum-told
 enum-told c = search needs
 
--- src/mains.rt:60:31
 small-field-requires : tie.Need-small-field-requires
 small-field-requires c κs = search needs
 
--- src/mains.rt:61:26
 enum-known-phase : tie.Need-enum-known-phase
 enum-known-phase c = search needs
 
--- src/mains.rt:61:42
 natural-field-requires : tie.Need-natural-field-requires
 natural-field-requires c κs = search needs
 
--- src/mains.rt:62:32
 enum-known-count : tie.Need-enum-known-count
 enum-known-count c = search needs
 
--- src/mains.rt:62:42
 main-made-requires : tie.Need-main-made-requires
 main-made-requires c κs = (rw (c .before .count .given .1) at (c .before .before .before .natural-field .ensures .1), c .before .before .before .before .before .before .before .before .before .before .before .before .before .pre)
 
--- src/mains.rt:63:30
 enum-known-r : tie.Need-enum-known-r
 enum-known-r c = search needs
 
--- src/mains.rt:63:36
 failed-requires : tie.Need-failed-requires
 failed-requires c κs = search needs
 
--- src/mains.rt:65:24
 enum-known-r-2 : tie.Need-enum-known-r-2
 enum-known-r-2 c = search needs
 
--- src/mains.rt:65:30
 failed-requires-2 : tie.Need-failed-requires-2
 failed-requires-2 c κs = search needs
 
--- src/mains.rt:67:20
 enum-known-fault : tie.Need-enum-known-fault
 enum-known-fault c = search needs
 
--- src/mains.rt:67:26
 failed-requires-3 : tie.Need-failed-requires-3
 failed-requires-3 c κs = search needs
 
--- src/mains.rt:52:1
 returns : tie.Need-returns
 unfolding mainNumbers
 returns c =
@@ -80,17 +59,14 @@ returns c =
     let fits : SFits w8 phase = search needs in
     rw (← c .before .before .before .before .before .before .before .before .before .before .before .before .small-row .ensures .0, c .before .before .before .before .before .before .before .before .before .enum-told .given .1, ← c .before .before .before .before .before .before .before .before .small-field .ensures, c .before .before .before .before .before .before .phase .given .1, ← c .before .before .before .before .natural-field .ensures .0, c .before .before .count .given .1, take-all 6 values (omega arith)) (rw (toZ-ofZ w8 phase fits) at (c .main-made .ensures))
 
--- src/mains.rt:52:1
 returns-2 : tie.Need-returns-2
 unfolding mainNumbers
 returns-2 c = rw (← c .before .before .before .before .before .before .before .before .before .before .before .before .small-row .ensures .0, c .before .before .before .before .before .before .before .before .before .enum-told .given .1, ← c .before .before .before .before .before .before .before .before .small-field .ensures, c .before .before .before .before .before .before .phase .given .1, ← c .before .before .before .before .natural-field .ensures .0, c .before .before .r .given .1) (c .failed .ensures)
 
--- src/mains.rt:52:1
 returns-3 : tie.Need-returns-3
 unfolding mainNumbers
 returns-3 c = rw (← c .before .before .before .before .before .before .before .before .small-row .ensures .0, c .before .before .before .before .before .enum-told .given .1, ← c .before .before .before .before .small-field .ensures, c .before .before .r2 .given .1) (c .failed2 .ensures)
 
--- src/mains.rt:52:1
 returns-4 : tie.Need-returns-4
 unfolding mainNumbers
 returns-4 c = rw (← c .before .before .before .before .before .small-row .ensures .0, c .before .before .fault .given .1) (c .failed3 .ensures)

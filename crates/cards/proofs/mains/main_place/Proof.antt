@@ -1,40 +1,29 @@
+-- `cards::mains::main_place` meets its contract: the place of the name, then whether it is defined.
 use borrow.Author.Needs.{needs}
 use Rattle.cards.proofs.mains.main_place.Statement.{statement}
 use Rattle.cards.proofs.mains.main_place.Tie as tie
-use Rattle.cards.proofs.mains.main_place.Reads as reads
-use Rattle.cards.proofs.mains.main_place.Lts as lts
-use Rattle.cards.proofs.places.is_among.Reads as is-among-reads
-use Rattle.cards.proofs.places.place_named.Reads as place-named-reads
-use mathlib.Core.Path.{_≡_, refl, sym, ap, _∙_}
 use Rattle.cards.specs.Card.{newPlace}
 
--- src/mains.rt:76:11
 place-named-requires : tie.Need-place-named-requires
 place-named-requires c κs = search needs
 
--- src/mains.rt:77:19
 enum-known-place : tie.Need-enum-known-place
 enum-known-place c = search needs
 
--- src/mains.rt:78:16
 is-among-requires : tie.Need-is-among-requires
 is-among-requires c κs = search needs
 
--- src/mains.rt:79:17
 returns : tie.Need-returns
 unfolding newPlace
 returns c = rw (← c .before .before .before .before .before .place-named .ensures, c .before .before .before .place .given .1, ← c .before .is-among .ensures, c .if1 .taken)
 
--- src/mains.rt:83:20
 enum-known-r : tie.Need-enum-known-r
 enum-known-r c = search needs
 
--- src/mains.rt:72:1
 returns-2 : tie.Need-returns-2
 unfolding newPlace
 returns-2 c = rw (← c .before .before .before .before .before .place-named .ensures, c .before .before .before .place .given .1, ← c .before .is-among .ensures, c .if1 .left)
 
--- src/mains.rt:72:1
 returns-3 : tie.Need-returns-3
 unfolding newPlace
 returns-3 c = rw (← c .before .before .before .place-named .ensures, c .before .r .given .1)

@@ -1,74 +1,54 @@
+-- `cards::mains::next_main` meets its contract: how the card begins, its name, then its numbers.
 use borrow.Author.Needs.{needs}
 use Rattle.cards.proofs.mains.next_main.Statement.{statement}
 use Rattle.cards.proofs.mains.next_main.Tie as tie
-use Rattle.cards.proofs.mains.next_main.Reads as reads
-use Rattle.cards.proofs.mains.next_main.Lts as lts
-use Rattle.cards.proofs.mains.failed.Reads as failed-reads
-use Rattle.cards.proofs.mains.main_numbers.Reads as main-numbers-reads
-use Rattle.cards.proofs.mains.main_place.Reads as main-place-reads
-use Rattle.cards.proofs.opening.begins.Reads as begins-reads
-use mathlib.Core.Path.{_≡_, refl, sym, ap, _∙_}
 use lib.ListN.{getD}
 use Prim.Native.Nat.{_*_}
 use Rattle.table.proofs.Rows.{listed-length}
 use Rattle.cards.specs.Mains.{nextMain, mainCard}
 
--- src/mains.rt:92:11
 begins-requires : tie.Need-begins-requires
 begins-requires c κs = search needs
 
--- src/mains.rt:93:43
 enum-told : tie.Need-enum-told
 enum-told c = search needs
 
--- src/mains.rt:94:34
 enum-told-2 : tie.Need-enum-told-2
 enum-told-2 c = search needs
 
--- src/mains.rt:94:34
 main-place-requires : tie.Need-main-place-requires
 main-place-requires c κs = search needs
 
--- src/mains.rt:95:23
 enum-known-place : tie.Need-enum-known-place
 enum-known-place c = search needs
 
--- src/mains.rt:95:33
 main-numbers-requires : tie.Need-main-numbers-requires
 main-numbers-requires c κs = search needs
 
--- src/mains.rt:96:24
 enum-known-r : tie.Need-enum-known-r
 enum-known-r c = search needs
 
--- src/mains.rt:96:30
 failed-requires : tie.Need-failed-requires
 failed-requires c κs = search needs
 
--- src/mains.rt:98:24
 enum-known-r-2 : tie.Need-enum-known-r-2
 enum-known-r-2 c = search needs
 
--- src/mains.rt:98:30
 failed-requires-2 : tie.Need-failed-requires-2
 failed-requires-2 c κs = search needs
 
--- src/mains.rt:88:1
 returns : tie.Need-returns
 unfolding nextMain
 returns c = let a = c .before .before .before .before .before .before .args in rw (listed-length (λ k. getD (a .cards .now) (3 * k) 0) 0 (a .mains), ← c .before .before .begins .ensures, c .enum-told .given .1)
 
--- src/mains.rt:88:1
 returns-2 : tie.Need-returns-2
 unfolding nextMain mainCard
 returns-2 c = let a = c .before .before .before .before .before .before .before .before .before .before .before .args in rw (listed-length (λ k. getD (a .cards .now) (3 * k) 0) 0 (a .mains), ← c .before .before .before .before .before .before .before .begins .ensures, c .before .before .before .before .before .enum-told2 .given .1, ← c .before .before .before .before .main-place .ensures, c .before .before .place .given .1) (c .main-numbers .ensures)
 
--- src/mains.rt:88:1
 returns-3 : tie.Need-returns-3
 unfolding nextMain mainCard
 returns-3 c = let a = c .before .before .before .before .before .before .before .before .before .before .before .args in rw (listed-length (λ k. getD (a .cards .now) (3 * k) 0) 0 (a .mains), ← c .before .before .before .before .before .before .before .begins .ensures, c .before .before .before .before .before .enum-told2 .given .1, ← c .before .before .before .before .main-place .ensures, c .before .before .r .given .1) (c .failed .ensures)
 
--- src/mains.rt:88:1
 returns-4 : tie.Need-returns-4
 unfolding nextMain
 returns-4 c = let a = c .before .before .before .before .before .before .before .before .args in rw (listed-length (λ k. getD (a .cards .now) (3 * k) 0) 0 (a .mains), ← c .before .before .before .before .begins .ensures, c .before .before .r2 .given .1) (c .failed2 .ensures)

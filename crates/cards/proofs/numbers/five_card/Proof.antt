@@ -1,15 +1,12 @@
+-- `cards::numbers::five_card` meets its contract. The loop keeps that reading on from field k gives what reading the whole card gives.
 use borrow.Author.Needs.{needs}
 use Rattle.cards.proofs.numbers.five_card.Statement.{statement}
 use Rattle.cards.proofs.numbers.five_card.Tie as tie
-use Rattle.cards.proofs.numbers.five_card.Reads as reads
-use Rattle.cards.proofs.numbers.five_card.Lts as lts
-use Rattle.cards.proofs.numbers.natural_field.Reads as natural-field-reads
 use native.Mathlib.Omega.{arith}
-use native.Mathlib.Nat.{sub-zero}
-use mathlib.Core.Path.{_≡_, refl, sym, ap, _∙_}
+use mathlib.Core.Path.{_≡_, refl}
 use mathlib.Core.List.{map}
-use Prim.Native.Nat.{ℕ, _+_, _-_, _*_, _≤_, _<_}
-use lib.ListN.{length, take, length-set}
+use Prim.Native.Nat.{_-_, _*_, _≤_, _<_}
+use lib.ListN.{length, take}
 use lib.Seq.{take-all}
 use lib.IntN.{pos}
 use Rattle.fields.specs.declared.Format.the-variants.{Fixed}
@@ -25,39 +22,30 @@ Inv-loop line most values₀ k₀ values k = (k ≤ 5) × (length values ≡ 5) 
 abbrev μ-loop : tie.MeasureT-loop
 μ-loop line most values₀ k₀ values k = 5 - k
 
--- src/numbers.rt:97:5
 loop-holds : tie.Need-loop-holds Inv-loop μ-loop
 loop-holds c = (omega arith, refl, refl)
 
--- src/numbers.rt:98:35
 mul-natural-field : tie.Need-mul-natural-field Inv-loop μ-loop
 mul-natural-field c = search needs
 
--- src/numbers.rt:98:15
 natural-field-requires : tie.Need-natural-field-requires Inv-loop μ-loop
 natural-field-requires c κs = search needs
 
--- src/numbers.rt:99:28
 enum-known-v : tie.Need-enum-known-v Inv-loop μ-loop
 enum-known-v c = search needs
 
--- src/numbers.rt:100:17
 mul-values : tie.Need-mul-values Inv-loop μ-loop
 mul-values c = search needs
 
--- src/numbers.rt:100:17
 array-write-values : tie.Need-array-write-values Inv-loop μ-loop
 array-write-values c = search needs
 
--- src/numbers.rt:101:21
 add-k : tie.Need-add-k Inv-loop μ-loop
 add-k c = search needs
 
--- src/numbers.rt:97:5
 loop-less : tie.Need-loop-less Inv-loop μ-loop
 loop-less c = search needs
 
--- src/numbers.rt:97:5
 loop-again : tie.Need-loop-again Inv-loop μ-loop
 loop-again c =
     let s = c .before .before .before .before .before in
@@ -66,11 +54,9 @@ loop-again c =
     let h : s .loop .k < length (s .loop .values) = omega arith in
     (omega arith, search needs, rw (take-stored (s .loop .values) (s .loop .k) v h, map-append pos (take (s .loop .k) (s .loop .values)) (v ∷ [])) (rw (numbers-more (a .line .now) (λ i. upTo (a .most) (13 * i) 13 (Fixed 10)) (map pos (take (s .loop .k) (s .loop .values))) (s .loop .k) 5 (c .before .before .before .before .loop-test .taken), ← c .before .before .before .natural-field .ensures .0, c .before .v .given .1) at (s .loop .inv .2)))
 
--- src/numbers.rt:103:26
 enum-known-r : tie.Need-enum-known-r Inv-loop μ-loop
 enum-known-r c = search needs
 
--- src/numbers.rt:104:17
 returns : tie.Need-returns Inv-loop μ-loop
 unfolding fiveCard
 returns c =
@@ -79,7 +65,6 @@ returns c =
     let e = rw (numbers-more (a .line .now) (λ i. upTo (a .most) (13 * i) 13 (Fixed 10)) (map pos (take (s .loop .k) (s .loop .values))) (s .loop .k) 5 (c .before .before .before .before .loop-test .taken), ← c .before .before .before .natural-field .ensures .0, c .before .r .given .1) at (s .loop .inv .2) in
     rw (← e)
 
--- src/numbers.rt:91:1
 returns-2 : tie.Need-returns-2 Inv-loop μ-loop
 unfolding fiveCard
 returns-2 c =

@@ -1,15 +1,12 @@
+-- `cards::numbers::natural_field` meets its contract: a number in its range is not below 0, so the cast keeps it.
 use borrow.Author.Needs.{needs}
 use Rattle.cards.proofs.numbers.natural_field.Statement.{statement}
 use Rattle.cards.proofs.numbers.natural_field.Tie as tie
-use Rattle.cards.proofs.numbers.natural_field.Reads as reads
-use Rattle.cards.proofs.numbers.natural_field.Lts as lts
-use Rattle.fields.proofs.ranged_field.Reads as ranged-field-reads
-use mathlib.Core.Path.{_≡_, refl, sym, ap, _∙_}
+use mathlib.Core.Path.{_≡_, sym, _∙_}
 use mir.Syntax.{w64}
 use mir.Val.{SFits}
 use mir.ValLaws.{toZ-ofZ}
 use mir.Facts.{fits-natAbs}
-use native.Mathlib.Omega.{arith}
 use lib.IntN.{pos}
 use lib.Signed.{pos-natAbs}
 use Rattle.columns.specs.Columns.{columns}
@@ -18,23 +15,18 @@ use Rattle.fields.specs.declared.Field.the-variants.{Value, Malformed, OutOfRan
 use Rattle.cards.specs.Formats.{field}
 use Rattle.cards.proofs.Ranges.{natural-bits, natural-is, number-is}
 
--- src/numbers.rt:50:59
 cast-ranged-field : tie.Need-cast-ranged-field
 cast-ranged-field c = search needs
 
--- src/numbers.rt:50:73
 cast-ranged-field-2 : tie.Need-cast-ranged-field-2
 cast-ranged-field-2 c = search needs
 
--- src/numbers.rt:50:11
 ranged-field-requires : tie.Need-ranged-field-requires
 ranged-field-requires c κs = search needs
 
--- src/numbers.rt:51:30
 enum-known-v : tie.Need-enum-known-v
 enum-known-v c = search needs
 
--- src/numbers.rt:51:51
 cast-t12 : tie.Need-cast-t12
 cast-t12 c =
     let a = c .before .before .before .before .before .args in
@@ -43,15 +35,12 @@ cast-t12 c =
     let e : Value v ≡ inRange (pos (a .least)) (pos (a .most)) (numberOf (a .format) (columns (a .line .now) (a .from) (a .width))) = sym (c .before .v .given .1) ∙ (rw (natural-bits (a .least) (c .before .before .before .before .before .pre .0), natural-bits (a .most) (c .before .before .before .before .before .pre .1)) at (c .before .before .before .ranged-field .ensures)) in
     rw (toZ-ofZ w64 v f) (natural-is (a .least) (a .most) v _ e .0, fits-natAbs tt f)
 
--- src/numbers.rt:52:50
 enum-told : tie.Need-enum-told
 enum-told c = search needs
 
--- src/numbers.rt:53:51
 enum-told-2 : tie.Need-enum-told-2
 enum-told-2 c = search needs
 
--- src/numbers.rt:45:1
 returns : tie.Need-returns
 returns c =
     let a = c .before .before .before .before .before .args in
@@ -61,13 +50,11 @@ returns c =
     let n = natural-is (a .least) (a .most) v _ e in
     (rw (toZ-ofZ w64 v f, pos-natAbs v (n .0)) (number-is (a .line .now) (field (a .from) (a .width) (a .format) (pos (a .least)) (pos (a .most))) (Value v) e), rw (toZ-ofZ w64 v f) (n .1))
 
--- src/numbers.rt:45:1
 returns-2 : tie.Need-returns-2
 returns-2 c =
     let a = c .before .before .before .before .args in
     (number-is (a .line .now) (field (a .from) (a .width) (a .format) (pos (a .least)) (pos (a .most))) Malformed (sym (c .enum-told .given .1) ∙ (rw (natural-bits (a .least) (c .before .before .before .before .pre .0), natural-bits (a .most) (c .before .before .before .before .pre .1)) at (c .before .before .ranged-field .ensures))), tt)
 
--- src/numbers.rt:45:1
 returns-3 : tie.Need-returns-3
 returns-3 c =
     let a = c .before .before .before .before .args in

@@ -1,10 +1,8 @@
+-- `cards::numbers::small_field` meets its contract: a number in its range fits a byte, so the cast keeps it.
 use borrow.Author.Needs.{needs}
 use Rattle.cards.proofs.numbers.small_field.Statement.{statement}
 use Rattle.cards.proofs.numbers.small_field.Tie as tie
-use Rattle.cards.proofs.numbers.small_field.Reads as reads
-use Rattle.cards.proofs.numbers.small_field.Lts as lts
-use Rattle.fields.proofs.ranged_field.Reads as ranged-field-reads
-use mathlib.Core.Path.{_≡_, refl, sym, ap, _∙_}
+use mathlib.Core.Path.{_≡_, sym, _∙_}
 use mir.Syntax.{w8, w64}
 use mir.Val.{SFits}
 use mir.ValLaws.{toZ-ofZ}
@@ -16,23 +14,18 @@ use Rattle.fields.specs.declared.Field.the-variants.{Value, Malformed, OutOfRan
 use Rattle.cards.specs.Formats.{within}
 use Rattle.cards.proofs.Ranges.{natural-bits, minus-fits, minus-bits, small-fits, number-is}
 
--- src/numbers.rt:36:16
 cast-high : tie.Need-cast-high
 cast-high c = search needs
 
--- src/numbers.rt:37:59
 sub-ranged-field : tie.Need-sub-ranged-field
 sub-ranged-field c = minus-fits (c .before .args .most) (omega arith)
 
--- src/numbers.rt:37:11
 ranged-field-requires : tie.Need-ranged-field-requires
 ranged-field-requires c κs = search needs
 
--- src/numbers.rt:38:30
 enum-known-v : tie.Need-enum-known-v
 enum-known-v c = search needs
 
--- src/numbers.rt:38:49
 cast-t11 : tie.Need-cast-t11
 cast-t11 c =
     let a = c .before .before .before .before .before .args in
@@ -41,15 +34,12 @@ cast-t11 c =
     let e : Value v ≡ inRange (negℤ (pos (a .most))) (pos (a .most)) (numberOf (a .format) (columns (a .line .now) (a .from) (a .width))) = sym (c .before .v .given .1) ∙ (rw (minus-bits (a .most) (omega arith), natural-bits (a .most) (omega arith)) at (c .before .before .before .ranged-field .ensures)) in
     rw (toZ-ofZ w64 v f) (small-fits (a .most) v _ (omega arith) e)
 
--- src/numbers.rt:39:48
 enum-told : tie.Need-enum-told
 enum-told c = search needs
 
--- src/numbers.rt:40:49
 enum-told-2 : tie.Need-enum-told-2
 enum-told-2 c = search needs
 
--- src/numbers.rt:32:1
 returns : tie.Need-returns
 returns c =
     let a = c .before .before .before .before .before .args in
@@ -59,13 +49,11 @@ returns c =
     let g : SFits w8 v = small-fits (a .most) v _ (omega arith) e in
     rw (toZ-ofZ w64 v f, toZ-ofZ w8 v g) (number-is (a .line .now) (within (a .most) (a .from) (a .width) (a .format)) (Value v) e)
 
--- src/numbers.rt:32:1
 returns-2 : tie.Need-returns-2
 returns-2 c =
     let a = c .before .before .before .before .args in
     number-is (a .line .now) (within (a .most) (a .from) (a .width) (a .format)) Malformed (sym (c .enum-told .given .1) ∙ (rw (minus-bits (a .most) (omega arith), natural-bits (a .most) (omega arith)) at (c .before .before .ranged-field .ensures)))
 
--- src/numbers.rt:32:1
 returns-3 : tie.Need-returns-3
 returns-3 c =
     let a = c .before .before .before .before .args in

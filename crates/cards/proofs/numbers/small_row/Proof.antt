@@ -1,12 +1,10 @@
+-- `cards::numbers::small_row` meets its contract. The loop keeps that reading on from field k gives what reading the whole row gives.
 use borrow.Author.Needs.{needs}
 use Rattle.cards.proofs.numbers.small_row.Statement.{statement}
 use Rattle.cards.proofs.numbers.small_row.Tie as tie
-use Rattle.cards.proofs.numbers.small_row.Reads as reads
-use Rattle.cards.proofs.numbers.small_row.Lts as lts
-use Rattle.cards.proofs.numbers.small_field.Reads as small-field-reads
 use native.Mathlib.Omega.{arith}
 use native.Mathlib.Nat.{sub-zero}
-use mathlib.Core.Path.{_≡_, refl, sym, ap, _∙_}
+use mathlib.Core.Path.{_≡_, refl, ap}
 use Prim.Native.Nat.{ℕ, _+_, _-_, _*_, _≤_, _<_}
 use lib.ListN.{length, take}
 use mir.Syntax.{w8}
@@ -16,7 +14,6 @@ use Rattle.fields.specs.declared.Format.the-variants.{Whole}
 use Rattle.cards.specs.Formats.{within}
 use Rattle.cards.specs.Card.{numbersFrom, numbers}
 use Rattle.cards.proofs.Ranges.{numbers-more, numbers-none, take-stored}
-use lib.ListN.{length-set}
 
 abbrev Inv-loop : tie.InvT-loop
 Inv-loop line from count most values₀ k₀ values k = (k ≤ count) × (length values ≡ 6) × (numbersFrom line (λ i. within most (from + 3 * i) 3 Whole) (take k values) k (count - k) ≡ numbers line (λ i. within most (from + 3 * i) 3 Whole) count)
@@ -24,39 +21,30 @@ Inv-loop line from count most values₀ k₀ values k = (k ≤ count) × (length
 abbrev μ-loop : tie.MeasureT-loop
 μ-loop line from count most values₀ k₀ values k = count - k
 
--- src/numbers.rt:70:5
 loop-holds : tie.Need-loop-holds Inv-loop μ-loop
 loop-holds c = (omega arith, refl, rw (sub-zero (c .before .args .count)))
 
--- src/numbers.rt:71:40
 mul-small-field : tie.Need-mul-small-field Inv-loop μ-loop
 mul-small-field c = search needs
 
--- src/numbers.rt:71:33
 add-small-field : tie.Need-add-small-field Inv-loop μ-loop
 add-small-field c = search needs
 
--- src/numbers.rt:71:15
 small-field-requires : tie.Need-small-field-requires Inv-loop μ-loop
 small-field-requires c κs = search needs
 
--- src/numbers.rt:72:26
 enum-known-v : tie.Need-enum-known-v Inv-loop μ-loop
 enum-known-v c = search needs
 
--- src/numbers.rt:73:17
 array-set-from-values : tie.Need-array-set-from-values Inv-loop μ-loop
 array-set-from-values c = search needs
 
--- src/numbers.rt:74:21
 add-k : tie.Need-add-k Inv-loop μ-loop
 add-k c = search needs
 
--- src/numbers.rt:70:5
 loop-less : tie.Need-loop-less Inv-loop μ-loop
 loop-less c = search needs
 
--- src/numbers.rt:70:5
 loop-again : tie.Need-loop-again Inv-loop μ-loop
 loop-again c =
     let s = c .before .before .before .before .before in
@@ -66,18 +54,15 @@ loop-again c =
     let h : s .loop .k < length (s .loop .values) = omega arith in
     (omega arith, search needs, rw (toZ-ofZ w8 v f, take-stored (s .loop .values) (s .loop .k) v h) (rw (numbers-more (a .line .now) (λ i. within (a .most) (a .from + 3 * i) 3 Whole) (take (s .loop .k) (s .loop .values)) (s .loop .k) (a .count) (c .before .before .before .before .loop-test .taken), ← c .before .before .before .small-field .ensures, c .before .v .given .1) at (s .loop .inv .2)))
 
--- src/numbers.rt:76:24
 enum-known-r : tie.Need-enum-known-r Inv-loop μ-loop
 enum-known-r c = search needs
 
--- src/numbers.rt:77:17
 returns : tie.Need-returns Inv-loop μ-loop
 returns c =
     let s = c .before .before .before .before .before in
     let a = s .before .before .args in
     (rw (numbers-more (a .line .now) (λ i. within (a .most) (a .from + 3 * i) 3 Whole) (take (s .loop .k) (s .loop .values)) (s .loop .k) (a .count) (c .before .before .before .before .loop-test .taken), ← c .before .before .before .small-field .ensures, c .before .r .given .1) at (s .loop .inv .2), s .loop .inv .1)
 
--- src/numbers.rt:64:1
 returns-2 : tie.Need-returns-2 Inv-loop μ-loop
 returns-2 c =
     let s = c .before in

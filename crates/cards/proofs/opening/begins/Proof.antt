@@ -1,37 +1,28 @@
+-- `cards::opening::begins` meets its contract: the definition branches as the code does.
 use borrow.Author.Needs.{needs}
 use Rattle.cards.proofs.opening.begins.Statement.{statement}
 use Rattle.cards.proofs.opening.begins.Tie as tie
-use Rattle.cards.proofs.opening.begins.Reads as reads
-use Rattle.cards.proofs.opening.begins.Lts as lts
-use Rattle.columns.proofs.is_blank.Reads as is-blank-reads
-use Rattle.columns.proofs.line_good.Reads as line-good-reads
 use borrow.Author.Tests.{le-leb, lt-leb}
 use Rattle.cards.specs.Card.{opening}
 
--- src/opening.rt:18:8
 line-good-requires : tie.Need-line-good-requires
 line-good-requires c κs = search needs
 
--- src/opening.rt:19:12
 is-blank-requires : tie.Need-is-blank-requires
 is-blank-requires c κs = search needs
 
--- src/opening.rt:20:13
 returns : tie.Need-returns
 unfolding opening
 returns c = simp (← c .before .before .before .line-good .ensures, c .before .before .if1 .taken, ← c .before .is-blank .ensures, c .if2 .taken)
 
--- src/opening.rt:23:13
 returns-2 : tie.Need-returns-2
 unfolding opening
 returns-2 c = simp (← c .before .before .before .before .line-good .ensures, c .before .before .before .if1 .taken, ← c .before .before .is-blank .ensures, c .before .if2 .left, le-leb _ _ (c .if3 .taken))
 
--- src/opening.rt:25:9
 returns-3 : tie.Need-returns-3
 unfolding opening
 returns-3 c = simp (← c .before .before .before .before .line-good .ensures, c .before .before .before .if1 .taken, ← c .before .before .is-blank .ensures, c .before .if2 .left, lt-leb _ _ (c .if3 .left))
 
--- src/opening.rt:15:1
 returns-4 : tie.Need-returns-4
 unfolding opening
 returns-4 c = simp (← c .before .line-good .ensures, c .if1 .left)

@@ -1,13 +1,11 @@
+-- `cards::places::is_among` meets its contract. The loop keeps that the place is among the rows left just when it is among all.
 use borrow.Author.Needs.{needs}
 use Rattle.cards.proofs.places.is_among.Statement.{statement}
 use Rattle.cards.proofs.places.is_among.Tie as tie
-use Rattle.cards.proofs.places.is_among.Reads as reads
-use Rattle.cards.proofs.places.is_among.Lts as lts
-use Rattle.table.proofs.at_u16.Reads as at-u16-reads
 use native.Mathlib.Omega.{arith}
 use native.Mathlib.Nat.{sub-zero, mul-le-mul}
-use mathlib.Core.Path.{_≡_, refl, sym, ap, _∙_}
-use Prim.Native.Nat.{ℕ, _+_, _-_, _*_, _≤_, _<_}
+use mathlib.Core.Path.{_≡_}
+use Prim.Native.Nat.{_-_, _*_, _≤_}
 use lib.ListN.{getD}
 use borrow.Author.Tests.{eq-eqb, ne-eqb}
 use Rattle.table.specs.View.{listed}
@@ -21,11 +19,9 @@ Inv-loop place cards width count k₀ k = isAmong place (listed (λ i. getD card
 abbrev μ-loop : tie.MeasureT-loop
 μ-loop place cards width count k₀ k = count - k
 
--- src/places.rt:39:5
 loop-holds : tie.Need-loop-holds Inv-loop μ-loop
 loop-holds c = rw (sub-zero (c .before .args .count))
 
--- src/places.rt:40:42
 mul-at-u16 : tie.Need-mul-at-u16 Inv-loop μ-loop
 mul-at-u16 c =
     let a = c .before .before .before .args in
@@ -33,33 +29,27 @@ mul-at-u16 c =
     let n : c .before .loop .k ≤ 160 = omega arith in
     omega (arith, mul-le-mul w n)
 
--- src/places.rt:40:21
 at-u16-requires : tie.Need-at-u16-requires Inv-loop μ-loop
 at-u16-requires c κs = search needs
 
--- src/places.rt:41:13
 returns : tie.Need-returns Inv-loop μ-loop
 returns c =
     let s = c .before .before .before in
     let a = s .before .before .args in
     rw (among-more (a .place) (a .width) (a .cards .now) (s .loop .k) (a .count) (c .before .before .loop-test .taken), ← c .before .at-u16 .ensures, eq-eqb _ _ (c .if1 .taken)) at (s .loop .inv)
 
--- src/places.rt:43:13
 add-k : tie.Need-add-k Inv-loop μ-loop
 add-k c = search needs
 
--- src/places.rt:39:5
 loop-less : tie.Need-loop-less Inv-loop μ-loop
 loop-less c = search needs
 
--- src/places.rt:39:5
 loop-again : tie.Need-loop-again Inv-loop μ-loop
 loop-again c =
     let s = c .before .before .before in
     let a = s .before .before .args in
     rw (among-more (a .place) (a .width) (a .cards .now) (s .loop .k) (a .count) (c .before .before .loop-test .taken), ← c .before .at-u16 .ensures, ne-eqb _ _ (c .if1 .left)) at (s .loop .inv)
 
--- src/places.rt:34:1
 returns-2 : tie.Need-returns-2 Inv-loop μ-loop
 returns-2 c =
     let s = c .before in

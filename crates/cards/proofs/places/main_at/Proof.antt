@@ -1,13 +1,10 @@
+-- `cards::places::main_at` meets its contract. The loop keeps that what is found among the rows left is what is found among all.
 use borrow.Author.Needs.{needs}
 use Rattle.cards.proofs.places.main_at.Statement.{statement}
 use Rattle.cards.proofs.places.main_at.Tie as tie
-use Rattle.cards.proofs.places.main_at.Reads as reads
-use Rattle.cards.proofs.places.main_at.Lts as lts
-use Rattle.table.proofs.at_u16.Reads as at-u16-reads
-use native.Mathlib.Omega.{arith}
 use native.Mathlib.Nat.{sub-zero}
-use mathlib.Core.Path.{_≡_, refl, sym, ap, _∙_}
-use Prim.Native.Nat.{ℕ, _+_, _-_, _*_, _≤_, _<_}
+use mathlib.Core.Path.{_≡_}
+use Prim.Native.Nat.{_-_, _*_}
 use lib.ListN.{getD}
 use borrow.Author.Tests.{eq-eqb, ne-eqb}
 use Rattle.table.specs.View.{listed}
@@ -21,45 +18,36 @@ Inv-loop place cards count k₀ k = mainAt place (listed (λ i. getD cards (3 * 
 abbrev μ-loop : tie.MeasureT-loop
 μ-loop place cards count k₀ k = count - k
 
--- src/places.rt:54:5
 loop-holds : tie.Need-loop-holds Inv-loop μ-loop
 loop-holds c = rw (sub-zero (c .before .args .count))
 
--- src/places.rt:55:42
 mul-at-u16 : tie.Need-mul-at-u16 Inv-loop μ-loop
 mul-at-u16 c = search needs
 
--- src/places.rt:55:21
 at-u16-requires : tie.Need-at-u16-requires Inv-loop μ-loop
 at-u16-requires c κs = search needs
 
--- src/places.rt:56:30
 cast-t8 : tie.Need-cast-t8 Inv-loop μ-loop
 cast-t8 c = search needs
 
--- src/places.rt:56:13
 returns : tie.Need-returns Inv-loop μ-loop
 returns c =
     let s = c .before .before .before in
     let a = s .before .before .args in
     rw (main-more (a .place) 3 (a .cards .now) (s .loop .k) (a .count) (c .before .before .loop-test .taken), ← c .before .at-u16 .ensures, eq-eqb _ _ (c .if1 .taken)) at (s .loop .inv)
 
--- src/places.rt:58:13
 add-k : tie.Need-add-k Inv-loop μ-loop
 add-k c = search needs
 
--- src/places.rt:54:5
 loop-less : tie.Need-loop-less Inv-loop μ-loop
 loop-less c = search needs
 
--- src/places.rt:54:5
 loop-again : tie.Need-loop-again Inv-loop μ-loop
 loop-again c =
     let s = c .before .before .before in
     let a = s .before .before .args in
     rw (main-more (a .place) 3 (a .cards .now) (s .loop .k) (a .count) (c .before .before .loop-test .taken), ← c .before .at-u16 .ensures, ne-eqb _ _ (c .if1 .left)) at (s .loop .inv)
 
--- src/places.rt:49:1
 returns-2 : tie.Need-returns-2 Inv-loop μ-loop
 returns-2 c =
     let s = c .before in

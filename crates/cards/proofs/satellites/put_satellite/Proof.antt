@@ -1,67 +1,51 @@
+-- `cards::satellites::put_satellite` meets its contract: what the table's stores leave.
 use borrow.Author.Needs.{needs}
 use Rattle.cards.proofs.satellites.put_satellite.Statement.{statement}
 use Rattle.cards.proofs.satellites.put_satellite.Tie as tie
-use Rattle.cards.proofs.satellites.put_satellite.Reads as reads
-use Rattle.cards.proofs.satellites.put_satellite.Lts as lts
-use Rattle.table.proofs.put_i8.Reads as put-i8-reads
-use Rattle.table.proofs.put_u32.Reads as put-u32-reads
-use mathlib.Core.Path.{_≡_, refl, sym, ap, _∙_}
+use mathlib.Core.Path.{_≡_, sym}
 use native.Mathlib.Omega.{arith}
-use Prim.Native.Nat.{_≤_}
-use lib.ListN.{length, take}
+use lib.ListN.{length}
 use lib.Seq.{length-take-le}
 use mir.Syntax.{w8}
 use mir.Val.{SFits}
 use mir.ValLaws.{toZ-ofZ}
 
--- src/satellites.rt:62:27
 mul-put-i8 : tie.Need-mul-put-i8
 mul-put-i8 c = search needs
 
--- src/satellites.rt:62:34
 array-share-prefix-differences : tie.Need-array-share-prefix-differences
 array-share-prefix-differences c = search needs
 
--- src/satellites.rt:62:34
 slice-aggregate-put-i8 : tie.Need-slice-aggregate-put-i8
 slice-aggregate-put-i8 c = sym (length-take-le 3 (c .before .before .before .args .s .differences) (omega (arith, c .before .before .before .pre .1)))
 
--- src/satellites.rt:62:5
 put-i8-requires : tie.Need-put-i8-requires
 put-i8-requires c κs =
     let s = c .before .before .before .args .s in
     let len : length (c .before .before .before .args .angles .now) ≡ 1024 = search needs in
     omega (arith, length-take-le 3 (s .differences) (omega (arith, c .before .before .before .pre .1)))
 
--- src/satellites.rt:64:12
 mul-phase : tie.Need-mul-phase
 mul-phase c = search needs
 
--- src/satellites.rt:64:12
 add-phase : tie.Need-add-phase
 add-phase c = search needs
 
--- src/satellites.rt:64:5
 element-set-from-phase : tie.Need-element-set-from-phase
 element-set-from-phase c = search needs
 
--- src/satellites.rt:65:26
 cast-t17 : tie.Need-cast-t17
 cast-t17 c = search needs
 
--- src/satellites.rt:66:28
 mul-put-u32 : tie.Need-mul-put-u32
 mul-put-u32 c = search needs
 
--- src/satellites.rt:66:35
 slice-aggregate-put-u32 : tie.Need-slice-aggregate-put-u32
 slice-aggregate-put-u32 c = search needs
 
--- src/satellites.rt:66:5
 put-u32-requires : tie.Need-put-u32-requires
 put-u32-requires c κs = search needs
 
--- src/satellites.rt:56:1
 returns : tie.Need-returns
 returns c =
     let phase = c .before .before .before .before .before .before .before .before .before .args .s .phase in

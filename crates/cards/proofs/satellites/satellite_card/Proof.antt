@@ -1,33 +1,24 @@
+-- `cards::satellites::satellite_card` meets its contract: a good line, then its satellites.
 use borrow.Author.Needs.{needs}
 use Rattle.cards.proofs.satellites.satellite_card.Statement.{statement}
 use Rattle.cards.proofs.satellites.satellite_card.Tie as tie
-use Rattle.cards.proofs.satellites.satellite_card.Reads as reads
-use Rattle.cards.proofs.satellites.satellite_card.Lts as lts
-use Rattle.cards.proofs.satellites.at_most_three.Reads as at-most-three-reads
-use Rattle.cards.proofs.satellites.satellites_on.Reads as satellites-on-reads
-use Rattle.columns.proofs.line_good.Reads as line-good-reads
-use mathlib.Core.Path.{_≡_, refl, sym, ap, _∙_}
+use mathlib.Core.Path.{refl}
 use Rattle.cards.specs.Card.{dueCard}
 use Rattle.cards.specs.Mains.{satelliteCard}
 
--- src/satellites.rt:105:8
 line-good-requires : tie.Need-line-good-requires
 line-good-requires c κs = search needs
 
--- src/satellites.rt:106:43
 at-most-three-requires : tie.Need-at-most-three-requires
 at-most-three-requires c κs = search needs
 
--- src/satellites.rt:106:9
 satellites-on-requires : tie.Need-satellites-on-requires
 satellites-on-requires c κs = search needs
 
--- src/satellites.rt:106:9
 returns : tie.Need-returns
 unfolding satelliteCard dueCard
 returns c = (rw (← c .before .before .before .before .before .line-good .ensures, c .before .before .before .before .if1 .taken, ← c .before .before .before .at-most-three .ensures) (c .satellites-on .ensures .0), c .satellites-on .ensures .1)
 
--- src/satellites.rt:100:1
 returns-2 : tie.Need-returns-2
 unfolding satelliteCard dueCard
 returns-2 c = (rw (← c .before .line-good .ensures, c .if1 .left), ((λ k h. refl), c .before .before .before .pre .1))

@@ -1,92 +1,66 @@
+-- `cards::satellites::satellite_fields` meets its contract: the fields from left to right, each as the definition has it.
 use borrow.Author.Needs.{needs}
 use Rattle.cards.proofs.satellites.satellite_fields.Statement.{statement}
 use Rattle.cards.proofs.satellites.satellite_fields.Tie as tie
-use Rattle.cards.proofs.satellites.satellite_fields.Reads as reads
-use Rattle.cards.proofs.satellites.satellite_fields.Lts as lts
-use Rattle.cards.proofs.numbers.natural_field.Reads as natural-field-reads
-use Rattle.cards.proofs.numbers.small_field.Reads as small-field-reads
-use Rattle.cards.proofs.numbers.small_row.Reads as small-row-reads
-use Rattle.cards.proofs.satellites.failed.Reads as failed-reads
-use Rattle.columns.proofs.column.Reads as column-reads
-use mathlib.Core.Path.{_≡_, refl, sym, ap, _∙_}
-use native.Mathlib.Omega.{arith}
 use Prim.Native.Nat.{_≤_}
 use mir.Syntax.{w8}
 use mir.Val.{SFits}
 use mir.ValLaws.{toZ-ofZ}
 use Rattle.cards.specs.Mains.{satellite}
 
--- src/satellites.rt:37:9
 small-row-requires : tie.Need-small-row-requires
 small-row-requires c κs = search needs
 
--- src/satellites.rt:41:49
 enum-told : tie.Need-enum-told
 enum-told c = search needs
 
--- src/satellites.rt:41:49
 add-small-field : tie.Need-add-small-field
 add-small-field c = search needs
 
--- src/satellites.rt:41:31
 small-field-requires : tie.Need-small-field-requires
 small-field-requires c κs = search needs
 
--- src/satellites.rt:42:26
 enum-known-phase : tie.Need-enum-known-phase
 enum-known-phase c = search needs
 
--- src/satellites.rt:42:62
 add-natural-field : tie.Need-add-natural-field
 add-natural-field c = search needs
 
--- src/satellites.rt:42:42
 natural-field-requires : tie.Need-natural-field-requires
 natural-field-requires c κs = search needs
 
--- src/satellites.rt:43:32
 enum-known-ratio : tie.Need-enum-known-ratio
 enum-known-ratio c = search needs
 
--- src/satellites.rt:44:54
 add-column : tie.Need-add-column
 add-column c = search needs
 
--- src/satellites.rt:44:25
 column-requires : tie.Need-column-requires
 column-requires c κs = search needs
 
--- src/satellites.rt:45:105
 cast-t23 : tie.Need-cast-t23
 cast-t23 c =
     let h : c .before .before .ratio .given .0 .0 ≤ 20000 = rw (c .before .before .ratio .given .1) at (c .before .before .before .before .natural-field .ensures .1) in
     search needs
 
--- src/satellites.rt:47:30
 enum-known-r : tie.Need-enum-known-r
 enum-known-r c = search needs
 
--- src/satellites.rt:47:36
 failed-requires : tie.Need-failed-requires
 failed-requires c κs = search needs
 
--- src/satellites.rt:49:24
 enum-known-r-2 : tie.Need-enum-known-r-2
 enum-known-r-2 c = search needs
 
--- src/satellites.rt:49:30
 failed-requires-2 : tie.Need-failed-requires-2
 failed-requires-2 c κs = search needs
 
--- src/satellites.rt:51:20
 enum-known-fault : tie.Need-enum-known-fault
 enum-known-fault c = search needs
 
--- src/satellites.rt:51:26
 failed-requires-3 : tie.Need-failed-requires-3
 failed-requires-3 c κs = search needs
 
--- src/satellites.rt:33:1
 returns : tie.Need-returns
 unfolding satellite
 returns c =
@@ -94,17 +68,14 @@ returns c =
     let fits : SFits w8 phase = search needs in
     (rw (← c .before .before .before .before .before .before .before .before .before .before .before .before .small-row .ensures .0, c .before .before .before .before .before .before .before .before .before .enum-told .given .1, ← c .before .before .before .before .before .before .before .before .small-field .ensures, c .before .before .before .before .before .before .phase .given .1, ← c .before .before .before .before .natural-field .ensures .0, c .before .before .ratio .given .1, ← c .column .ensures, toZ-ofZ w8 phase fits), c .before .before .before .before .before .before .before .before .before .before .before .before .small-row .ensures .1)
 
--- src/satellites.rt:33:1
 returns-2 : tie.Need-returns-2
 unfolding satellite
 returns-2 c = (rw (← c .before .before .before .before .before .before .before .before .before .before .before .before .small-row .ensures .0, c .before .before .before .before .before .before .before .before .before .enum-told .given .1, ← c .before .before .before .before .before .before .before .before .small-field .ensures, c .before .before .before .before .before .before .phase .given .1, ← c .before .before .before .before .natural-field .ensures .0, c .before .before .r .given .1) (c .failed .ensures .0), c .failed .ensures .1)
 
--- src/satellites.rt:33:1
 returns-3 : tie.Need-returns-3
 unfolding satellite
 returns-3 c = (rw (← c .before .before .before .before .before .before .before .before .small-row .ensures .0, c .before .before .before .before .before .enum-told .given .1, ← c .before .before .before .before .small-field .ensures, c .before .before .r2 .given .1) (c .failed2 .ensures .0), c .failed2 .ensures .1)
 
--- src/satellites.rt:33:1
 returns-4 : tie.Need-returns-4
 unfolding satellite
 returns-4 c = (rw (← c .before .before .before .before .before .small-row .ensures .0, c .before .before .fault .given .1) (c .failed3 .ensures .0), c .failed3 .ensures .1)

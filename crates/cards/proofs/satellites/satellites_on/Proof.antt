@@ -1,18 +1,15 @@
+-- `cards::satellites::satellites_on` meets its contract. The loop keeps that reading on from satellite j gives what reading all of them gives,
+-- and that the satellites stored before are as they were. Rests on the laws of part 3.
 use borrow.Author.Needs.{needs}
 use Rattle.cards.proofs.satellites.satellites_on.Statement.{statement}
 use Rattle.cards.proofs.satellites.satellites_on.Tie as tie
-use Rattle.cards.proofs.satellites.satellites_on.Reads as reads
-use Rattle.cards.proofs.satellites.satellites_on.Lts as lts
-use Rattle.cards.proofs.satellites.put_satellite.Reads as put-satellite-reads
-use Rattle.cards.proofs.satellites.satellite_fields.Reads as satellite-fields-reads
-use mathlib.Core.Path.{_≡_, refl, sym, ap, _∙_}
-use mathlib.Core.List.{List, [], _∷_}
+use mathlib.Core.Path.{_≡_, refl, ap, _∙_}
+use mathlib.Core.List.{[], _∷_}
 use native.Mathlib.Omega.{arith}
 use native.Mathlib.Nat.{sub-zero}
-use Prim.Native.Nat.{ℕ, _+_, _-_, _*_, _≤_, _<_}
+use Prim.Native.Nat.{_+_, _-_, _*_, _≤_}
 use lib.ListN.{length, length-set, take, set}
 use lib.Seq.{length-sets, length-take-le, sets}
-use Rattle.table.specs.Table.{markOf, Satellite}
 use Rattle.table.specs.View.{listed, satelliteOf}
 use Rattle.cards.specs.Mains.{satellitesOn}
 use Rattle.cards.specs.Answers.{Kept}
@@ -27,44 +24,34 @@ Inv-loop line first count angles₀ ratios₀ j₀ angles ratios j =
 abbrev μ-loop : tie.MeasureT-loop
 μ-loop line first count angles₀ ratios₀ j₀ angles ratios j = count - j
 
--- src/satellites.rt:76:5
 loop-holds : tie.Need-loop-holds Inv-loop μ-loop
 unfolding listed
 loop-holds c = (omega arith, rw (sub-zero (c .before .args .count)), (λ k h. refl), c .before .pre .2)
 
--- src/satellites.rt:77:45
 mul-satellite-fields : tie.Need-mul-satellite-fields Inv-loop μ-loop
 mul-satellite-fields c = search needs
 
--- src/satellites.rt:77:40
 add-satellite-fields : tie.Need-add-satellite-fields Inv-loop μ-loop
 add-satellite-fields c = search needs
 
--- src/satellites.rt:77:13
 satellite-fields-requires : tie.Need-satellite-fields-requires Inv-loop μ-loop
 satellite-fields-requires c κs = search needs
 
--- src/satellites.rt:81:31
 enum-told : tie.Need-enum-told Inv-loop μ-loop
 enum-told c = search needs
 
--- src/satellites.rt:81:47
 add-put-satellite : tie.Need-add-put-satellite Inv-loop μ-loop
 add-put-satellite c = search needs
 
--- src/satellites.rt:81:17
 put-satellite-requires : tie.Need-put-satellite-requires Inv-loop μ-loop
 put-satellite-requires c κs = (omega arith, c .before .before .before .before .satellite-fields .ensures .1)
 
--- src/satellites.rt:82:21
 add-j : tie.Need-add-j Inv-loop μ-loop
 add-j c = search needs
 
--- src/satellites.rt:76:5
 loop-less : tie.Need-loop-less Inv-loop μ-loop
 loop-less c = search needs
 
--- src/satellites.rt:76:5
 loop-again : tie.Need-loop-again Inv-loop μ-loop
 loop-again c =
     let s = c .before .before .before .before .before .before .before in
@@ -88,11 +75,9 @@ loop-again c =
       ),
     )
 
--- src/satellites.rt:84:24
 enum-known-fault : tie.Need-enum-known-fault Inv-loop μ-loop
 enum-known-fault c = search needs
 
--- src/satellites.rt:85:17
 returns : tie.Need-returns Inv-loop μ-loop
 returns c =
     let s = c .before .before .before .before .before in
@@ -100,7 +85,6 @@ returns c =
     let f = c .before .before .before .satellite-fields in
     (rw (satellites-more (a .line .now) (listed (satelliteOf (s .loop .angles) (s .loop .ratios)) (a .first) (s .loop .j)) (s .loop .j) (a .count) (c .before .before .before .before .loop-test .taken), ← f .ensures .0, c .before .fault .given .1) at (s .loop .inv .1), (s .loop .inv .2, s .loop .inv .3))
 
--- src/satellites.rt:70:1
 returns-2 : tie.Need-returns-2 Inv-loop μ-loop
 returns-2 c =
     let s = c .before in

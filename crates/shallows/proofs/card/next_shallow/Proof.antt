@@ -6,6 +6,9 @@ use Prim.Native.Nat.{_*_}
 use lib.ListN.{getD}
 use Rattle.table.proofs.Rows.{listed-length}
 use Rattle.cards.specs.Shallows.{nextShallow}
+use mathlib.Core.Path.{_≡_}
+use Rattle.cards.specs.Card.{opening}
+use Rattle.cards.specs.Answers.{openingGives}
 
 begins-requires : tie.Need-begins-requires
 begins-requires c κs = search needs
@@ -27,7 +30,10 @@ failed-requires c κs = search needs
 
 returns : tie.Need-returns
 unfolding nextShallow
-returns c = let a = c .before .before .before .before .before .before .before .args in rw (listed-length (λ i. getD (a .cards .now) (6 * i) 0) 0 (a .count), ← c .before .before .begins .ensures, c .enum-told .given .1)
+returns c =
+    let a = c .before .before .before .before .before .before .before .args in
+    let begun : openingGives (c .before .before .begins .result) ≡ opening 128 (a .count) (a .line .now) = c .before .before .begins .ensures in
+    rw (listed-length (λ i. getD (a .cards .now) (6 * i) 0) 0 (a .count), ← begun, c .enum-told .given .1)
 
 returns-2 : tie.Need-returns-2
 unfolding nextShallow

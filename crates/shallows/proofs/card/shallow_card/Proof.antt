@@ -4,6 +4,10 @@ use Rattle.shallows.proofs.card.shallow_card.Statement.{statement}
 use Rattle.shallows.proofs.card.shallow_card.Tie as tie
 use Prim.Native.Nat.{_≤_}
 use Rattle.cards.specs.Shallows.{shallowCard}
+use mathlib.Core.Path.{_≡_}
+use Rattle.cards.specs.Card.{number}
+use Rattle.cards.specs.Formats.{partCountField}
+use Rattle.cards.specs.Answers.{naturalGives}
 
 own-place-requires : tie.Need-own-place-requires
 own-place-requires c κs = search needs
@@ -41,7 +45,9 @@ failed-requires-2 c κs = search needs
 
 returns : tie.Need-returns
 unfolding shallowCard
-returns c = rw (← c .before .before .before .before .before .before .before .before .own-place .ensures, c .before .before .before .before .before .before .place .given .1, ← c .before .before .before .before .natural-field .ensures .0, c .before .before .parts .given .1) (c .parts-on .ensures)
+returns c =
+    let count : naturalGives (c .before .before .before .before .natural-field .result) ≡ number (c .before .before .before .before .before .before .before .before .before .before .before .before .before .args .line .now) partCountField = c .before .before .before .before .natural-field .ensures .0 in
+    rw (← c .before .before .before .before .before .before .before .before .own-place .ensures, c .before .before .before .before .before .before .place .given .1, ← count, c .before .before .parts .given .1) (c .parts-on .ensures)
 
 returns-2 : tie.Need-returns-2
 unfolding shallowCard

@@ -3,12 +3,18 @@ use borrow.Author.Needs.{needs}
 use Rattle.shallows.proofs.defined.is_defined.Statement.{statement}
 use Rattle.shallows.proofs.defined.is_defined.Tie as tie
 use Rattle.cards.proofs.Defined.{among-both}
+use mathlib.Core.Path.{_≡_}
+use Rattle.cards.specs.Card.{isAmong}
+use Rattle.cards.specs.Answers.{placesIn}
 
 is-among-requires : tie.Need-is-among-requires
 is-among-requires c κs = search needs
 
 returns : tie.Need-returns
-returns c = rw (among-both, ← c .before .is-among .ensures, c .if1 .taken)
+returns c =
+    let a = c .before .before .before .before .args in
+    let main : c .before .is-among .result ≡ isAmong (a .place) (placesIn 3 (a .maincards .now) (a .mains)) = c .before .is-among .ensures in
+    rw (among-both, ← main, c .if1 .taken)
 
 is-among-requires-2 : tie.Need-is-among-requires-2
 is-among-requires-2 c κs = search needs

@@ -6,6 +6,12 @@ use mir.Syntax.{w8}
 use mir.Val.{SFits}
 use mir.ValLaws.{toZ-ofZ}
 use Rattle.shallows.proofs.Coefficients.{part-is}
+use mathlib.Core.Path.{_≡_}
+use Rattle.columns.specs.Columns.{columns}
+use Rattle.columns.specs.Names.{namesFrom}
+use Rattle.cards.specs.Formats.{partColumn, partName}
+use Rattle.cards.specs.Shallows.{mainNamed}
+use Rattle.cards.specs.Answers.{placeGives, placesIn}
 
 mul-at : tie.Need-mul-at
 mul-at c = search needs
@@ -36,9 +42,11 @@ enum-known-r-2 c = search needs
 
 returns : tie.Need-returns
 returns c =
+    let a = c .before .before .before .before .before .before .before .before .before .before .before .args in
     let v = c .before .before .before .before .before .c .given .0 .0 in
     let f : SFits w8 v = search needs in
-    rw (part-is, ← c .before .before .before .before .before .before .before .coefficient-field .ensures, c .before .before .before .before .before .c .given .1, ← c .before .before .before .main-named .ensures, c .before .m .given .1, toZ-ofZ w8 v f)
+    let main : placeGives (c .before .before .before .main-named .result) ≡ mainNamed (namesFrom (a .names .now) 0 (a .frequencies)) (placesIn 3 (a .maincards .now) (a .mains)) (columns (a .line .now) (partName (partColumn (a .j))) 5) = c .before .before .before .main-named .ensures in
+    rw (part-is, ← c .before .before .before .before .before .before .before .coefficient-field .ensures, c .before .before .before .before .before .c .given .1, ← main, c .before .m .given .1, toZ-ofZ w8 v f)
 
 returns-2 : tie.Need-returns-2
 returns-2 c = rw (part-is, ← c .before .before .before .before .before .before .before .coefficient-field .ensures, c .before .before .before .before .before .c .given .1, ← c .before .before .before .main-named .ensures, c .before .r .given .1)
