@@ -1,4 +1,4 @@
--- What the functions of the replay hand on to one another, over a buffer of n bytes. Assumes nothing.
+-- What a call of the replay leaves, over a buffer of n bytes. Assumes nothing.
 use Prim.Native.Nat.{ℕ}
 use Rattle.clock.specs.View.{Made}
 use Rattle.input.specs.Window.{Within}

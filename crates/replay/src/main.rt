@@ -6,10 +6,9 @@ ghost use lib.ListN.{length};
 ghost use Rattle.clock.specs.View.{Made};
 ghost use Rattle.input.specs.Window.{Within};
 ghost use Rattle.replay.specs.Posts.{StepPost};
-
-mod results;
-
 use clock::Clock;
+use clock::HeightAnswer;
+use clock::TurnsAnswer;
 use input::Window;
 use script::Call;
 
@@ -31,6 +30,30 @@ fn stop(clock: Clock, window: Window, page: &mut [u8], at: usize, line: u64) -> 
         window,
         at: next,
         more: false,
+    }
+}
+
+// The line of a height.
+fn put_height(page: &mut [u8], at: usize, answer: HeightAnswer) -> usize {
+    match answer {
+        HeightAnswer::Height(height) => answers::put_height(page, at, height),
+        HeightAnswer::Refused(refusal, place) => answers::put_refused(page, at, refusal, place),
+    }
+}
+
+// The line of a search for turns.
+fn put_turns<'a>(
+    page: &mut [u8],
+    at: usize,
+    answer: TurnsAnswer,
+    minutes: &'a [u32],
+    heights: &'a [i64],
+) -> usize {
+    match answer {
+        TurnsAnswer::Turns(count, high) => {
+            answers::put_turns(page, at, count, high, minutes, heights)
+        }
+        TurnsAnswer::Refused(refusal, place) => answers::put_refused(page, at, refusal, place),
     }
 }
 
@@ -133,7 +156,7 @@ fn height_call(clock: Clock, window: Window, page: &mut [u8], at: usize, minute:
     ensures { λ r. ⌜ (r .clock ≡ clock) × (r .window ≡ window) ⌝ }
 {
     let answer = clock::height(clock, minute);
-    let place = results::put_height(page, at, answer);
+    let place = put_height(page, at, answer);
     Step {
         clock,
         window,
@@ -163,7 +186,7 @@ fn series_call(
     }
     let lent = &mut heights[..n];
     let answer = clock::series(clock, start, step, lent);
-    let place = results::put_series(page, at, answer, lent);
+    let place = answers::put_series(page, at, answer, lent);
     Step {
         clock,
         window,
@@ -198,7 +221,7 @@ fn turns_call(
         return stop(clock, window, page, at, line);
     }
     let answer = clock::turns(clock, first, last, &mut minutes[..m], &mut heights[..h]);
-    let place = results::put_turns(page, at, answer, minutes, heights);
+    let place = put_turns(page, at, answer, minutes, heights);
     Step {
         clock,
         window,

@@ -8,6 +8,7 @@ use Rattle.replay.specs.Posts.{StepPost}
 use Rattle.replay.proofs.Steps.{step-over}
 use Rattle.replay.proofs.run.Statement.{statement}
 use Rattle.replay.proofs.run.Tie as tie
+use mathlib.Core.Path.{_∙_}
 
 abbrev Inv-loop : tie.InvT-loop
 Inv-loop buffer₀ minutes₀ heights₀ page₀ step₀ calls₀ buffer minutes heights page step calls = (length buffer ≡ length buffer₀) × (length minutes ≡ length minutes₀) × (length heights ≡ length heights₀) × (length page ≡ length page₀) × StepPost (length buffer₀) step
@@ -16,10 +17,10 @@ abbrev μ-loop : tie.MeasureT-loop
 μ-loop buffer₀ minutes₀ heights₀ page₀ step₀ calls₀ buffer minutes heights page step calls = calls
 
 new-requires : tie.Need-new-requires Inv-loop μ-loop
-new-requires c κs = search needs
+new-requires c κs = tt
 
 start-requires : tie.Need-start-requires Inv-loop μ-loop
-start-requires c κs = search needs
+start-requires c κs = tt
 
 loop-holds : tie.Need-loop-holds Inv-loop μ-loop
 loop-holds c = (refl, refl, refl, refl, record { made = c .before .new .ensures .made; within = record { ordered = c .start .ensures .ordered; inside = omega (arith, c .start .ensures .inside) } })
@@ -34,25 +35,28 @@ loop-less : tie.Need-loop-less Inv-loop μ-loop
 loop-less c = search needs
 
 loop-again : tie.Need-loop-again Inv-loop μ-loop
-loop-again c = (search needs, search needs, search needs, search needs, step-over (c .before .before .before .before .before .before .before .one-call .result) (c .before .before .before .before .before .before .before .before .before .before .before .before .before .before .before .before .loop .inv .0) (c .before .before .before .before .before .before .before .one-call .ensures))
+loop-again c =
+    let s = c .before .before .before .before .before .before .before .before .before .before .before .before .before .before .before .before .loop .inv in
+    let o = c .before .before .before .before .before .before .before .one-call in
+    (o .kept .1 .1 .0 ∙ s .0, o .kept .1 .1 .1 .0 ∙ s .1, o .kept .1 .1 .1 .1 .0 ∙ s .2, o .kept .1 .1 .1 .1 .1 .0 ∙ s .3, step-over (o .result) (s .0) (o .ensures))
 
 flush-requires : tie.Need-flush-requires Inv-loop μ-loop
-flush-requires c κs = search needs
+flush-requires c κs = tt
 
 same-length : tie.Need-same-length Inv-loop μ-loop
-same-length c = search needs
+same-length c = c .before .before .before .loop .inv .0
 
 same-length-2 : tie.Need-same-length-2 Inv-loop μ-loop
-same-length-2 c = search needs
+same-length-2 c = c .before .before .before .loop .inv .1
 
 same-length-3 : tie.Need-same-length-3 Inv-loop μ-loop
-same-length-3 c = search needs
+same-length-3 c = c .before .before .before .loop .inv .2
 
 same-length-4 : tie.Need-same-length-4 Inv-loop μ-loop
-same-length-4 c = search needs
+same-length-4 c = c .before .before .before .loop .inv .3
 
 returns : tie.Need-returns Inv-loop μ-loop
-returns c = search needs
+returns c = tt
 
 pub run-spec : {M : Type 1} → statement M
 run-spec =
