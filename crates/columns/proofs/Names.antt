@@ -1,10 +1,10 @@
 -- Names compared from byte j on, and looked for from place k on, as the loops go.
 -- By the clauses of the definitions. Assumes nothing.
-use mathlib.Core.Path.{_≡_}
-use Prim.Native.Nat.{ℕ, suc, _+_, _-_, _≤_, _<_}
+use mathlib.Core.Path.{_≡_, refl, ap}
+use Prim.Native.Nat.{ℕ, zero, suc, _+_, _-_, _≤_, _<_}
 use mathlib.Core.List.{List}
 use mathlib.Core.Bool.{true, cond, _&&_}
-use lib.ListN.{getD}
+use lib.ListN.{length, getD}
 use lib.Dec.{eqb}
 use native.Mathlib.Omega.{arith}
 use Rattle.columns.specs.declared.Found.the-variants.{At, Nothing}
@@ -29,3 +29,9 @@ place-more name names k n h = let e : n - k ≡ suc (n - (k + 1)) = omega arith 
 pub place-none : (name names : List ℕ) (k n : ℕ) → n ≤ k → placeFrom name (namesFrom names k (n - k)) k ≡ Nothing
 unfolding placeFrom namesFrom
 place-none name names k n h = let e : n - k ≡ 0 = omega arith in rw e
+
+-- so many names
+pub names-count : (names : List ℕ) (k n : ℕ) → length (namesFrom names k n) ≡ n
+unfolding namesFrom
+names-count names k zero = refl
+names-count names k (suc n) = ap suc (names-count names (k + 1) n)
