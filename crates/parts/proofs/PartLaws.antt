@@ -14,13 +14,26 @@ use Rattle.table.specs.View.{listed, partOf}
 use Rattle.table.proofs.Rows.{listed-same, listed-one-more}
 use Rattle.card.specs.Formats.{partColumn, coefficientField, partName}
 use Rattle.card.specs.Card.{Card, good, bad, _>>=_, number}
-use Rattle.parts.specs.Parts as shallows
-use Rattle.parts.specs.Parts.{coefficient, partsOn}
+use Rattle.coefficients.specs.Coefficients.{coefficient, coefficientIn}
+use Rattle.parts.specs.Parts.{partsOn}
 use Rattle.places.specs.Places.{mainNamed}
 use Rattle.parts.specs.declared.PartRead.{PartRead}
 use Rattle.parts.specs.declared.PartRead.the-variants.{Gives}
 use Rattle.parts.specs.Answers.{partGives}
-use Rattle.parts.proofs.Coefficients.{coefficient-sizes}
+use Rattle.coefficients.proofs.Coefficients.{coefficient-sizes}
+use Rattle.parts.specs.Parts as shallows
+
+-- a part is its coefficient, and then its main
+pub part-is : (names : List (List ℕ)) (mains : List ℕ) (sizes : ℕ) (line : List ℕ) (at : ℕ)
+    → shallows.part names mains sizes line at ≡ (coefficientIn sizes line at >>= λ c. mainNamed names mains (columns line (partName at) 5) >>= λ m. good (record { coefficient = c; main = m }))
+unfolding shallows.part
+part-is names mains sizes line at = go (number line (coefficientField at))
+  where
+    go : (h : Card ℤ)
+        → (h >>= λ x. coefficient sizes x >>= λ c. mainNamed names mains (columns line (partName at) 5) >>= λ m. good (record { coefficient = c; main = m }))
+        ≡ _>>=_ {B = Part} (h >>= coefficient sizes) (λ c. mainNamed names mains (columns line (partName at) 5) >>= λ m. good (record { coefficient = c; main = m }))
+    go (good x) = refl
+    go (bad r) = refl
 
 module _ (names : List (List ℕ)) (mains : List ℕ) (line : List ℕ) where
   -- n parts, part j next

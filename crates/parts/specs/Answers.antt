@@ -5,19 +5,13 @@ use lib.ListN.{getD}
 use lib.IntN.{ℤ}
 use Rattle.table.specs.Table.{Part, Shallow}
 use Rattle.table.specs.View.{listed, partOf}
-use Rattle.card.specs.Card.{Card, good, bad, _>>=_, number, Next, ends, gives, fails}
-use Rattle.card.specs.Formats.{coefficientField}
-use Rattle.parts.specs.Parts.{coefficient}
+use Rattle.card.specs.Card.{Card, good, bad, _>>=_, Next, ends, gives, fails}
 use Rattle.card.specs.Answers.{numberOf}
 use Rattle.parts.specs.declared.PartRead.{PartRead}
 use Rattle.parts.specs.declared.PartRead.the-variants as part
 use Rattle.parts.specs.declared.ShallowStep.{ShallowStep}
 use Rattle.parts.specs.declared.ShallowStep.the-variants as step
 use Rattle.parts.specs.declared.ShallowRead.{ShallowRead}
-
--- the coefficient in the field from column `at` on, after parts whose sizes add up to `sizes`
-abbrev pub coefficientIn : ℕ → List ℕ → ℕ → Card ℤ
-coefficientIn sizes line at = number line (coefficientField at) >>= coefficient sizes
 
 -- a part
 abbrev pub partGives : PartRead → Card Part

@@ -1,23 +1,13 @@
 -- 01, The card file, part 4: the parts of a shallow-water constituent.
 use Prim.Native.Nat.{ℕ, zero, suc, _+_}
 use mathlib.Core.List.{List, [], _∷_, _++_}
-use mathlib.Core.Bool.{cond, _||_, not}
-use lib.Dec.{ltb, eqb}
-use lib.IntN.{ℤ, pos, natAbs}
-use lib.Signed.{quotZ, remZ}
+use lib.IntN.{natAbs}
 use Rattle.columns.specs.Columns.{columns}
 use Rattle.table.specs.Table.{Part}
 use Rattle.card.specs.Formats.{partColumn, coefficientField, partName}
-use Rattle.card.specs.Card.{Card, good, bad, number, _>>=_}
+use Rattle.card.specs.Card.{Card, good, number, _>>=_}
 use Rattle.places.specs.Places.{mainNamed}
-
--- a coefficient, of hundredths, after parts whose sizes add up to `sizes`:
--- "3 number outside its stated range, coefficient not whole, or the one that takes the sizes past 12"; it is not 0
-unfoldable pub coefficient : ℕ → ℤ → Card ℤ
-coefficient sizes hundredths =
-    cond (eqb (natAbs hundredths) 0 || not (eqb (natAbs (remZ hundredths (pos 100))) 0) || ltb 12 (sizes + natAbs (quotZ hundredths (pos 100))))
-    (bad 3)
-    (good (quotZ hundredths (pos 100)))
+use Rattle.coefficients.specs.Coefficients.{coefficient}
 
 -- a part, from column `at` on: a coefficient and a main constituent. The names are those of part 1, the places those of the mains.
 unfoldable pub part : List (List ℕ) → List ℕ → ℕ → List ℕ → ℕ → Card Part

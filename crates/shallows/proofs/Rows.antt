@@ -12,7 +12,8 @@ use Rattle.columns.specs.Lines.{linesOf, firstLine, restLines}
 use Rattle.table.specs.View.{listed, shallowOf}
 use Rattle.table.proofs.Rows.{listed-same, listed-one-more, listed-length, row-at, row-put, row-kept}
 use Rattle.card.specs.Card.{given, refused, onwardOrEnd}
-use Rattle.shallows.specs.Shallows.{shallowPlaces, shallowCard, nextShallow, shallowsFrom}
+use Rattle.shallowcard.specs.Shallow.{shallowCard, nextShallow}
+use Rattle.shallows.specs.Shallows.{shallowPlaces, shallowsFrom}
 use Rattle.places.specs.Answers.{placesIn}
 use Rattle.lines.proofs.Walk.{lines-here, lines-end}
 use Rattle.lines.proofs.Openings.{had-room}

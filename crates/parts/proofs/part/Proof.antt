@@ -5,7 +5,7 @@ use Rattle.parts.proofs.part.Tie as tie
 use mir.Syntax.{w8}
 use mir.Val.{SFits}
 use mir.ValLaws.{toZ-ofZ}
-use Rattle.parts.proofs.Coefficients.{part-is}
+use Rattle.parts.proofs.PartLaws.{part-is}
 use mathlib.Core.Path.{_≡_}
 use Rattle.columns.specs.Columns.{columns}
 use Rattle.columns.specs.Names.{namesFrom}

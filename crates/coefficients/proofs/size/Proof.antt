@@ -1,7 +1,7 @@
 -- `shallows::parts::size` meets its contract. A number below 0 is turned round, any other is kept. Assumes nothing.
 use borrow.Author.Needs.{needs}
-use Rattle.parts.proofs.size.Statement.{statement}
-use Rattle.parts.proofs.size.Tie as tie
+use Rattle.coefficients.proofs.size.Statement.{statement}
+use Rattle.coefficients.proofs.size.Tie as tie
 use mathlib.Core.Path.{_≡_}
 use mathlib.Core.Bool.{true, false}
 use lib.IntN.{pos, negℤ, +ℤ-idl}
@@ -10,7 +10,7 @@ use mir.Syntax.{w64}
 use mir.Val.{SFits}
 use mir.ValLaws.{toZ-ofZ}
 use mir.Facts.{fits-natAbs}
-use Rattle.parts.proofs.Coefficients.{natAbs-neg, nonNeg-neg, nonNeg-else, fits-64}
+use Rattle.coefficients.proofs.Coefficients.{natAbs-neg, nonNeg-neg, nonNeg-else, fits-64}
 
 sub-result : tie.Need-sub-result
 sub-result c =

@@ -1,7 +1,7 @@
 -- `shallows::card::own_place` meets its contract. A place is among those of two kinds where it is among one: `among-both`. Assumes nothing.
 use borrow.Author.Needs.{needs}
-use Rattle.shallows.proofs.own_place.Statement.{statement}
-use Rattle.shallows.proofs.own_place.Tie as tie
+use Rattle.shallowcard.proofs.own_place.Statement.{statement}
+use Rattle.shallowcard.proofs.own_place.Tie as tie
 use Rattle.card.specs.Card.{newPlace, placeNamed, isAmong}
 use Rattle.places.proofs.Defined.{among-both}
 use mathlib.Core.Path.{_≡_}

@@ -1,8 +1,8 @@
 -- `shallows::parts::whole_coefficient` meets its contract. Its tests on the size are the definition's on the number: laws of `Coefficients`.
 -- Assumes nothing.
 use borrow.Author.Needs.{needs}
-use Rattle.parts.proofs.whole_coefficient.Statement.{statement}
-use Rattle.parts.proofs.whole_coefficient.Tie as tie
+use Rattle.coefficients.proofs.whole_coefficient.Statement.{statement}
+use Rattle.coefficients.proofs.whole_coefficient.Tie as tie
 use mathlib.Core.Path.{_≡_, sym, ap, _∙_}
 use Prim.Native.Nat.{_/_, _%_, _≤_}
 use lib.IntN.{pos, natAbs}
@@ -11,7 +11,7 @@ use mir.Syntax.{w8, w64}
 use mir.Val.{SFits}
 use mir.ValLaws.{toZ-ofZ}
 use native.Mathlib.Omega.{arith}
-use Rattle.parts.proofs.Coefficients.{quot-size, fits-64, fits-8, coefficient-zero, coefficient-broken, coefficient-large, coefficient-good}
+use Rattle.coefficients.proofs.Coefficients.{quot-size, fits-64, fits-8, coefficient-zero, coefficient-broken, coefficient-large, coefficient-good}
 
 size-requires : tie.Need-size-requires
 size-requires c κs = search needs

@@ -1,7 +1,7 @@
 -- `shallows::parts::coefficient_field` meets its contract. The field's number, in its range, is at most 900 hundredths in size. Assumes nothing.
 use borrow.Author.Needs.{needs}
-use Rattle.parts.proofs.coefficient_field.Statement.{statement}
-use Rattle.parts.proofs.coefficient_field.Tie as tie
+use Rattle.coefficients.proofs.coefficient_field.Statement.{statement}
+use Rattle.coefficients.proofs.coefficient_field.Tie as tie
 use mathlib.Core.Path.{_≡_, sym, _∙_}
 use lib.IntN.{pos, negℤ}
 use mir.Syntax.{w64}
@@ -13,7 +13,7 @@ use Rattle.fields.specs.declared.Field.the-variants.{Value, Malformed, OutOfRan
 use Rattle.fields.specs.declared.Format.the-variants.{Fixed}
 use Rattle.card.specs.Formats.{coefficientField}
 use Rattle.card.proofs.Ranges.{ranged-within, number-is}
-use Rattle.parts.proofs.Coefficients.{hundredths-size}
+use Rattle.coefficients.proofs.Coefficients.{hundredths-size}
 
 ranged-field-requires : tie.Need-ranged-field-requires
 ranged-field-requires c κs = search needs

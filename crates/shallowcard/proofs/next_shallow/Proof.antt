@@ -1,11 +1,11 @@
 -- `shallows::card::next_shallow` meets its contract. The card's opening, and then its fields. Assumes nothing.
 use borrow.Author.Needs.{needs}
-use Rattle.shallows.proofs.next_shallow.Statement.{statement}
-use Rattle.shallows.proofs.next_shallow.Tie as tie
+use Rattle.shallowcard.proofs.next_shallow.Statement.{statement}
+use Rattle.shallowcard.proofs.next_shallow.Tie as tie
 use Prim.Native.Nat.{_*_}
 use lib.ListN.{getD}
 use Rattle.table.proofs.Rows.{listed-length}
-use Rattle.shallows.specs.Shallows.{nextShallow}
+use Rattle.shallowcard.specs.Shallow.{nextShallow}
 use mathlib.Core.Path.{_≡_}
 use Rattle.card.specs.Card.{opening}
 use Rattle.lines.specs.Answers.{openingGives}

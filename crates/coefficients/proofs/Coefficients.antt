@@ -1,7 +1,6 @@
 -- Laws of coefficients: the sizes of a quotient and a remainder are those of the sizes, and when so many hundredths are a coefficient.
 -- By cases on the sign, and by the clauses of the definition. Assumes nothing.
 use mathlib.Core.Path.{_≡_, refl, sym}
-use mathlib.Core.List.{List}
 use mathlib.Core.Bool.{Bool, true, false, false≢true, cond, _||_, not}
 use Prim.Native.Nat.{ℕ, zero, suc, _+_, _/_, _%_, _≤_, _<_}
 use native.Mathlib.Omega.{arith}
@@ -11,14 +10,8 @@ use lib.Signed.{ltZ, leZ, nonNeg, quotZ, remZ}
 use borrow.Author.Tests.{leb-true, ltb-true, ltb-false, eq-eqb, ne-eqb, lt-ltb, le-ltb}
 use mir.Syntax.{w8, w64}
 use mir.Val.{SFits}
-use Rattle.table.specs.Table.{Part}
-use Rattle.columns.specs.Columns.{columns}
-use Rattle.card.specs.Formats.{coefficientField, partName}
-use Rattle.card.specs.Card.{Card, good, bad, _>>=_, number}
-use Rattle.parts.specs.Parts.{coefficient}
-use Rattle.places.specs.Places.{mainNamed}
-use Rattle.parts.specs.Parts as shallows
-use Rattle.parts.specs.Answers.{coefficientIn}
+use Rattle.card.specs.Card.{good, bad, _>>=_}
+use Rattle.coefficients.specs.Coefficients.{coefficient}
 
 pub natAbs-neg : (z : ℤ) → natAbs (negℤ z) ≡ natAbs z
 natAbs-neg (pos zero) = refl
@@ -85,15 +78,3 @@ coefficient-sizes sizes h c e = go (eqb (natAbs h) 0) (not (eqb (natAbs (remZ h 
     go false true u k q = let z : _≡_ {A = ℕ} 0 1 = cc in absurd (omega arith)
     go false false true k q = let z : _≡_ {A = ℕ} 0 1 = cc in absurd (omega arith)
     go false false false k q = let e : quotZ h (pos 100) ≡ c = cc in rw (← e) (ltb-false 12 (sizes + natAbs (quotZ h (pos 100))) k)
-
--- a part is its coefficient, and then its main
-pub part-is : (names : List (List ℕ)) (mains : List ℕ) (sizes : ℕ) (line : List ℕ) (at : ℕ)
-    → shallows.part names mains sizes line at ≡ (coefficientIn sizes line at >>= λ c. mainNamed names mains (columns line (partName at) 5) >>= λ m. good (record { coefficient = c; main = m }))
-unfolding shallows.part
-part-is names mains sizes line at = go (number line (coefficientField at))
-  where
-    go : (h : Card ℤ)
-        → (h >>= λ x. coefficient sizes x >>= λ c. mainNamed names mains (columns line (partName at) 5) >>= λ m. good (record { coefficient = c; main = m }))
-        ≡ _>>=_ {B = Part} (h >>= coefficient sizes) (λ c. mainNamed names mains (columns line (partName at) 5) >>= λ m. good (record { coefficient = c; main = m }))
-    go (good x) = refl
-    go (bad r) = refl

@@ -1,9 +1,9 @@
 -- `shallows::card::shallow_card` meets its contract. Place, count of parts and parts, each as its reader says. Assumes nothing.
 use borrow.Author.Needs.{needs}
-use Rattle.shallows.proofs.shallow_card.Statement.{statement}
-use Rattle.shallows.proofs.shallow_card.Tie as tie
+use Rattle.shallowcard.proofs.shallow_card.Statement.{statement}
+use Rattle.shallowcard.proofs.shallow_card.Tie as tie
 use Prim.Native.Nat.{_≤_}
-use Rattle.shallows.specs.Shallows.{shallowCard}
+use Rattle.shallowcard.specs.Shallow.{shallowCard}
 use mathlib.Core.Path.{_≡_}
 use Rattle.card.specs.Card.{number}
 use Rattle.card.specs.Formats.{partCountField}
