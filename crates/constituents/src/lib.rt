@@ -4,7 +4,7 @@ ghost use mathlib.Core.Path.{_≡_};
 ghost use Prim.Native.Nat.{_+_, _≤_, _<_};
 ghost use lib.ListN.{length, drop};
 ghost use Rattle.columns.specs.Lines.{linesOf};
-ghost use Rattle.columns.specs.Names.{namesFrom};
+ghost use Rattle.names.specs.Names.{namesFrom};
 ghost use Rattle.table.specs.View.{mainOf};
 ghost use Rattle.constituents.specs.Constituents.{mainsFrom, satellitesFrom};
 ghost use Rattle.lines.specs.Answers.{readingGives, Within};

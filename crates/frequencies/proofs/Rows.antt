@@ -10,7 +10,7 @@ use lib.ListN.{length, getD, set, drop}
 use lib.Seq.{sets, getD-set-same, getD-set-other}
 use Rattle.columns.specs.Columns.{padded, columns}
 use Rattle.columns.specs.Lines.{linesOf, firstLine, restLines}
-use Rattle.columns.specs.Names.{namesFrom}
+use Rattle.names.specs.Names.{namesFrom}
 use Rattle.table.specs.Table.{Frequency}
 use Rattle.table.specs.View.{listed, frequencyOf}
 use Rattle.table.proofs.Rows.{listed-same, listed-one-more, row-put, row-kept}
@@ -20,7 +20,7 @@ use Rattle.frequencies.specs.declared.FrequencyStep.{FrequencyStep}
 use Rattle.card.specs.Formats.{frequencyName}
 use Rattle.card.specs.Card.{good, _>>=_, gives, given, refused, onwardOrEnd}
 use Rattle.frequencies.specs.Frequencies.{frequencyCard, nextFrequency, frequenciesFrom}
-use Rattle.columns.proofs.Names.{names-count}
+use Rattle.names.proofs.Names.{names-count}
 use Rattle.lines.proofs.Walk.{lines-here, lines-end}
 use Rattle.card.specs.Answers.{naturalGives}
 use Rattle.frequencies.specs.Answers.{frequencyRead, frequencyGives}

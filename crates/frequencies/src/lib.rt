@@ -5,7 +5,7 @@ ghost use Prim.Native.Nat.{_+_, _*_, _≤_, _<_};
 ghost use lib.Seq.{sets};
 ghost use Rattle.columns.specs.Columns.{columns};
 ghost use Rattle.columns.specs.Lines.{linesOf};
-ghost use Rattle.columns.specs.Names.{namesFrom};
+ghost use Rattle.names.specs.Names.{namesFrom};
 ghost use Rattle.table.specs.View.{listed, frequencyOf};
 ghost use Rattle.frequencies.specs.Frequencies.{frequencyCard, nextFrequency, frequenciesFrom};
 ghost use Rattle.frequencies.specs.Answers.{frequencyRead, frequencyGives};
@@ -30,13 +30,13 @@ pub enum FrequencyStep {
 fn frequency_fields(line: &[u8], names: &[u8], count: usize) -> Natural
     ensures { λ r. ⌜ frequencyRead (now (line .entry)) r ≡ frequencyCard (namesFrom (now (names .entry)) 0 count) (now (line .entry)) ⌝ }
 {
-    let name = columns::name_part(line, 4);
-    if columns::name_blank(name) {
+    let name = names::name_part(line, 4);
+    if names::name_blank(name) {
         return Natural::Bad(Refusal::Name);
     }
-    match columns::find_name(name, names, count) {
-        columns::Found::At(_) => Natural::Bad(Refusal::Name),
-        columns::Found::Nothing => natural_field(
+    match names::find_name(name, names, count) {
+        names::Found::At(_) => Natural::Bad(Refusal::Name),
+        names::Found::Nothing => natural_field(
             line,
             12,
             13,

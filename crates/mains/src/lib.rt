@@ -2,7 +2,7 @@
 ghost use mathlib.Core.Path.{_≡_};
 ghost use Prim.Native.Nat.{_+_, _≤_, _<_};
 ghost use Rattle.columns.specs.Columns.{columns};
-ghost use Rattle.columns.specs.Names.{namesFrom};
+ghost use Rattle.names.specs.Names.{namesFrom};
 ghost use Rattle.card.specs.Card.{fails, newPlace, opened, readFields};
 ghost use Rattle.mains.specs.Mains.{mainMade, mainNumbers, nextMain};
 ghost use Rattle.card.specs.Answers.{numberOf};

@@ -2,7 +2,7 @@
 ghost use mathlib.Core.Path.{_≡_};
 ghost use mathlib.Core.List.{[]};
 ghost use Prim.Native.Nat.{_≤_, _<_};
-ghost use Rattle.columns.specs.Names.{namesFrom};
+ghost use Rattle.names.specs.Names.{namesFrom};
 ghost use Rattle.card.specs.Formats.{partColumn};
 ghost use Rattle.card.specs.Card.{opened, readFields};
 ghost use Rattle.parts.specs.Parts as shallows;

@@ -7,8 +7,8 @@ use mathlib.Core.Bool.{Bool, true, false, cond, _||_}
 use lib.Dec.{eqb}
 use lib.ListN.{getD}
 use native.Mathlib.Omega.{arith}
-use Rattle.columns.specs.Names.{same, namesFrom, placeFrom, placeOf}
-use Rattle.columns.specs.declared.Found.the-variants.{At}
+use Rattle.names.specs.Names.{same, namesFrom, placeFrom, placeOf}
+use Rattle.names.specs.declared.Found.the-variants.{At}
 use Rattle.table.specs.View.{listed}
 use Rattle.table.proofs.Rows.{listed-next, listed-end}
 use Rattle.card.specs.Card.{good, bad, isAmong}

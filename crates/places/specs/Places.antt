@@ -3,7 +3,7 @@ use Prim.Native.Nat.{ℕ, _+_}
 use mathlib.Core.List.{List, [], _∷_}
 use mathlib.Core.Bool.{cond}
 use lib.Dec.{eqb}
-use Rattle.columns.specs.Names.{placeOf}
+use Rattle.names.specs.Names.{placeOf}
 use Rattle.card.specs.Card.{Card, good, bad, placeFound, _>>=_}
 
 -- where a place stands first among the mains' places, which have positions k and up: "5 part not a main"

@@ -2,7 +2,7 @@
 ghost use mathlib.Core.Path.{_≡_};
 ghost use Prim.Native.Nat.{_+_, _*_, _≤_, _<_};
 ghost use Rattle.columns.specs.Columns.{columns};
-ghost use Rattle.columns.specs.Names.{namesFrom};
+ghost use Rattle.names.specs.Names.{namesFrom};
 ghost use Rattle.card.specs.Card.{placeNamed, isAmong};
 ghost use Rattle.places.specs.Places.{mainAt, mainNamed};
 ghost use Rattle.places.specs.Answers.{placeGives, placesIn};
@@ -19,13 +19,13 @@ pub fn place_named(line: &[u8], from: usize, names: &[u8], count: usize) -> Plac
     requires { ⌜ count ≤ 160 ⌝ }
     ensures { λ r. ⌜ placeGives r ≡ placeNamed (namesFrom (now (names .entry)) 0 count) (columns (now (line .entry)) from 5) ⌝ }
 {
-    let name = columns::name_part(line, from);
-    if columns::name_blank(name) {
+    let name = names::name_part(line, from);
+    if names::name_blank(name) {
         return Place::Bad(Refusal::Name);
     }
-    match columns::find_name(name, names, count) {
-        columns::Found::At(place) => Place::At(place as u16),
-        columns::Found::Nothing => Place::Bad(Refusal::Missing),
+    match names::find_name(name, names, count) {
+        names::Found::At(place) => Place::At(place as u16),
+        names::Found::Nothing => Place::Bad(Refusal::Missing),
     }
 }
 
@@ -71,8 +71,8 @@ pub fn main_named(
     requires { ⌜ (frequencies ≤ 160) × (mains ≤ 160) ⌝ }
     ensures { λ r. ⌜ placeGives r ≡ mainNamed (namesFrom (now (names .entry)) 0 frequencies) (placesIn 3 (now (cards .entry)) mains) (columns (now (line .entry)) from 5) ⌝ }
 {
-    match columns::find_name(columns::name_part(line, from), names, frequencies) {
-        columns::Found::At(place) => main_at(place as u16, cards, mains),
-        columns::Found::Nothing => Place::Bad(Refusal::Missing),
+    match names::find_name(names::name_part(line, from), names, frequencies) {
+        names::Found::At(place) => main_at(place as u16, cards, mains),
+        names::Found::Nothing => Place::Bad(Refusal::Missing),
     }
 }

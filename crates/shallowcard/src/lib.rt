@@ -3,7 +3,7 @@ ghost use mathlib.Core.Path.{_≡_};
 ghost use mathlib.Core.List.{_++_};
 ghost use Prim.Native.Nat.{_≤_, _+_};
 ghost use Rattle.columns.specs.Columns.{columns};
-ghost use Rattle.columns.specs.Names.{namesFrom};
+ghost use Rattle.names.specs.Names.{namesFrom};
 ghost use Rattle.card.specs.Card.{newPlace, opened, readFields, fails};
 ghost use Rattle.shallowcard.specs.Shallow.{shallowCard, nextShallow};
 ghost use Rattle.card.specs.Answers.{numberOf};

@@ -2,7 +2,7 @@
 ghost use mathlib.Core.Path.{_≡_};
 ghost use mathlib.Core.List.{[]};
 ghost use Prim.Native.Nat.{_≤_, _+_, _*_, _<_};
-ghost use Rattle.columns.specs.Names.{namesFrom};
+ghost use Rattle.names.specs.Names.{namesFrom};
 ghost use Rattle.shallows.specs.Shallows.{shallowsFrom};
 ghost use Rattle.places.specs.Answers.{placesIn};
 ghost use lib.ListN.{length, drop};

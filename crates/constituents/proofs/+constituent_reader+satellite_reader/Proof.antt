@@ -36,7 +36,7 @@ use mir.Syntax.{w8}
 use mir.Val.{SFits}
 use mir.ValLaws.{toZ-ofZ}
 use borrow.Author.Tests.{eq-eqb, ne-eqb, le-leb, lt-leb}
-use Rattle.columns.specs.Names.{namesFrom}
+use Rattle.names.specs.Names.{namesFrom}
 use Rattle.table.proofs.Rows.{listed-length, row-at}
 use Rattle.mains.specs.Mains.{nextMain}
 use Rattle.satellites.specs.Satellites.{satelliteCard}

@@ -3,7 +3,7 @@ use borrow.Author.Needs.{needs}
 use Rattle.frequencies.proofs.frequency_card.Statement.{statement}
 use Rattle.frequencies.proofs.frequency_card.Tie as tie
 use Rattle.frequencies.specs.Frequencies.{nextFrequency}
-use Rattle.columns.proofs.Names.{names-count}
+use Rattle.names.proofs.Names.{names-count}
 
 begins-requires : tie.Need-begins-requires
 begins-requires c κs = search needs

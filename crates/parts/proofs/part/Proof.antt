@@ -8,7 +8,7 @@ use mir.ValLaws.{toZ-ofZ}
 use Rattle.parts.proofs.PartLaws.{part-is}
 use mathlib.Core.Path.{_≡_}
 use Rattle.columns.specs.Columns.{columns}
-use Rattle.columns.specs.Names.{namesFrom}
+use Rattle.names.specs.Names.{namesFrom}
 use Rattle.card.specs.Formats.{partColumn, partName}
 use Rattle.places.specs.Places.{mainNamed}
 use Rattle.places.specs.Answers.{placeGives, placesIn}

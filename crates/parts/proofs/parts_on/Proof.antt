@@ -15,7 +15,7 @@ use mir.Syntax.{w8, w64}
 use mir.Val.{SFits}
 use mir.ValLaws.{toZ-ofZ}
 use mir.Facts.{sfits-widen}
-use Rattle.columns.specs.Names.{namesFrom}
+use Rattle.names.specs.Names.{namesFrom}
 use Rattle.table.specs.View.{listed, partOf}
 use Rattle.card.specs.Formats.{partColumn}
 use Rattle.parts.specs.Parts.{partsOn}

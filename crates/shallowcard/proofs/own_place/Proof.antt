@@ -6,7 +6,7 @@ use Rattle.card.specs.Card.{newPlace, placeNamed, isAmong}
 use Rattle.places.proofs.Defined.{among-both}
 use mathlib.Core.Path.{_≡_}
 use Rattle.columns.specs.Columns.{columns}
-use Rattle.columns.specs.Names.{namesFrom}
+use Rattle.names.specs.Names.{namesFrom}
 use Rattle.places.specs.Answers.{placeGives, placesIn}
 
 place-named-requires : tie.Need-place-named-requires

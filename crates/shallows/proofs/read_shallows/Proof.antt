@@ -10,7 +10,7 @@ use native.Mathlib.Omega.{arith}
 use lib.ListN.{length, drop}
 use lib.Seq.{sets, length-sets}
 use Rattle.columns.specs.Lines.{linesOf}
-use Rattle.columns.specs.Names.{namesFrom}
+use Rattle.names.specs.Names.{namesFrom}
 use Rattle.table.specs.View.{listed, shallowOf}
 use Rattle.shallows.specs.Shallows.{shallowsFrom}
 use Rattle.places.specs.Answers.{placesIn}
