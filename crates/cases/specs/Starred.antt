@@ -16,7 +16,7 @@ use Rattle.nodal.specs.Latitude.{factorsAt}
 use Rattle.nodal.specs.Satellites.{mainPair}
 use Rattle.month.specs.Month.{nodal, constituent}
 use Rattle.heights.specs.Height.{angle, heightAt}
-use Rattle.turns.specs.Stride.{strideBy}
+use Rattle.strides.specs.Stride.{strideBy}
 
 pub data Case : Type 0 where
   _gives_ : ℤ → ℤ → Case

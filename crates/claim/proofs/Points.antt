@@ -15,11 +15,11 @@ use Rattle.prepared.specs.Prepared.{Constituent}
 use Rattle.heights.specs.Exact.{Near}
 use Rattle.heights.specs.Height.{heightAt, seriesFrom, seriesOf}
 use Rattle.heights.proofs.Distance.{height-is-near}
-use Rattle.turns.specs.Slope.{slopeAt}
-use Rattle.turns.specs.Search.{Turn, turnsOf}
+use Rattle.slopes.specs.Slope.{slopeAt}
+use Rattle.search.specs.Search.{Turn, turnsOf}
 use Rattle.strides.specs.Strides.{stationStride}
 use Rattle.turns.specs.Written as written
-use Rattle.turns.specs.Written.{minutesOf}
+use Rattle.search.specs.Search.{minutesOf}
 use Rattle.clock.specs.State as state
 use Rattle.clock.specs.State.{Maybe, State}
 use Rattle.clock.specs.Returned.{Returned, accepted, heightIs, turnsAre, refused}

@@ -10,12 +10,12 @@ use Rattle.table.specs.View.{tableOf}
 use Rattle.station.specs.Rows.{stationOf}
 use Rattle.strides.specs.Strides.{stationStride}
 use Rattle.heights.specs.Height.{heightAt}
-use Rattle.turns.specs.Slope.{slopeAt}
-use Rattle.turns.specs.Search.{turnsOf}
+use Rattle.slopes.specs.Slope.{slopeAt}
+use Rattle.search.specs.Search.{turnsOf}
 use Rattle.turns.specs.Written as written
 use Rattle.turns.specs.declared.Searched.{Searched}
 use Rattle.turns.specs.declared.Searched.the-variants.{Found, TooMany}
-use Rattle.turns.specs.declared.Summary.{Summary}
+use Rattle.search.specs.declared.Summary.{Summary}
 use Rattle.clock.specs.declared.Clock.{Clock}
 use Rattle.clock.specs.declared.TurnsAnswer.{TurnsAnswer}
 use Rattle.clock.specs.declared.TurnsAnswer.the-variants.{Turns, Refused}

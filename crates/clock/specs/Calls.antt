@@ -14,8 +14,8 @@ use Rattle.station.specs.Station.{Station, stationOutcome}
 use Rattle.calendar.specs.Calendar.{inRange, monthMinutes}
 use Rattle.month.specs.Month.{Prepared, tooLarge, prepared, monthOf}
 use Rattle.heights.specs.Height.{heightAt, seriesOf}
-use Rattle.turns.specs.Slope.{slopeAt}
-use Rattle.turns.specs.Search.{turnsOf}
+use Rattle.slopes.specs.Slope.{slopeAt}
+use Rattle.search.specs.Search.{turnsOf}
 use Rattle.turns.specs.Written as written
 use Rattle.strides.specs.Strides.{stationStride}
 use Rattle.clock.specs.State.{Maybe, none, some, Month, State}
