@@ -9,7 +9,7 @@ use lib.IntN.{ℤ}
 use Rattle.table.specs.Table.{Table}
 use Rattle.cards.specs.Cards as cards
 use Rattle.cards.specs.Cards.{readCards}
-use Rattle.station.specs.declared.Record.{Record}
+use Rattle.records.specs.declared.Record.{Record}
 use Rattle.station.specs.Station.{Station, stationOutcome}
 use Rattle.calendar.specs.Calendar.{inRange, monthMinutes}
 use Rattle.month.specs.Month.{Prepared, tooLarge, prepared, monthOf}

@@ -10,14 +10,14 @@ ghost use mathlib.Core.Bool.{true};
 ghost use Rattle.calendar.specs.Calendar.{inRange};
 ghost use Rattle.clock.specs.View.{Made};
 ghost use Rattle.clock.specs.Posts.{NewPost, CardsPost, StationPost, DatePost, HeightPost, SeriesPost, TurnsPost, PreparedPost};
-ghost use Rattle.station.specs.Posts.{recordsOf};
+ghost use Rattle.records.specs.Rows.{recordsOf};
 ghost use Rattle.clock.specs.Parts.{withTable, withStation, withMonth};
 use month::Preparation;
 use prepared::Month;
+use records::Record;
+use records::Rows;
 use refusals::Answer;
 use refusals::Refusal;
-use station::Record;
-use station::Rows;
 use station::Station;
 use table::Table;
 use turns::Searched;
@@ -176,7 +176,7 @@ pub fn set_station(clock: Clock, latitude: i32, records: &[Record]) -> After
     ensures { λ r. ⌜ StationPost clock latitude (now (records .entry)) (r .answer) (r .clock) ⌝ }
 {
     let n = records.len();
-    let rows = station::rows_of(records);
+    let rows = records::rows_of(records);
     place_station(clock, latitude, n, rows)
 }
 

@@ -8,7 +8,7 @@ use lib.ListN.{getD, List·getD-map}
 use Rattle.table.specs.Table.{Table, Frequency, Main, Shallow}
 use Rattle.prepared.specs.Prepared.{Constituent}
 use Rattle.station.specs.Station.{Station}
-use Rattle.station.specs.declared.Record.{Record}
+use Rattle.records.specs.declared.Record.{Record}
 use Rattle.arguments.specs.Longitudes.{Longitudes}
 use Rattle.nodal.specs.Latitude.{Factors}
 use Rattle.nodal.specs.Satellites.{Pair}

@@ -8,7 +8,7 @@ use native.Mathlib.Nat.{sub-zero}
 use lib.ListN.{getD}
 use Rattle.table.specs.Table.{Main, Shallow}
 use Rattle.prepared.specs.Prepared.{Constituent}
-use Rattle.station.specs.Rows.{recordFrom, recordsFrom}
+use Rattle.records.specs.Rows.{recordFrom, recordsFrom}
 use Rattle.arguments.specs.Longitudes.{Longitudes}
 use Rattle.nodal.specs.Latitude.{Factors}
 use Rattle.nodal.specs.Satellites.{Pair}

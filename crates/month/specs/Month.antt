@@ -11,7 +11,7 @@ use Rattle.calendar.specs.Calendar.{dayCount}
 use Rattle.table.specs.Table.{Main, Shallow, Table}
 use Rattle.prepared.specs.Prepared.{Constituent}
 use Rattle.station.specs.Station.{Station}
-use Rattle.station.specs.declared.Record.{Record}
+use Rattle.records.specs.declared.Record.{Record}
 use Rattle.arguments.specs.Longitudes.{Longitudes, longitudesOn}
 use Rattle.arguments.specs.Arguments.{mainArgument, shallowArgument}
 use Rattle.nodal.specs.Latitude.{Factors, factorsAt}

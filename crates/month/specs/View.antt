@@ -13,7 +13,7 @@ use Rattle.prepared.specs.declared.Month.{Month}
 use Rattle.table.specs.Table.{Main, Shallow}
 use Rattle.table.specs.View.{listed, naturals, mainOf, shallowOf}
 use Rattle.table.specs.declared.Table as table
-use Rattle.station.specs.declared.Record.{Record}
+use Rattle.records.specs.declared.Record.{Record}
 use Rattle.arguments.specs.declared.Longitudes as longitudes
 use Rattle.arguments.specs.Longitudes.{Longitudes}
 use Rattle.nodal.specs.Latitude.{Factors}

@@ -8,7 +8,7 @@ use Rattle.columns.specs.Names.{placeOf}
 use Rattle.columns.specs.declared.Found.{Found}
 use Rattle.columns.specs.declared.Found.the-variants.{At, Nothing}
 use Rattle.table.specs.Table.{Table, Frequency}
-use Rattle.station.specs.declared.Record.{Record}
+use Rattle.records.specs.declared.Record.{Record}
 use Rattle.station.specs.Station.{Station}
 use Rattle.strides.specs.Stride.{strideOf}
 

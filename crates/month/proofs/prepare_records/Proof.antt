@@ -10,7 +10,7 @@ use Rattle.arguments.specs.View.{longitudesOf}
 use Rattle.nodal.specs.View.{factorsOf}
 use Rattle.month.specs.Month.{before, Prepared, prepared}
 use Rattle.month.specs.View.{heldUpto, frequenciesOf, mainsOf, shallowsOf, rowsPrepared}
-use Rattle.station.specs.Rows.{recordsFrom}
+use Rattle.records.specs.Rows.{recordsFrom}
 use Rattle.month.proofs.Records.{left, all-done, none-done, refused-at, small-at, accepted-at}
 use Rattle.table.specs.declared.Table.{Table}
 use Rattle.prepared.specs.View.{constituentsAfter}

@@ -16,7 +16,7 @@ use borrow.Author.Tests.{lt-ltb, le-ltb}
 use mir.Val.{toZ, ofZ}
 use Rattle.refusals.specs.declared.Refusal.the-variants.{OutOfRange, TooMany}
 use Rattle.station.specs.Station.{stationOutcome}
-use Rattle.station.specs.Posts.{recordsOf}
+use Rattle.records.specs.Rows.{recordsOf}
 use Rattle.station.proofs.Laws.{not-accepted}
 use Rattle.station.proofs.Copies.{kept-is, records-length}
 use mathlib.Core.Path.{refl}

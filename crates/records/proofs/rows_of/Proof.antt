@@ -1,4 +1,4 @@
--- `station::rows_of` meets its contract: a walk of its MIR, by hand, with a loop and three calls of covered functions.
+-- `records::rows_of` meets its contract: a walk of its MIR, by hand, with a loop and three calls of covered functions.
 -- Assumes nothing.
 use mathlib.Core.Path.{_≡_, refl, sym, ap, _∙_, subst}
 use Prim.Native.Nat.{ℕ, zero, suc, _<_, _≤_, _*_, _+_, _-_, _^_, min}
@@ -46,29 +46,29 @@ use denote.Triple.Call.{calls-at}
 use denote.Triple.Clauses.{ensured, lasts}
 use denote.Triple.Table.{entered, cited}
 use denote.Triple.Walked.{says, Stays, stay-none-slice, walkOf, Walks, ends-at, walked, goes-none-slice, walk-meets}
-use Rattle.station.specs.declared.Record.{Record}
-use Rattle.station.specs.declared.Rows.{Rows}
-use Rattle.station.specs.Rows.{blank, lentAt, putRow, putLent, noRows, rowsUpto}
-use Rattle.station.proofs.Record as T
-use Rattle.station.proofs.Record.Laws as T′
-use Rattle.station.proofs.Rows as R
-use Rattle.station.proofs.Rows.Laws as R′
-use Rattle.station.proofs.none as none
-use Rattle.station.proofs.none.Symbol as none-def
-use Rattle.station.proofs.none.Symbol.{name as #station·none}
-use Rattle.station.proofs.none.Met as none-thm
-use Rattle.station.proofs.at_most as most
-use Rattle.station.proofs.at_most.Symbol as most-def
-use Rattle.station.proofs.at_most.Symbol.{name as #station·at-most}
-use Rattle.station.proofs.at_most.Met as most-thm
-use Rattle.station.proofs.put as put
-use Rattle.station.proofs.put.Symbol as put-def
-use Rattle.station.proofs.put.Symbol.{name as #station·put}
-use Rattle.station.proofs.put.Met as put-thm
-use Rattle.station.proofs.rows_of.Key.{name as #station·rows-of}
-use Rattle.station.proofs.rows_of as it
-use Rattle.station.proofs.rows_of.Statement as stated
-use Rattle.station.proofs.rows_of.Code as code
+use Rattle.records.specs.declared.Record.{Record}
+use Rattle.records.specs.declared.Rows.{Rows}
+use Rattle.records.specs.Rows.{blank, lentAt, putRow, putLent, noRows, rowsUpto}
+use Rattle.records.proofs.Record as T
+use Rattle.records.proofs.Record.Laws as T′
+use Rattle.records.proofs.Rows as R
+use Rattle.records.proofs.Rows.Laws as R′
+use Rattle.records.proofs.none as none
+use Rattle.records.proofs.none.Symbol as none-def
+use Rattle.records.proofs.none.Symbol.{name as #records·none}
+use Rattle.records.proofs.none.Met as none-thm
+use Rattle.records.proofs.at_most as most
+use Rattle.records.proofs.at_most.Symbol as most-def
+use Rattle.records.proofs.at_most.Symbol.{name as #records·at-most}
+use Rattle.records.proofs.at_most.Met as most-thm
+use Rattle.records.proofs.put as put
+use Rattle.records.proofs.put.Symbol as put-def
+use Rattle.records.proofs.put.Symbol.{name as #records·put}
+use Rattle.records.proofs.put.Met as put-thm
+use Rattle.records.proofs.rows_of.Key.{name as #records·rows-of}
+use Rattle.records.proofs.rows_of as it
+use Rattle.records.proofs.rows_of.Statement as stated
+use Rattle.records.proofs.rows_of.Code as code
 
 abbrev stayed : Stays (it.ended .signature .params) (it.ended .kept)
 stayed = (stay-none-slice (0 ∷ []) tt (plain (λ _. T.the-row)) yes, tt)
@@ -196,7 +196,7 @@ module _ {M : Type 1} (𝓤 : URA M) (H : Heap 𝓤) (A : Atoms 𝓤) (W : Given
   abbrev En : ℕ → ℕ → ℕ → ℕ → ℕ → ℕ → ℕ → ℕ → ℕ → ℕ → ℕ → Env 𝓤 H
   En l₀ l₁ l₂ l₃ l₄ l₅ l₆ l₇ l₈ l₉ lₐ = (R′.mir, l₀) ∷ (slice, l₁) ∷ (tyInt w64, l₂) ∷ (R′.mir, l₃) ∷ (tyInt w64, l₄) ∷ (T′.mir, l₅) ∷ (tyInt w64, l₆) ∷ (tyBool, l₇) ∷ (tyInt w64, l₈) ∷ (tyPtr, l₉) ∷ (T′.mir, lₐ) ∷ []
 
-  walk : (𝓣 : Tables 𝓤 H) → FmC 𝓤 H (W .laws) (𝓣 .C) → Triple 𝓤 (𝓣 .C #station·at-most) (Most 𝓤 H A mem run) → Triple 𝓤 (𝓣 .C #station·none) (None 𝓤 H A mem run) → Triple 𝓤 (𝓣 .C #station·put) (Put 𝓤 H A mem run)
+  walk : (𝓣 : Tables 𝓤 H) → FmC 𝓤 H (W .laws) (𝓣 .C) → Triple 𝓤 (𝓣 .C #records·at-most) (Most 𝓤 H A mem run) → Triple 𝓤 (𝓣 .C #records·none) (None 𝓤 H A mem run) → Triple 𝓤 (𝓣 .C #records·put) (Put 𝓤 H A mem run)
       → Room T.the-row n → ent 𝓤 (onEntry 𝓤 H A it.signature (κ, tt) (q, tt) x at) (WpFn 𝓤 H (𝓣 .C) (𝓣 .Λ) code.function (sliceVal (b, o) n ∷ []) Post)
   unfolding afterTurn
   walk 𝓣 fm known-most known-none known-put gn =
@@ -269,7 +269,7 @@ module _ {M : Type 1} (𝓤 : URA M) (H : Heap 𝓤) (A : Atoms 𝓤) (W : Given
       move ! (9 ∷ 14 ∷ []) $ free1 ! $ move ! (8 ∷ 13 ∷ []) $ free1 ! $ move ! (10 ∷ 12 ∷ []) $ free1 ! $ move ! (1 ∷ 11 ∷ []) $ free1 ! $ move ! (1 ∷ 10 ∷ []) $ free1 ! $ move ! (5 ∷ 9 ∷ []) $ free1 ! $ move ! (7 ∷ 8 ∷ []) $ free1 ! $ move ! (3 ∷ 7 ∷ []) $ free1 ! $ move ! (3 ∷ 6 ∷ []) $ free1 ! $ move ! (2 ∷ 5 ∷ []) $ free1 ! $ move ! (1 ∷ 4 ∷ []) $ free1 ! $ free0 ! $ keep ! (1 ∷ 2 ∷ 0 ∷ []) $ by ! (exits (t .v)))))
       (record { i = 0; v = v; small = omega arith }))))))))))))))))))))
 
-module _ {M : Type 1} (𝓤 : URA M) (H : Heap 𝓤) (A : Atoms 𝓤) (W : Given 𝓤 H A) (mem : Memory → SProp 𝓤) (run : Routine → Fun 𝓤) (𝓣 : Tables 𝓤 H) (known-most : Triple 𝓤 (𝓣 .C #station·at-most) (Most 𝓤 H A mem run)) (known-none : Triple 𝓤 (𝓣 .C #station·none) (None 𝓤 H A mem run)) (known-put : Triple 𝓤 (𝓣 .C #station·put) (Put 𝓤 H A mem run)) where
+module _ {M : Type 1} (𝓤 : URA M) (H : Heap 𝓤) (A : Atoms 𝓤) (W : Given 𝓤 H A) (mem : Memory → SProp 𝓤) (run : Routine → Fun 𝓤) (𝓣 : Tables 𝓤 H) (known-most : Triple 𝓤 (𝓣 .C #records·at-most) (Most 𝓤 H A mem run)) (known-none : Triple 𝓤 (𝓣 .C #records·none) (None 𝓤 H A mem run)) (known-put : Triple 𝓤 (𝓣 .C #records·put) (Put 𝓤 H A mem run)) where
   it-walks : Walks 𝓤 H A it.ended stayed (WpFn 𝓤 H (𝓣 .C) (𝓣 .Λ) code.function) (it.clauses 𝓤 H A mem run)
   it-walks = walked 𝓤 H A it.ended stayed (it.clauses 𝓤 H A mem run) (WpFn 𝓤 H (𝓣 .C) (𝓣 .Λ) code.function) (λ κs. (slice-vals, tt)) (λ κs. (shr-slice-tells (named 0) (κs .0) T.the-row, tt))
       (λ κs qs bounds a g are. via 𝓤 _ (fst∗ 𝓤 _ (emp 𝓤))
@@ -282,8 +282,8 @@ pub rows-of-spec : {M : Type 1} → stated.statement M
 unfolding code.routine tablesOf
 rows-of-spec 𝓤 H 𝓜 𝓖 𝓡 =
     entered 𝓤 H (tripleOf 𝓤 H (𝓖 .A) it.signature (it.spec 𝓤 H (𝓖 .A) (𝓜 .mem) (𝓡 .run)))
-    (tables 𝓤 H 𝓜 𝓡 code.env .C) (tables 𝓤 H 𝓜 𝓡 code.env .Λ) #station·rows-of code.function (code.unfolded 𝓤 H 𝓜 𝓡)
+    (tables 𝓤 H 𝓜 𝓡 code.env .C) (tables 𝓤 H 𝓜 𝓡 code.env .Λ) #records·rows-of code.function (code.unfolded 𝓤 H 𝓜 𝓡)
     (it-meets 𝓤 H (𝓖 .A) (givenOf 𝓤 H 𝓜 𝓖) (𝓜 .mem) (𝓡 .run) (tablesOf 𝓤 H 𝓜 (tables 𝓤 H 𝓜 𝓡 code.env))
-    (cited 𝓤 H (Most 𝓤 H (𝓖 .A) (𝓜 .mem) (𝓡 .run)) 𝓜 𝓡 code.env #station·at-most most-def.routine code.calls-station·at-most (most-thm.met 𝓤 H 𝓜 𝓖 𝓡))
-    (cited 𝓤 H (None 𝓤 H (𝓖 .A) (𝓜 .mem) (𝓡 .run)) 𝓜 𝓡 code.env #station·none none-def.routine code.calls-station·none (none-thm.met 𝓤 H 𝓜 𝓖 𝓡))
-    (cited 𝓤 H (Put 𝓤 H (𝓖 .A) (𝓜 .mem) (𝓡 .run)) 𝓜 𝓡 code.env #station·put put-def.routine code.calls-station·put (put-thm.met 𝓤 H 𝓜 𝓖 𝓡)))
+    (cited 𝓤 H (Most 𝓤 H (𝓖 .A) (𝓜 .mem) (𝓡 .run)) 𝓜 𝓡 code.env #records·at-most most-def.routine code.calls-records·at-most (most-thm.met 𝓤 H 𝓜 𝓖 𝓡))
+    (cited 𝓤 H (None 𝓤 H (𝓖 .A) (𝓜 .mem) (𝓡 .run)) 𝓜 𝓡 code.env #records·none none-def.routine code.calls-records·none (none-thm.met 𝓤 H 𝓜 𝓖 𝓡))
+    (cited 𝓤 H (Put 𝓤 H (𝓖 .A) (𝓜 .mem) (𝓡 .run)) 𝓜 𝓡 code.env #records·put put-def.routine code.calls-records·put (put-thm.met 𝓤 H 𝓜 𝓖 𝓡)))
