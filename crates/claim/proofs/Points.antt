@@ -23,7 +23,8 @@ use Rattle.search.specs.Search.{minutesOf}
 use Rattle.clock.specs.State as state
 use Rattle.clock.specs.State.{Maybe, State}
 use Rattle.clock.specs.Returned.{Returned, accepted, heightIs, turnsAre, refused}
-use Rattle.clock.specs.Calls.{heightReturns, stepOutside, lastMinute, SeriesGiven, seriesRefused, seriesGives, TurnsGiven, turnsRefused, turnsGives, searched}
+use Rattle.clock.specs.Calls.{heightReturns, SeriesGiven, seriesRefused, seriesGives, TurnsGiven, turnsRefused, turnsGives, searched}
+use Rattle.asked.specs.Asked.{stepOutside, lastMinute}
 use Rattle.claim.specs.Document.{Request, Cards, Station, Date, Height, Series, Turns, Gave, told, wrote, found, Last, workedOut, after, gives, givesAll, Point, heightPoints, pointsFrom, seriesPoints, pointsOf, turnsPoints, points, constituentsIn, constituentsOf, AllNear, nil, cons, EachNear, end, next}
 
 -- ---- a height
