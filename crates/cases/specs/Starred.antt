@@ -12,8 +12,8 @@ use Rattle.calendar.specs.Calendar.{dayCount}
 use Rattle.arguments.specs.Longitudes.{Longitudes, longitudesOn}
 use Rattle.arguments.specs.Arguments.{argument}
 use Rattle.prepared.specs.Prepared.{Constituent}
-use Rattle.nodal.specs.Latitude.{factorsAt}
-use Rattle.nodal.specs.Satellites.{mainPair}
+use Rattle.latitude.specs.Latitude.{factorsAt}
+use Rattle.satellites.specs.Satellites.{mainPair}
 use Rattle.month.specs.Month.{nodal, constituent}
 use Rattle.heights.specs.Height.{angle, heightAt}
 use Rattle.strides.specs.Stride.{strideBy}

@@ -14,8 +14,8 @@ use Rattle.station.specs.Station.{Station}
 use Rattle.records.specs.declared.Record.{Record}
 use Rattle.arguments.specs.Longitudes.{Longitudes, longitudesOn}
 use Rattle.arguments.specs.Arguments.{mainArgument, shallowArgument}
-use Rattle.nodal.specs.Latitude.{Factors, factorsAt}
-use Rattle.nodal.specs.Satellites.{Pair}
+use Rattle.latitude.specs.Latitude.{Factors, factorsAt}
+use Rattle.satellites.specs.Satellites.{Pair}
 use Rattle.nodal.specs.Shallow as pairs
 use Rattle.nodal.specs.Shallow.{Corrected, pair, mainCorrected, shallowCorrected}
 

@@ -16,7 +16,7 @@ use Rattle.table.specs.declared.Table as table
 use Rattle.records.specs.declared.Record.{Record}
 use Rattle.arguments.specs.declared.Longitudes as longitudes
 use Rattle.arguments.specs.Longitudes.{Longitudes}
-use Rattle.nodal.specs.Latitude.{Factors}
+use Rattle.latitude.specs.Latitude.{Factors}
 use Rattle.nodal.specs.Ranges.{Small}
 use Rattle.nodal.specs.View.{correctedOf}
 use Rattle.month.specs.Month.{Prepared, tooLarge, prepared, definitionAt, argumentOf, correctionOf, recordsPrepared}

@@ -5,15 +5,13 @@ use Rattle.station.proofs.take_station.Reads as reads
 use Rattle.station.proofs.take_station.Lts as lts
 use Rattle.station.proofs.no_station.Reads as no-station-reads
 use Rattle.station.proofs.take_records.Reads as take-records-reads
-use mathlib.Core.Path.{_≡_, sym, ap, _∙_}
+use mathlib.Core.Path.{_≡_}
 use mathlib.Core.Bool.{true, false}
-use native.Mathlib.Omega.{arith}
 use lib.ListN.{length}
 use lib.Dec.{ltb}
 use lib.IntN.{pos, negsuc}
 use lib.Signed.{ltZ}
 use borrow.Author.Tests.{lt-ltb, le-ltb}
-use mir.Val.{toZ, ofZ}
 use Rattle.refusals.specs.declared.Refusal.the-variants.{OutOfRange, TooMany}
 use Rattle.station.specs.Station.{stationOutcome}
 use Rattle.records.specs.Rows.{recordsOf}
