@@ -1,8 +1,8 @@
--- `script::field_at` meets its contract: the number of the word at the place, by `reading-is`. Assumes nothing.
+-- `words::field_at` meets its contract: the number of the word at the place, by `reading-is`. Assumes nothing.
 use borrow.Author.Needs.{needs}
-use Rattle.script.proofs.Words.{reading-is, from-past}
-use Rattle.script.proofs.field_at.Statement.{statement}
-use Rattle.script.proofs.field_at.Tie as tie
+use Rattle.words.proofs.Words.{reading-is, from-past}
+use Rattle.words.proofs.field_at.Statement.{statement}
+use Rattle.words.proofs.field_at.Tie as tie
 
 returns : tie.Need-returns
 returns c = rw (from-past _ _ (c .if1 .taken))

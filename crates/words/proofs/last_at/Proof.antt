@@ -1,9 +1,9 @@
--- `script::last_at` meets its contract: a number is the last where no word begins behind it. Assumes nothing.
+-- `words::last_at` meets its contract: a number is the last where no word begins behind it. Assumes nothing.
 use borrow.Author.Needs.{needs}
-use Rattle.script.specs.Script.{lastNumber}
-use Rattle.script.proofs.Words.{not-ended, from-past}
-use Rattle.script.proofs.last_at.Statement.{statement}
-use Rattle.script.proofs.last_at.Tie as tie
+use Rattle.words.specs.Words.{lastNumber}
+use Rattle.words.proofs.Words.{not-ended, from-past}
+use Rattle.words.proofs.last_at.Statement.{statement}
+use Rattle.words.proofs.last_at.Tie as tie
 
 field-at-requires : tie.Need-field-at-requires
 field-at-requires c κs = search needs

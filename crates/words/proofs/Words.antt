@@ -1,22 +1,22 @@
 -- The words of a line, one after another: each is the bytes in front of a blank or of the line's end, and the next begins behind that.
 -- By induction on the line. Assumes nothing.
-use mathlib.Core.Path.{_≡_, refl, sym, ap, _∙_, subst}
+use mathlib.Core.Path.{_≡_, refl, sym, ap, _∙_}
 use mathlib.Core.List.{List, [], _∷_}
-use mathlib.Core.Bool.{Bool, true, false, cond, _&&_}
+use mathlib.Core.Bool.{Bool, true, false, cond}
 use Prim.Native.Nat.{ℕ, zero, suc, _+_, _-_, _≤_, _<_}
 use native.Mathlib.Nat.{not-suc-le-zero, le-of-suc-le-suc, suc-add, zero-add, add-zero}
 use native.Mathlib.Numerals.{add-one}
 use native.Mathlib.Omega.{arith}
-use lib.Dec.{T, eqb, leb}
-use borrow.Author.Tests.{leb-true, eqb-true, eq-eqb}
+use lib.Dec.{eqb, leb}
+use borrow.Author.Tests.{leb-true}
 use lib.ListN.{length, getD, take, drop}
 use lib.Seq.{drop-cons}
-use Rattle.script.specs.declared.Number.{Number}
-use Rattle.script.specs.declared.Number.the-variants.{Value, NoNumber}
-use Rattle.script.specs.Script.{words, inFront, number, isDigit, withDigit, numberAfter, read, readingOf, reading, ended, same}
-use Rattle.script.specs.declared.Field.{Field}
-use Rattle.script.specs.declared.Field.the-variants.{Read}
-use Rattle.script.specs.Left.{wordsFrom, wordLength, readingAt}
+use Rattle.words.specs.declared.Number.{Number}
+use Rattle.words.specs.declared.Number.the-variants.{Value, NoNumber}
+use Rattle.words.specs.Words.{words, inFront, number, isDigit, withDigit, numberAfter, read, readingOf, reading, ended}
+use Rattle.words.specs.declared.Field.{Field}
+use Rattle.words.specs.declared.Field.the-variants.{Read}
+use Rattle.words.specs.Left.{wordsFrom, wordLength, readingAt}
 
 -- ---- what is left of a list
 
@@ -125,29 +125,3 @@ reading-most most m ((b ∷ bs) ∷ ws) vs e = go (numberAfter most 0 (b ∷ bs)
 
 pub field-most : (l : List ℕ) (i most : ℕ) (f : Field) (n next : ℕ) → readingAt l f ≡ reading most (wordsFrom l i) → f ≡ Read n next → n ≤ most
 field-most l i most f n next e h = reading-most most n (wordsFrom l i) (wordsFrom l next) (sym e ∙ ap (readingAt l) h)
-
--- ---- two words are the same where `same` says so
-
-pub same-refl : (a : List ℕ) → same a a ≡ true
-unfolding same
-same-refl [] = refl
-same-refl (b ∷ bs) = rw (eq-eqb b b refl, same-refl bs)
-
-pub same-eq : (a b : List ℕ) → same a b ≡ true → a ≡ b
-unfolding same
-same-eq [] [] e = refl
-same-eq [] (b ∷ bs) e = absurd (subst T (sym e) tt)
-same-eq (a ∷ bs) [] e = absurd (subst T (sym e) tt)
-same-eq (a ∷ bs) (c ∷ cs) e = go (eqb a c) refl (same-eq bs cs) e
-  where
-    go : (t : Bool) → eqb a c ≡ t → (same bs cs ≡ true → bs ≡ cs) → (t && same bs cs) ≡ true → a ∷ bs ≡ c ∷ cs
-    go true h rest f = let p : a ≡ c = eqb-true a c h in let q : bs ≡ cs = rest f in cc
-    go false h rest f = absurd (subst T (sym f) tt)
-
-pub same-is : (a b : List ℕ) (r : Bool) → (r ≡ true → a ≡ b) × (a ≡ b → r ≡ true) → r ≡ same a b
-same-is a b true h = rw (h .0 refl) (sym (same-refl b))
-same-is a b false h = go (same a b) refl
-  where
-    go : (t : Bool) → same a b ≡ t → false ≡ t
-    go true e = h .1 (same-eq a b e)
-    go false e = refl

@@ -1,14 +1,14 @@
--- `script::word_end` meets its contract. The loop's invariant: what is passed and the word left are the word. Assumes nothing.
+-- `words::word_end` meets its contract. The loop's invariant: what is passed and the word left are the word. Assumes nothing.
 use mathlib.Core.Path.{_≡_}
 use Prim.Native.Nat.{suc, _+_, _-_, _≤_}
 use native.Mathlib.Omega.{arith}
 use lib.ListN.{length, drop}
 use borrow.Author.Needs.{needs}
 use borrow.Author.Tests.{eq-eqb, ne-eqb}
-use Rattle.script.specs.Left.{wordLength}
-use Rattle.script.proofs.Words.{drop-next, drop-none}
-use Rattle.script.proofs.word_end.Statement.{statement}
-use Rattle.script.proofs.word_end.Tie as tie
+use Rattle.words.specs.Left.{wordLength}
+use Rattle.words.proofs.Words.{drop-next, drop-none}
+use Rattle.words.proofs.word_end.Statement.{statement}
+use Rattle.words.proofs.word_end.Tie as tie
 
 abbrev Inv-loop : tie.InvT-loop
 Inv-loop line at i₀ i = (i ≤ length line) × (i + wordLength (drop i line) ≡ at + wordLength (drop at line))

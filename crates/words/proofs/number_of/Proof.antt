@@ -1,18 +1,17 @@
--- `script::number_of` meets its contract. The loop's invariant: the value and the digits left make the word's number. Assumes nothing.
+-- `words::number_of` meets its contract. The loop's invariant: the value and the digits left make the word's number. Assumes nothing.
 use mathlib.Core.Path.{_≡_}
 use Prim.Native.Nat.{_-_, _≤_}
 use native.Mathlib.Omega.{arith}
 use lib.ListN.{length, drop}
 use borrow.Author.Needs.{needs}
 use borrow.Author.Tests.{le-leb, lt-leb}
-use Rattle.script.specs.Script as script
-use Rattle.script.specs.Script.{number, numberAfter}
-use Rattle.script.proofs.Words.{drop-next, drop-none, number-some, number-empty}
-use Rattle.script.proofs.number_of.Statement.{statement}
-use Rattle.script.proofs.number_of.Tie as tie
+use Rattle.words.specs.Words.{number, numberAfter}
+use Rattle.words.proofs.Words.{drop-next, drop-none, number-some, number-empty}
+use Rattle.words.proofs.number_of.Statement.{statement}
+use Rattle.words.proofs.number_of.Tie as tie
 
 abbrev Inv-loop : tie.InvT-loop
-Inv-loop word most value₀ i₀ value i = (value ≤ most) × (numberAfter most value (drop i word) ≡ script.number most word)
+Inv-loop word most value₀ i₀ value i = (value ≤ most) × (numberAfter most value (drop i word) ≡ number most word)
 
 abbrev μ-loop : tie.MeasureT-loop
 μ-loop word most value₀ i₀ value i = length word - i

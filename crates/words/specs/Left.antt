@@ -1,11 +1,11 @@
 -- What is left of a line, for the functions that read it word by word. Assumes nothing.
-use Prim.Native.Nat.{ℕ, zero, suc, _+_}
+use Prim.Native.Nat.{ℕ, zero, suc}
 use mathlib.Core.List.{List, [], _∷_}
 use mathlib.Core.Bool.{cond}
 use lib.Dec.{eqb}
-use Rattle.script.specs.declared.Field.{Field}
-use Rattle.script.specs.declared.Field.the-variants.{Read, NoField}
-use Rattle.script.specs.Script.{words, Reading, read, unread}
+use Rattle.words.specs.declared.Field.{Field}
+use Rattle.words.specs.declared.Field.the-variants.{Read, NoField}
+use Rattle.words.specs.Words.{words, Reading, read, unread}
 
 -- the words from byte k on; none past the line's end
 unfoldable pub wordsFrom : List ℕ → ℕ → List (List ℕ)
