@@ -19,7 +19,7 @@ use Rattle.slopes.specs.Slope.{slopeAt}
 use Rattle.search.specs.Search.{Turn, turnsOf}
 use Rattle.strides.specs.Strides.{stationStride}
 use Rattle.turns.specs.Written as written
-use Rattle.search.specs.Search.{minutesOf}
+use Rattle.search.specs.Search.{firstHigh, minutesOf}
 use Rattle.clock.specs.State as state
 use Rattle.clock.specs.State.{Maybe, State}
 use Rattle.clock.specs.Returned.{Returned, accepted, heightIs, turnsAre, refused}
@@ -93,7 +93,7 @@ turns-near first last minutes heights (state.some t) (state.some s) (state.some 
     given : Bool → List Turn → TurnsGiven
     given short ts =
         searched (cond short (record { returned = written.refused 10; minutes = minutes; heights = heights })
-        (record { returned = written.found (length ts) (written.firstHigh ts); minutes = written.inFront (minutesOf ts) minutes; heights = written.inFront (map (heightAt cs) (minutesOf ts)) heights }))
+        (record { returned = written.found (length ts) (firstHigh ts); minutes = written.inFront (minutesOf ts) minutes; heights = written.inFront (map (heightAt cs) (minutesOf ts)) heights }))
 
     room : (short : Bool) (ts : List Turn) → AllNear cs (turnsPoints (given short ts .returned) (given short ts .minutes) (given short ts .heights))
     room true ts = nil
