@@ -21,7 +21,7 @@ fn byte(register: u32, b: u8) -> u32
 {
     let mut r = register;
     let mut rest = b;
-    let mut i = 0;
+    let mut i: usize = 0;
     while i < 8 {
         r = step(r, rest % 2);
         rest = rest / 2;
@@ -40,5 +40,5 @@ pub fn crc32(bytes: &[u8]) -> u32
         r = byte(r, bytes[i]);
         i = i + 1;
     }
-    0xFFFF_FFFF - r
+    !r
 }
