@@ -205,6 +205,7 @@ fn named(r: Refusal) -> refusals::Refusal
 // A file that is refused at a line.
 fn refused(r: Refusal, line: usize) -> StationCards
     ensures { λ s. ⌜ fileOf s ≡ refusedAs r line ⌝ }
+    ensures { λ s. ⌜ s .count ≤ 146 ⌝ }
 {
     StationCards {
         answer: Answer::Refused(named(r), line),
@@ -224,6 +225,7 @@ fn read_records(
 ) -> StationCards
     requires { ⌜ (first ≤ length (now file)) × (frequencies ≤ 160) ⌝ }
     ensures { λ r. ⌜ fileOf r ≡ recordsOn latitude (namesFrom (now (names .entry)) 0 frequencies) (linesOf (drop first (now (file .entry)))) 2 [] ⌝ }
+    ensures { λ r. ⌜ r .count ≤ 146 ⌝ }
 {
     let mut rows = no_rows();
     let mut count = 0;
@@ -266,6 +268,7 @@ fn at_most(n: usize) -> usize
 // A station file: accepted whole, or refused with 01's number and line. The names are rows of five bytes, one for each frequency of the card file.
 pub fn read_station(file: &[u8], names: &[u8], frequencies: usize) -> StationCards
     ensures { λ r. ⌜ fileOf r ≡ stationFile (namesFrom (now (names .entry)) 0 (min frequencies 160)) (now (file .entry)) ⌝ }
+    ensures { λ r. ⌜ r .count ≤ 146 ⌝ }
 {
     if file.len() == 0 {
         return refused(Refusal::Ended, 1);
