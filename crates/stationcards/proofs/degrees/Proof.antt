@@ -2,7 +2,7 @@
 use borrow.Author.Needs.{needs}
 use Rattle.stationcards.proofs.degrees.Statement.{statement}
 use Rattle.stationcards.proofs.degrees.Tie as tie
-use mathlib.Core.Path.{_≡_, sym, _∙_}
+use mathlib.Core.Path.{_≡_}
 use mir.Syntax.{w64}
 use mir.Val.{SFits}
 use mir.ValLaws.{toZ-ofZ}
@@ -37,17 +37,17 @@ returns c =
     let line = c .before .before .before .before .before .before .args .line .now in
     let v = c .before .before .v .given .0 .0 in
     let f : SFits w64 v = search needs in
-    let e : Value v ≡ inRange (negℤ (pos 99)) (pos 99) (numberOf Whole (columns line 36 2)) = sym (c .before .before .v .given .1) ∙ c .before .before .before .before .ranged-field .ensures in
+    let e : Value v ≡ inRange (negℤ (pos 99)) (pos 99) (numberOf Whole (columns line 36 2)) = rw (c .before .before .v .given .1) at (c .before .before .before .before .ranged-field .ensures) in
     let n : c .size .result ≡ natAbs v = rw (toZ-ofZ w64 v f) at (c .size .ensures) in
     (rw (n, ← number-is line degreesField (Value v) e), rw n (two-digits v _ e))
 
 returns-2 : tie.Need-returns-2
 unfolding degrees
-returns-2 c = (rw (← number-is (c .before .before .before .before .args .line .now) degreesField Malformed (sym (c .enum-told .given .1) ∙ c .before .before .ranged-field .ensures)), tt)
+returns-2 c = (rw (← number-is (c .before .before .before .before .args .line .now) degreesField Malformed (rw (c .enum-told .given .1) at (c .before .before .ranged-field .ensures))), tt)
 
 returns-3 : tie.Need-returns-3
 unfolding degrees
-returns-3 c = (rw (← number-is (c .before .before .before .before .args .line .now) degreesField OutOfRange (sym (c .enum-told2 .given .1) ∙ c .before .before .ranged-field .ensures)), tt)
+returns-3 c = (rw (← number-is (c .before .before .before .before .args .line .now) degreesField OutOfRange (rw (c .enum-told2 .given .1) at (c .before .before .ranged-field .ensures))), tt)
 
 pub degrees-spec : {M : Type 1} → statement M
 degrees-spec =

@@ -2,7 +2,7 @@
 use borrow.Author.Needs.{needs}
 use Rattle.stationcards.proofs.read_records.Statement.{statement}
 use Rattle.stationcards.proofs.read_records.Tie as tie
-use mathlib.Core.Path.{_≡_, refl, sym, ap, _∙_}
+use mathlib.Core.Path.{_≡_, refl, ap, _∙_}
 use mathlib.Core.List.{[]}
 use Prim.Native.Nat.{_+_, _-_, _≤_, _<_}
 use native.Mathlib.Omega.{arith}
@@ -16,7 +16,6 @@ use Rattle.station.specs.declared.Rows.{Rows}
 use Rattle.station.specs.Rows.{recordsFrom}
 use Rattle.station.specs.Posts.{recordsOf}
 use Rattle.stationcards.specs.Station.{recordsOn}
-use Rattle.stationcards.specs.Answers.{recordGives}
 use Rattle.stationcards.proofs.Records.{record-room, records-here, records-end, records-put}
 
 abbrev Inv-loop : tie.InvT-loop
@@ -64,7 +63,7 @@ put-requires : tie.Need-put-requires Inv-loop μ-loop
 put-requires c κs =
     let s = c .before .before .before .before .before .before in
     let a = s .before .before .before .before .args in
-    record-room (namesFrom (a .names .now) 0 (a .frequencies)) (s .loop .count) (c .before .before .before .before .line-at .result .now) _ (sym (ap recordGives (c .before .place .given .1)) ∙ c .before .before .before .record-card .ensures)
+    record-room (namesFrom (a .names .now) 0 (a .frequencies)) (s .loop .count) (c .before .before .before .before .line-at .result .now) _ (rw (c .before .place .given .1) at (c .before .before .before .record-card .ensures))
 
 enum-known-r : tie.Need-enum-known-r Inv-loop μ-loop
 enum-known-r c = search needs
@@ -96,14 +95,14 @@ loop-again c =
     let s = c .before .before .before .before .before .before .before .before in
     let a = s .before .before .before .before .args in
     let g = c .before .before .before .place .given in
-    let room : s .loop .count < 146 = record-room (namesFrom (a .names .now) 0 (a .frequencies)) (s .loop .count) (c .before .before .before .before .before .before .line-at .result .now) _ (sym (ap recordGives (g .1)) ∙ c .before .before .before .before .before .record-card .ensures) in
+    let room : s .loop .count < 146 = record-room (namesFrom (a .names .now) 0 (a .frequencies)) (s .loop .count) (c .before .before .before .before .before .before .line-at .result .now) _ (rw (g .1) at (c .before .before .before .before .before .record-card .ensures)) in
     let rows = s .loop .rows in
     let put = c .before .put .ensures in (
       c .next-line .ensures .1,
       omega arith,
-      ap (λ (r : Rows). length (r .places)) put ∙ length-set (rows .places) (s .loop .count) (g .0 .0) ∙ s .loop .inv .2,
-      ap (λ (r : Rows). length (r .amplitudes)) put ∙ length-set (rows .amplitudes) (s .loop .count) (g .0 .1 .0) ∙ s .loop .inv .3,
-      ap (λ (r : Rows). length (r .phases)) put ∙ length-set (rows .phases) (s .loop .count) (g .0 .1 .1 .0) ∙ s .loop .inv .4,
+      rw put (length-set (rows .places) (s .loop .count) (g .0 .0) ∙ s .loop .inv .2),
+      rw put (length-set (rows .amplitudes) (s .loop .count) (g .0 .1 .0) ∙ s .loop .inv .3),
+      rw put (length-set (rows .phases) (s .loop .count) (g .0 .1 .1 .0) ∙ s .loop .inv .4),
       rw (c .next-line .ensures .2, c .before .put .ensures, records-put rows (s .loop .count) (g .0 .0) (g .0 .1 .0) (g .0 .1 .1 .0) (omega (arith, s .loop .inv .2)) (omega (arith, s .loop .inv .3)) (omega (arith, s .loop .inv .4)))
           (rw (records-here (toZ w32 (ofZ w32 (a .latitude))) (namesFrom (a .names .now) 0 (a .frequencies)) (a .file .now) (s .loop .at) (s .loop .rows) (s .loop .count) (c .before .before .before .before .before .before .line-at .result .now) (c .before .before .before .before .before .record-card .result) (c .before .before .before .before .before .before .before .loop-test .taken) (c .before .before .before .before .before .before .line-at .ensures) (c .before .before .before .before .before .record-card .ensures), g .1) at (s .loop .inv .5)),
     )

@@ -2,7 +2,7 @@
 use borrow.Author.Needs.{needs}
 use Rattle.stationcards.proofs.record_fields.Statement.{statement}
 use Rattle.stationcards.proofs.record_fields.Tie as tie
-use mathlib.Core.Path.{_≡_, sym, _∙_}
+use mathlib.Core.Path.{sym}
 use Prim.Native.Nat.{_≤_, _<_}
 use Rattle.cards.proofs.Defined.{place-within}
 use Rattle.stationcards.specs.Station.{recordFields}
@@ -31,7 +31,7 @@ enum-known-phase c = search needs
 cast-t18 : tie.Need-cast-t18
 cast-t18 c =
     let a = c .before .before .before .before .before .before .before .before .before .before .before .before .before .before .before .args in
-    let h : c .before .before .before .before .before .before .before .before .before .place .given .0 .0 < a .frequencies = place-within _ (a .names .now) (a .frequencies) _ (sym (c .before .before .before .before .before .before .before .before .before .before .before .find-name .ensures) ∙ c .before .before .before .before .before .before .before .before .before .place .given .1) in
+    let h : c .before .before .before .before .before .before .before .before .before .place .given .0 .0 < a .frequencies = place-within _ (a .names .now) (a .frequencies) _ (sym (rw (c .before .before .before .before .before .before .before .before .before .place .given .1) at (c .before .before .before .before .before .before .before .before .before .before .before .find-name .ensures))) in
     search needs
 
 cast-t19 : tie.Need-cast-t19
