@@ -21,9 +21,10 @@ use Rattle.station.specs.declared.Rows.{Rows}
 use Rattle.station.specs.Rows.{putRow, recordFrom, recordsFrom}
 use Rattle.station.specs.Posts.{recordsOf}
 use Rattle.station.proofs.Copies.{records-length}
-use Rattle.stationcards.specs.Station.{refusedAt, acceptedWith, onward, recordFields, nextRecord, recordsOn, stationCard, behindCard, stationLines, stationFile}
-use Rattle.stationcards.specs.Answers.{recordGives}
-use Rattle.stationcards.specs.declared.RecordStep.{RecordStep}
+use Rattle.stationfields.specs.Cards.{stationCard, recordFields, nextRecord}
+use Rattle.stationfields.specs.Answers.{recordGives}
+use Rattle.stationfields.specs.declared.RecordStep.{RecordStep}
+use Rattle.stationcards.specs.Station.{refusedAt, acceptedWith, onward, recordsOn, behindCard, stationLines, stationFile}
 
 -- a card that gives a record had room
 pub record-room : (names : List (List ℕ)) (count : ℕ) (line : List ℕ) (r : Record) → gives r ≡ nextRecord names count line → count < 146

@@ -30,11 +30,8 @@ enum-known-latitude c = search needs
 next-line-requires : tie.Need-next-line-requires
 next-line-requires c κs = search needs
 
-at-most-requires : tie.Need-at-most-requires
-at-most-requires c κs = search needs
-
 read-records-requires : tie.Need-read-records-requires
-read-records-requires c κs = (c .before .next-line .ensures .1, omega (arith, c .at-most .ensures))
+read-records-requires c κs = c .next-line .ensures .1
 
 enum-known-r : tie.Need-enum-known-r
 enum-known-r c = search needs
@@ -44,11 +41,11 @@ refused-requires-2 c κs = search needs
 
 returns-2 : tie.Need-returns-2
 returns-2 c =
-    let a = c .before .before .before .before .before .before .before .before .before .before .before .args in
-    let z = c .before .before .before .before .latitude .given .0 .0 in
+    let a = c .before .before .before .before .before .before .before .before .before .before .args in
+    let z = c .before .before .before .latitude .given .0 .0 in
     let fits : SFits w32 z = search needs in
     let some : 0 < length (a .file .now) = omega arith in
-    (rw (file-here (namesFrom (a .names .now) 0 (min (a .frequencies) 160)) (a .file .now) some, ← c .before .before .next-line .ensures .2, ← c .before .before .before .before .before .before .before .first-line .ensures, ← c .before .before .before .before .before .before .station-card .ensures, c .before .before .before .before .latitude .given .1, ← c .before .at-most .ensures) (rw (toZ-ofZ w32 z fits) at (c .read-records .ensures .0)), c .read-records .ensures .1)
+    (rw (file-here (namesFrom (a .names .now) 0 (min (a .frequencies) 160)) (a .file .now) some, ← c .before .next-line .ensures .2, ← c .before .before .before .before .before .before .first-line .ensures, ← c .before .before .before .before .before .station-card .ensures, c .before .before .before .latitude .given .1) (rw (toZ-ofZ w32 z fits) at (c .read-records .ensures .0)), c .read-records .ensures .1)
 
 returns-3 : tie.Need-returns-3
 returns-3 c =
@@ -66,7 +63,6 @@ read-station-spec =
     station-card-requires
     enum-known-latitude
     next-line-requires
-    at-most-requires
     read-records-requires
     enum-known-r
     refused-requires-2

@@ -1,9 +1,9 @@
--- `stationcards::station_card` meets its contract: the line first, then the fields.
+-- `stationfields::station_card` meets its contract: the line first, then the fields.
 use borrow.Author.Needs.{needs}
-use Rattle.stationcards.proofs.station_card.Statement.{statement}
-use Rattle.stationcards.proofs.station_card.Tie as tie
+use Rattle.stationfields.proofs.station_card.Statement.{statement}
+use Rattle.stationfields.proofs.station_card.Tie as tie
 use Rattle.cards.specs.Card.{dueCard}
-use Rattle.stationcards.specs.Station.{stationCard}
+use Rattle.stationfields.specs.Cards.{stationCard}
 
 line-good-requires : tie.Need-line-good-requires
 line-good-requires c κs = search needs

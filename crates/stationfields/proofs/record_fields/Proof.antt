@@ -1,11 +1,11 @@
--- `stationcards::record_fields` meets its contract: name, amplitude, phase lag, as the definition has them; a place found is below the count, so it fits a byte.
+-- `stationfields::record_fields` meets its contract: name, amplitude, phase lag, as the definition has them; a place found is below the count, so it fits a byte.
 use borrow.Author.Needs.{needs}
-use Rattle.stationcards.proofs.record_fields.Statement.{statement}
-use Rattle.stationcards.proofs.record_fields.Tie as tie
+use Rattle.stationfields.proofs.record_fields.Statement.{statement}
+use Rattle.stationfields.proofs.record_fields.Tie as tie
 use mathlib.Core.Path.{sym}
 use Prim.Native.Nat.{_≤_, _<_}
 use Rattle.cards.proofs.Defined.{place-within}
-use Rattle.stationcards.specs.Station.{recordFields}
+use Rattle.stationfields.specs.Cards.{recordFields}
 
 name-part-requires : tie.Need-name-part-requires
 name-part-requires c κs = search needs

@@ -1,13 +1,13 @@
--- `stationcards::latitude_fields` meets its contract: degrees, then minutes, as the definition has them.
+-- `stationfields::latitude_fields` meets its contract: degrees, then minutes, as the definition has them.
 use borrow.Author.Needs.{needs}
-use Rattle.stationcards.proofs.latitude_fields.Statement.{statement}
-use Rattle.stationcards.proofs.latitude_fields.Tie as tie
+use Rattle.stationfields.proofs.latitude_fields.Statement.{statement}
+use Rattle.stationfields.proofs.latitude_fields.Tie as tie
 use mathlib.Core.Path.{_≡_, ap}
 use mir.Syntax.{w32}
 use mir.Val.{SFits}
 use mir.ValLaws.{toZ-ofZ}
 use Rattle.cards.specs.Card.{good}
-use Rattle.stationcards.specs.Station.{latitudeFields}
+use Rattle.stationfields.specs.Cards.{latitudeFields}
 
 degrees-requires : tie.Need-degrees-requires
 degrees-requires c κs = search needs

@@ -1,8 +1,9 @@
--- `stationcards::record_card` meets its contract: how the card begins, then its fields.
+-- `stationfields::record_card` meets its contract: how the card begins, then its fields.
 use borrow.Author.Needs.{needs}
-use Rattle.stationcards.proofs.record_card.Statement.{statement}
-use Rattle.stationcards.proofs.record_card.Tie as tie
-use Rattle.stationcards.specs.Station.{nextRecord}
+use Rattle.stationfields.proofs.record_card.Statement.{statement}
+use Rattle.stationfields.proofs.record_card.Tie as tie
+use native.Mathlib.Omega.{arith}
+use Rattle.stationfields.specs.Cards.{nextRecord}
 
 begins-requires : tie.Need-begins-requires
 begins-requires c κs = search needs
@@ -13,8 +14,11 @@ enum-told c = search needs
 enum-told-2 : tie.Need-enum-told-2
 enum-told-2 c = search needs
 
+at-most-requires : tie.Need-at-most-requires
+at-most-requires c κs = search needs
+
 record-fields-requires : tie.Need-record-fields-requires
-record-fields-requires c κs = search needs
+record-fields-requires c κs = omega (arith, c .at-most .ensures)
 
 enum-known-r : tie.Need-enum-known-r
 enum-known-r c = search needs
@@ -25,7 +29,7 @@ returns c = rw (← c .before .before .begins .ensures, c .enum-told .given .1)
 
 returns-2 : tie.Need-returns-2
 unfolding nextRecord
-returns-2 c = rw (← c .before .before .before .begins .ensures, c .before .enum-told2 .given .1) (c .record-fields .ensures)
+returns-2 c = rw (← c .before .before .before .before .begins .ensures, c .before .before .enum-told2 .given .1, ← c .before .at-most .ensures) (c .record-fields .ensures)
 
 returns-3 : tie.Need-returns-3
 unfolding nextRecord
@@ -38,6 +42,7 @@ record-card-spec =
     begins-requires
     enum-told
     enum-told-2
+    at-most-requires
     record-fields-requires
     enum-known-r
     returns

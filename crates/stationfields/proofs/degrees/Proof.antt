@@ -1,7 +1,7 @@
--- `stationcards::degrees` meets its contract: the field's number, and its size.
+-- `stationfields::degrees` meets its contract: the field's number, and its size.
 use borrow.Author.Needs.{needs}
-use Rattle.stationcards.proofs.degrees.Statement.{statement}
-use Rattle.stationcards.proofs.degrees.Tie as tie
+use Rattle.stationfields.proofs.degrees.Statement.{statement}
+use Rattle.stationfields.proofs.degrees.Tie as tie
 use mathlib.Core.Path.{_≡_}
 use mir.Syntax.{w64}
 use mir.Val.{SFits}
@@ -12,9 +12,9 @@ use Rattle.fields.specs.Number.{numberOf, inRange}
 use Rattle.fields.specs.declared.Format.the-variants.{Whole}
 use Rattle.fields.specs.declared.Field.the-variants.{Value, Malformed, OutOfRange}
 use Rattle.cards.proofs.Ranges.{number-is}
-use Rattle.stationcards.specs.Formats.{degreesField}
-use Rattle.stationcards.specs.Station.{degrees}
-use Rattle.stationcards.proofs.Sizes.{two-digits}
+use Rattle.stationfields.specs.Formats.{degreesField}
+use Rattle.stationfields.specs.Cards.{degrees}
+use Rattle.stationfields.proofs.Sizes.{two-digits}
 
 ranged-field-requires : tie.Need-ranged-field-requires
 ranged-field-requires c κs = search needs

@@ -1,10 +1,10 @@
--- `stationcards::minutes_of` meets its contract: a size under 100 degrees stands in 32 bits with either sign.
+-- `stationfields::minutes_of` meets its contract: a size under 100 degrees stands in 32 bits with either sign.
 use borrow.Author.Needs.{needs}
-use Rattle.stationcards.proofs.minutes_of.Statement.{statement}
-use Rattle.stationcards.proofs.minutes_of.Tie as tie
+use Rattle.stationfields.proofs.minutes_of.Statement.{statement}
+use Rattle.stationfields.proofs.minutes_of.Tie as tie
 use native.Mathlib.Omega.{arith}
 use Prim.Native.Nat.{_+_, _*_}
-use Rattle.stationcards.proofs.Sizes.{north-bits, south-fits, south-bits}
+use Rattle.stationfields.proofs.Sizes.{north-bits, south-fits, south-bits}
 
 mul-size : tie.Need-mul-size
 mul-size c = search needs

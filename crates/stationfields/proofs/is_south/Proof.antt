@@ -1,9 +1,9 @@
--- `stationcards::is_south` meets its contract: the marks in their order.
+-- `stationfields::is_south` meets its contract: the marks in their order.
 use borrow.Author.Needs.{needs}
-use Rattle.stationcards.proofs.is_south.Statement.{statement}
-use Rattle.stationcards.proofs.is_south.Tie as tie
+use Rattle.stationfields.proofs.is_south.Statement.{statement}
+use Rattle.stationfields.proofs.is_south.Tie as tie
 use borrow.Author.Tests.{eq-eqb, ne-eqb}
-use Rattle.stationcards.specs.Station.{southMark}
+use Rattle.stationfields.specs.Cards.{southMark}
 
 column-requires : tie.Need-column-requires
 column-requires c κs = search needs
