@@ -1,20 +1,21 @@
 """What the program stationcheck writes, by the second code.
 
-Standard input is a line with the size of the card file in bytes, the card file, and the station file. Usage: python3 second/stationcheck.py < INPUT
+Standard input is a line with the size of a table's names in bytes, the names, five bytes each, and the station file.
+Usage: python3 second/stationcheck.py < INPUT
 """
 
 import sys
 import zlib
 
-from cards import read_card_file
+from cards import MAX_FREQUENCIES
 from refusal import Refusal
 from stationfile import read_station_file, station_name, time_zone
 
 
-def answer(cards, station):
-    """The lines that the program writes, as bytes."""
-    names = [name for name, _ in read_card_file(cards).frequencies]
-    lines = [b"crc %d %d" % (zlib.crc32(cards), zlib.crc32(station))]
+def answer(row, station):
+    """The lines that the program writes, as bytes. A table has at most 160 frequencies, so more names do not count."""
+    names = [row[at : at + 5] for at in range(0, len(row), 5)][:MAX_FREQUENCIES]
+    lines = [b"crc %d %d" % (zlib.crc32(row), zlib.crc32(station))]
     lines.append(b"name " + station_name(station))
     lines.append(b"zone " + time_zone(station))
     try:

@@ -33,7 +33,7 @@ def random_file(rng, names):
     """A station card and some constituent cards."""
     card = b"     %4d %-22s%-3s%s  %3d %02d" % (rng.randrange(10_000), b"RANDOM", rng.choice([b"GMT", b"PST", b"", b"UT"]), rng.choice(LATITUDES[:4] + [b" 51 28", b"  0 00"]), rng.randrange(180), rng.randrange(60))
     lines = [card]
-    for name in rng.sample(names, rng.choice([0, 1, 5, 12, 100, len(names)])):
+    for name in rng.sample(names, min(len(names), rng.choice([0, 1, 5, 12, 100, 145]))):
         lines.append(b"     %-5s%28s%8.4f%7.2f" % (name, b"", rng.random() * 6, rng.random() * 360))
     # past 146 cards
     while rng.random() < 0.1 and len(lines) > 100:
@@ -68,6 +68,16 @@ def damaged(rng, lines):
     return lines or [b""]
 
 
+def names_known(rng, names):
+    """The standard names; now and then fewer, or more than 160, of which the first 160 count."""
+    kind = rng.randrange(10)
+    if kind == 0:
+        return rng.sample(names, rng.randint(0, len(names)))
+    if kind == 1:
+        return [b"%05d" % k for k in range(rng.randint(0, 60))] + names
+    return names
+
+
 def station_file(rng, samples, names):
     lines = rng.choice(samples).split(b"\n") if rng.random() < 0.4 else random_file(rng, names)
     for _ in range(rng.choice([0, 1, 1, 1, 2, 3])):
@@ -78,17 +88,18 @@ def station_file(rng, samples, names):
 def main():
     program, seed, count = sys.argv[1], int(sys.argv[2]), int(sys.argv[3])
     with open(os.path.join(ROOT, "data", "standard-cards.txt"), "rb") as file:
-        cards = file.read()
-    names = [name.rstrip() for name, _ in read_card_file(cards).frequencies]
+        names = [name for name, _ in read_card_file(file.read()).frequencies]
     paths = [os.path.join(ROOT, "data", "victoria.txt")] + sorted(glob.glob(os.path.join(ROOT, "data", "examples", "*.txt")))
     samples = [open(path, "rb").read() for path in paths]
     outcomes = collections.Counter()
     differing = 0
     for index in range(count):
         rng = random.Random("stations %d %d" % (seed, index))
-        station = samples[index] if index < len(samples) else station_file(rng, samples, names)
-        wanted = answer(cards, station)
-        got = subprocess.run([program], input=b"%d\n" % len(cards) + cards + station, capture_output=True, check=True).stdout
+        known = names_known(rng, names)
+        station = samples[index] if index < len(samples) else station_file(rng, samples, known)
+        row = b"".join(known)
+        wanted = answer(row, station)
+        got = subprocess.run([program], input=b"%d\n" % len(row) + row + station, capture_output=True, check=True).stdout
         outcome = wanted.split(b"\n")[3].split()
         outcomes[b" ".join(outcome[:2]).decode() if outcome[0] == b"refused" else "accepted"] += 1
         if got != wanted:

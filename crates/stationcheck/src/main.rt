@@ -1,5 +1,5 @@
-// Says what a station file comes to. Standard input, of up to 65,536 bytes, is a line with the size of the card file in bytes, the card file, and
-// the station file. It writes the checksums of both files, the station's name and time zone, and the latitude and the records, or the refusal.
+// Says what a station file comes to. Standard input, of up to 65,536 bytes, is a line with the size of a table's names in bytes, the names, five bytes
+// each, and the station file. It writes the checksums of both, the station's name and time zone, and the latitude and the records, or the refusal.
 use cards::numbers::Natural;
 use cards::numbers::natural_field;
 use libc::STDOUT_FILENO;
@@ -80,22 +80,15 @@ fn put_text<'a>(word: &'a [u8], text: &'a [u8]) {
     put(b"\n");
 }
 
-// What stands on the face of the two files: checksums, name and time zone.
-fn put_face<'a>(cards: &'a [u8], station: &'a [u8]) {
+// Checksums, name and time zone.
+fn put_face<'a>(names: &'a [u8], station: &'a [u8]) {
     put(b"crc ");
-    put_number(checksum::crc32(cards) as u64);
+    put_number(checksum::crc32(names) as u64);
     put(b" ");
     put_number(checksum::crc32(station) as u64);
     put(b"\n");
     put_text(b"name ", stationcards::station_name(station));
     put_text(b"zone ", stationcards::time_zone(station));
-}
-
-// The station file over the names of the card file's frequencies.
-fn read_files<'a>(cards: &'a [u8], station: &'a [u8]) -> StationCards {
-    let read = cardfile::read_cards(cards);
-    let table = read.table;
-    stationcards::read_station(station, &table.names, table.frequencies)
 }
 
 // What the input comes to; nothing where it has no size.
@@ -111,10 +104,10 @@ fn put_input(input: &[u8]) {
     ) {
         Natural::Value(bytes) => {
             let k = bytes as usize;
-            let cards = columns::part(rest, 0, k);
+            let names = columns::part(rest, 0, k);
             let station = columns::part(rest, k, 65_536);
-            put_face(cards, station);
-            put_station(read_files(cards, station));
+            put_face(names, station);
+            put_station(stationcards::read_station(station, names, k / 5));
         }
         Natural::Bad(_) => {}
     }
