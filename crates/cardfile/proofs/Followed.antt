@@ -4,13 +4,14 @@ use Prim.Native.Nat.{ℕ, _+_, _≤_}
 use mathlib.Core.List.{List}
 use lib.ListN.{length, drop}
 use Rattle.columns.specs.Lines.{linesOf}
-use Rattle.cards.specs.Card as card
-use Rattle.cards.specs.Card.{Reading}
+use Rattle.card.specs.Card as card
+use Rattle.card.specs.Card.{Reading}
 use Rattle.cards.specs.Cards.{Outcome, refused, followed}
-use Rattle.cards.specs.Answers.{readingGives, numberOf, Within}
-use Rattle.cards.specs.declared.Refusal.{Refusal}
-use Rattle.cards.specs.declared.lines.Progress.{Progress}
-use Rattle.cards.specs.declared.lines.Progress.the-variants.{Reached, Refused}
+use Rattle.lines.specs.Answers.{readingGives, Within}
+use Rattle.card.specs.Answers.{numberOf}
+use Rattle.card.specs.declared.Refusal.{Refusal}
+use Rattle.lines.specs.declared.Progress.{Progress}
+use Rattle.lines.specs.declared.Progress.the-variants.{Reached, Refused}
 
 module _ {A : Type 0} (file : List ℕ) (p : Progress) (a : A) (whole : Reading A) (reads : readingGives file p a ≡ whole) (next : A → List (List ℕ) → ℕ → Outcome) where
   pub part-refused : (r : Refusal) (line : ℕ) → p ≡ Refused r line → followed whole next ≡ refused (numberOf r) line

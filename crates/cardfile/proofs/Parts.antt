@@ -2,25 +2,26 @@
 use mathlib.Core.Path.{_≡_, refl, sym, ap, ap₂, _∙_}
 use Prim.Native.Nat.{ℕ}
 use mathlib.Core.List.{List, [], _++_}
-use Rattle.columns.specs.Names.{namesFrom}
+use Rattle.names.specs.Names.{namesFrom}
 use lib.IntN.{ℤ}
 use lib.ListN.{length}
 use Rattle.table.specs.Table as document
 use Rattle.table.specs.Table.{Frequency}
 use Rattle.table.proofs.Rows.{listed-length}
 use Rattle.cards.specs.Cards.{allDefined}
-use Rattle.shallows.specs.Answers.{definedGives}
-use Rattle.shallows.specs.declared.defined.Defined.{Defined}
+use Rattle.cards.specs.Answers.{definedGives}
+use Rattle.cards.specs.declared.Defined.{Defined}
 use Rattle.cardfile.specs.Rest.{withShallows}
 use Rattle.table.specs.View.{tableOf, listed, frequencyOf, mainOf, shallowOf}
 use Rattle.table.specs.declared.Table.{Table}
-use Rattle.cards.specs.Card.{Reading}
-use Rattle.cards.specs.Frequencies.{namesOf}
-use Rattle.cards.specs.Mains.{mainPlaces, mainsFrom}
-use Rattle.cards.specs.Shallows.{shallowPlaces, shallowsFrom}
-use Rattle.cards.specs.Answers.{placesIn}
-use Rattle.cards.proofs.Rows.{names-of}
-use Rattle.cards.proofs.OfMains as mains
+use Rattle.card.specs.Card.{Reading}
+use Rattle.frequencies.specs.Frequencies.{namesOf}
+use Rattle.mains.specs.Mains.{mainPlaces}
+use Rattle.constituents.specs.Constituents.{mainsFrom}
+use Rattle.shallows.specs.Shallows.{shallowPlaces, shallowsFrom}
+use Rattle.places.specs.Answers.{placesIn}
+use Rattle.table.proofs.Names.{names-of}
+use Rattle.constituents.proofs.OfMains as mains
 use Rattle.shallows.proofs.Rows as shallows
 
 names-in : (t : Table) → namesOf (tableOf t .frequencies) ≡ namesFrom (t .names) 0 (t .frequencies)

@@ -13,15 +13,16 @@ use Rattle.fields.specs.declared.Field.{Field}
 use Rattle.fields.specs.declared.Field.the-variants.{Value, Malformed, OutOfRange}
 use Rattle.table.specs.Table.{Frequency, Table}
 use Rattle.columns.specs.Lines.{linesOf}
-use Rattle.cards.specs.Formats.{frequencyName, frequencyField, longitudeField, increaseField}
-use Rattle.cards.specs.Card as card
-use Rattle.cards.specs.Card.{Card, good, bad, _>>=_, number, newName, fieldGives, Next, ends, gives, fails, Opening, blankEnds, readFields, failsFirst, opening, opened, Reading, given, onwardOrEnd, isAmong}
-use Rattle.cards.specs.Frequencies.{namesOf, frequencyCard, nextFrequency, frequenciesFrom}
+use Rattle.card.specs.Formats.{frequencyName, frequencyField, longitudeField, increaseField}
+use Rattle.card.specs.Card as card
+use Rattle.card.specs.Card.{Card, good, bad, _>>=_, number, newName, fieldGives, Next, ends, gives, fails, Opening, blankEnds, readFields, failsFirst, opening, opened, Reading, given, onwardOrEnd, isAmong}
+use Rattle.frequencies.specs.Frequencies.{namesOf, frequencyCard, nextFrequency, frequenciesFrom}
 use Rattle.cards.specs.Cards.{Outcome, accepted, refused, followed, allDefined, readCards}
-use Rattle.cards.specs.Longitudes.{fiveFrom}
-use Rattle.cards.specs.Mains.{mainPlaces, mainsFrom}
-use Rattle.cards.specs.Shallows.{shallowPlaces, shallowsFrom}
-use Rattle.cards.proofs.Ranges.{natural-is}
+use Rattle.longitudes.specs.Longitudes.{fiveFrom}
+use Rattle.mains.specs.Mains.{mainPlaces}
+use Rattle.constituents.specs.Constituents.{mainsFrom}
+use Rattle.shallows.specs.Shallows.{shallowPlaces, shallowsFrom}
+use Rattle.card.proofs.Ranges.{natural-is}
 
 -- every entry of a list is at most `most`
 abbrev Low : ℕ → List Frequency → Type 0

@@ -6,9 +6,9 @@ use Rattle.refusals.specs.declared.Answer.{Answer}
 use Rattle.refusals.specs.declared.Answer.the-variants.{Accepted, Refused}
 use Rattle.table.specs.Table.{Table}
 use Rattle.table.specs.View.{tableOf}
-use Rattle.cards.specs.Answers as parts
+use Rattle.card.specs.Answers as parts
 use Rattle.cards.specs.Cards.{Outcome, accepted, refused}
-use Rattle.cards.specs.declared.Refusal.{Refusal}
+use Rattle.card.specs.declared.Refusal.{Refusal}
 use Rattle.cardfile.specs.declared.Read.{Read}
 
 -- "accepted whole or refused", with the table where it is accepted

@@ -3,11 +3,12 @@
 use Prim.Native.Nat.{ℕ}
 use mathlib.Core.List.{List, [], _++_}
 use Rattle.table.specs.Table.{Frequency, Main, Shallow, Table}
-use Rattle.cards.specs.Formats.{longitudeField, increaseField}
-use Rattle.cards.specs.Frequencies.{namesOf}
-use Rattle.cards.specs.Longitudes.{fiveFrom}
-use Rattle.cards.specs.Mains.{mainPlaces, mainsFrom}
-use Rattle.cards.specs.Shallows.{shallowPlaces, shallowsFrom}
+use Rattle.card.specs.Formats.{longitudeField, increaseField}
+use Rattle.frequencies.specs.Frequencies.{namesOf}
+use Rattle.longitudes.specs.Longitudes.{fiveFrom}
+use Rattle.mains.specs.Mains.{mainPlaces}
+use Rattle.constituents.specs.Constituents.{mainsFrom}
+use Rattle.shallows.specs.Shallows.{shallowPlaces, shallowsFrom}
 use Rattle.cards.specs.Cards.{Outcome, followed, allDefined}
 
 abbrev pub withShallows : Table → List Shallow → Table

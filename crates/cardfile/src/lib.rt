@@ -5,19 +5,19 @@ ghost use lib.ListN.{length, drop};
 ghost use Rattle.columns.specs.Lines.{linesOf};
 ghost use Rattle.table.specs.View.{tableOf};
 ghost use Rattle.refusals.specs.Outcome.{numberOf};
-ghost use Rattle.cards.specs.Answers as parts;
+ghost use Rattle.card.specs.Answers as parts;
 ghost use Rattle.cards.specs.Cards.{readCards};
 ghost use Rattle.cardfile.specs.Read.{outcomeOf, refusedWith};
 ghost use Rattle.cardfile.specs.Rest.{longitudesAnd, increasesAnd, mainsAnd, shallowsAnd};
-use cards::Refusal;
-use cards::constituents::constituent_reader;
-use cards::frequencies::read_frequencies;
-use cards::lines::Progress;
-use cards::longitudes::read_five;
+use card::Refusal;
+use cards::Defined;
+use cards::undefined;
+use constituents::constituent_reader;
+use frequencies::read_frequencies;
+use lines::Progress;
+use longitudes::read_five;
 use refusals::Answer;
-use shallows::defined::Defined;
-use shallows::defined::undefined;
-use shallows::reader::read_shallows;
+use shallows::read_shallows;
 use table::Table;
 
 // What a card file comes to, and its table where it is accepted.

@@ -1,5 +1,1 @@
-pub mod Ranges
-pub mod Defined
-pub mod Walk
-pub mod Rows
-pub mod OfMains
+pub mod Last

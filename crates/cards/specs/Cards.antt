@@ -4,13 +4,14 @@ use mathlib.Core.List.{List, [], _∷_, _++_}
 use mathlib.Core.Bool.{cond}
 use Rattle.columns.specs.Lines.{linesOf}
 use Rattle.table.specs.Table.{Frequency, Table}
-use Rattle.cards.specs.Formats.{longitudeField, increaseField}
-use Rattle.cards.specs.Card as card
-use Rattle.cards.specs.Card.{Reading, given, isAmong}
-use Rattle.cards.specs.Frequencies.{namesOf, frequenciesFrom}
-use Rattle.cards.specs.Longitudes.{fiveFrom}
-use Rattle.cards.specs.Mains.{mainPlaces, mainsFrom}
-use Rattle.cards.specs.Shallows.{shallowPlaces, shallowsFrom}
+use Rattle.card.specs.Formats.{longitudeField, increaseField}
+use Rattle.card.specs.Card as card
+use Rattle.card.specs.Card.{Reading, given, isAmong}
+use Rattle.frequencies.specs.Frequencies.{namesOf, frequenciesFrom}
+use Rattle.longitudes.specs.Longitudes.{fiveFrom}
+use Rattle.mains.specs.Mains.{mainPlaces}
+use Rattle.constituents.specs.Constituents.{mainsFrom}
+use Rattle.shallows.specs.Shallows.{shallowPlaces, shallowsFrom}
 
 -- a card file is accepted and gives its table, or is refused with a number and a place, which is a line from 1
 pub data Outcome : Type 0 where

@@ -1,21 +1,50 @@
-// The card file: its definition, and the readers of parts 1, 2 and 3, with refusals 1 to 7.
-pub mod constituents;
-pub mod frequencies;
-pub mod lines;
-pub mod longitudes;
-pub mod mains;
-pub mod numbers;
-pub mod opening;
-pub mod places;
-pub mod satellites;
+// The whole card file's definition, and its last check: that every frequency is defined, by a main or by a shallow constituent.
+ghost use mathlib.Core.Path.{_≡_};
+ghost use mathlib.Core.List.{List, _++_};
+ghost use Prim.Native.Nat.{_≤_, _<_};
+ghost use lib.ListN.{length};
+ghost use Rattle.table.specs.Table.{Frequency, Table};
+ghost use Rattle.card.specs.Card.{isAmong};
+ghost use Rattle.cards.specs.Cards.{allDefined};
+ghost use Rattle.places.specs.Answers.{placesIn};
+ghost use Rattle.cards.specs.Answers.{definedGives};
+use places::is_among;
 
-// 01's refusals of a card file, in the order of its table.
-pub enum Refusal {
-    Line,
-    Malformed,
-    Range,
-    Name,
-    Missing,
-    Count,
-    Ended,
+// Whether a main or a shallow constituent has the place.
+fn is_defined(place: u16, maincards: &[u16], mains: usize, cards: &[u16], count: usize) -> bool
+    requires { ⌜ (mains ≤ 64) × (count ≤ 128) ⌝ }
+    ensures { λ r. ⌜ r ≡ isAmong place (placesIn 3 (now (maincards .entry)) mains ++ placesIn 6 (now (cards .entry)) count) ⌝ }
+{
+    if is_among(place, maincards, 3, mains) {
+        return true;
+    }
+    is_among(place, cards, 6, count)
+}
+
+// Whether all frequencies are defined, or the line of the first that is not.
+pub enum Defined {
+    All,
+    Not(usize),
+}
+
+// The first of the frequencies that no main and no shallow constituent defines.
+pub fn undefined(
+    frequencies: usize,
+    maincards: &[u16; 192],
+    mains: usize,
+    cards: &[u16; 768],
+    count: usize,
+) -> Defined
+    requires { ⌜ (frequencies ≤ 160) × (mains ≤ 64) × (count ≤ 128) ⌝ }
+    ensures { λ r. ⌜ ((fs : List Frequency) (t : Table) → length fs ≡ frequencies → definedGives r t ≡ allDefined fs 0 (placesIn 3 (now (maincards .entry)) mains ++ placesIn 6 (now (cards .entry)) count) t) ⌝ }
+{
+    let mut k = 0;
+    while k < frequencies {
+        if is_defined(k as u16, maincards, mains, cards, count) {
+            k = k + 1;
+        } else {
+            return Defined::Not(k + 1);
+        }
+    }
+    Defined::All
 }

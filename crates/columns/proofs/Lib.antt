@@ -1,4 +1,3 @@
 pub mod Bytes
 pub mod Columns
 pub mod Lines
-pub mod Names

@@ -11,15 +11,16 @@ use lib.Seq.{sets}
 use Rattle.columns.specs.Lines.{linesOf, firstLine, restLines}
 use Rattle.table.specs.View.{listed, shallowOf}
 use Rattle.table.proofs.Rows.{listed-same, listed-one-more, listed-length, row-at, row-put, row-kept}
-use Rattle.cards.specs.Card.{given, refused, onwardOrEnd}
-use Rattle.cards.specs.Shallows.{shallowPlaces, shallowCard, nextShallow, shallowsFrom}
-use Rattle.cards.specs.Answers.{placesIn}
-use Rattle.cards.proofs.Walk.{lines-here, lines-end}
-use Rattle.cards.proofs.Rows.{had-room}
-use Rattle.shallows.specs.Answers.{inRows, stepGives, shallowGives}
-use Rattle.shallows.specs.declared.parts.ShallowStep.{ShallowStep}
-use Rattle.shallows.specs.declared.parts.ShallowStep.the-variants.{Gives}
-use Rattle.shallows.specs.declared.parts.ShallowRead.{ShallowRead}
+use Rattle.card.specs.Card.{given, refused, onwardOrEnd}
+use Rattle.shallowcard.specs.Shallow.{shallowCard, nextShallow}
+use Rattle.shallows.specs.Shallows.{shallowPlaces, shallowsFrom}
+use Rattle.places.specs.Answers.{placesIn}
+use Rattle.lines.proofs.Walk.{lines-here, lines-end}
+use Rattle.lines.proofs.Openings.{had-room}
+use Rattle.parts.specs.Answers.{inRows, stepGives, shallowGives}
+use Rattle.parts.specs.declared.ShallowStep.{ShallowStep}
+use Rattle.parts.specs.declared.ShallowStep.the-variants.{Gives}
+use Rattle.parts.specs.declared.ShallowRead.{ShallowRead}
 
 -- a row begins with its place
 pub places-of : (cards : List ℕ) (coefficients : List ℤ) (k n : ℕ) → shallowPlaces (listed (shallowOf cards coefficients) k n) ≡ listed (λ i. getD cards (6 * i) 0) k n

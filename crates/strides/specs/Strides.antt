@@ -4,9 +4,9 @@ use Prim.Native.Nat.{ℕ}
 use mathlib.Core.Bool.{cond}
 use mathlib.Core.List.{List, [], _∷_, map}
 use lib.Dec.{eqb}
-use Rattle.columns.specs.Names.{placeOf}
-use Rattle.columns.specs.declared.Found.{Found}
-use Rattle.columns.specs.declared.Found.the-variants.{At, Nothing}
+use Rattle.names.specs.Names.{placeOf}
+use Rattle.names.specs.declared.Found.{Found}
+use Rattle.names.specs.declared.Found.the-variants.{At, Nothing}
 use Rattle.table.specs.Table.{Table, Frequency}
 use Rattle.station.specs.declared.Record.{Record}
 use Rattle.station.specs.Station.{Station}

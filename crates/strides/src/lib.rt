@@ -5,7 +5,7 @@ ghost use Rattle.columns.specs.Columns.{columns};
 ghost use Rattle.table.specs.View.{tableOf};
 ghost use Rattle.station.specs.Rows.{stationOf};
 ghost use Rattle.strides.specs.Strides.{amplitudeAt, amplitudeOf, stationStride};
-use columns::Found;
+use names::Found;
 use station::Station;
 use table::Table;
 
@@ -28,7 +28,7 @@ fn amplitude_at(station: Station, place: usize) -> u16
 fn amplitude_of(table: Table, station: Station, name: &[u8]) -> u16
     ensures { λ r. ⌜ r ≡ amplitudeOf (tableOf table) (stationOf station) (columns (now (name .entry)) 0 5) ⌝ }
 {
-    let found = columns::find_name(name, &table.names, table.frequencies);
+    let found = names::find_name(name, &table.names, table.frequencies);
     match found {
         Found::At(place) => amplitude_at(station, place),
         Found::Nothing => 0,

@@ -6,6 +6,7 @@ use Prim.Native.Nat.{ℕ, zero, suc, _+_, _-_, _*_, _≤_, _<_}
 use native.Mathlib.Omega.{arith}
 use native.Mathlib.Nat.{add-zero, zero-add, not-suc-le-zero, mul-le-mul-left, mul-suc}
 use native.Mathlib.Numerals.{add-one}
+use lib.IntN.{ℤ}
 use lib.ListN.{length, getD, set, take, drop, length-set, drop-of-length-le}
 use lib.Seq.{sets, drop-cons, getD-set-same, getD-set-other, getD-take, length-take-le, ext-getD}
 use Rattle.table.specs.View.{listed, rowOf}
@@ -126,3 +127,7 @@ rows-put none width xs n row wide fits =
       row-put none width xs n row wide fits,
       listed-same (rowOf none width (sets xs (width * n) row)) (rowOf none width xs) 0 n (λ k a b. row-kept none width xs n row wide k (omega arith)),
     )
+
+-- a row of numbers and one more
+pub ends-with : (angles : List ℤ) (start : ℕ) (ds : List ℤ) (p : ℤ) (n : ℕ) → length ds ≡ n → set (sets angles start ds) (start + n) p ≡ sets angles start (ds ++ (p ∷ []))
+ends-with angles start ds p n e = rw (← e) (sym (sets-one-more angles start ds p))

@@ -5,7 +5,7 @@ use Rattle.cardfile.proofs.increases_and.Reads as reads
 use Rattle.cardfile.proofs.increases_and.Lts as lts
 use Rattle.cardfile.proofs.mains_and.Reads as mains-and-reads
 use Rattle.cardfile.proofs.refused.Reads as refused-reads
-use Rattle.cards.proofs.longitudes.read_five.Reads as read-five-reads
+use Rattle.longitudes.proofs.read_five.Reads as read-five-reads
 use mathlib.Core.Path.{_≡_, refl, sym, ap, _∙_}
 use native.Mathlib.Omega.{arith}
 use Rattle.cardfile.specs.Rest.{increasesAnd}

@@ -5,7 +5,7 @@ use Rattle.cardfile.proofs.mains_and.Reads as reads
 use Rattle.cardfile.proofs.mains_and.Lts as lts
 use Rattle.cardfile.proofs.refused.Reads as refused-reads
 use Rattle.cardfile.proofs.shallows_and.Reads as shallows-and-reads
-use Rattle.cards.proofs.constituents.constituent_reader.Reads as constituent-reader-reads
+use Rattle.constituents.proofs.constituent_reader.Reads as constituent-reader-reads
 use mathlib.Core.Path.{_≡_, refl, sym, ap, _∙_}
 use mathlib.Core.List.{List, []}
 use Prim.Native.Nat.{ℕ}

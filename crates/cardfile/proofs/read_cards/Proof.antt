@@ -5,7 +5,7 @@ use Rattle.cardfile.proofs.read_cards.Reads as reads
 use Rattle.cardfile.proofs.read_cards.Lts as lts
 use Rattle.cardfile.proofs.longitudes_and.Reads as longitudes-and-reads
 use Rattle.cardfile.proofs.refused.Reads as refused-reads
-use Rattle.cards.proofs.frequencies.read_frequencies.Reads as read-frequencies-reads
+use Rattle.frequencies.proofs.read_frequencies.Reads as read-frequencies-reads
 use Rattle.table.proofs.no_cards.Reads as no-cards-reads
 use mathlib.Core.Path.{_≡_, refl, sym, ap, _∙_}
 use mathlib.Core.List.{List, []}

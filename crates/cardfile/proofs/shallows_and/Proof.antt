@@ -4,8 +4,8 @@ use Rattle.cardfile.proofs.shallows_and.Tie as tie
 use Rattle.cardfile.proofs.shallows_and.Reads as reads
 use Rattle.cardfile.proofs.shallows_and.Lts as lts
 use Rattle.cardfile.proofs.refused.Reads as refused-reads
-use Rattle.shallows.proofs.defined.undefined.Reads as undefined-reads
-use Rattle.shallows.proofs.reader.read_shallows.Reads as read-shallows-reads
+use Rattle.cards.proofs.undefined.Reads as undefined-reads
+use Rattle.shallows.proofs.read_shallows.Reads as read-shallows-reads
 use mathlib.Core.Path.{_≡_, refl, sym, ap, _∙_}
 use mathlib.Core.List.{List, []}
 use Prim.Native.Nat.{ℕ}
@@ -13,8 +13,8 @@ use lib.ListN.{drop}
 use Rattle.columns.specs.Lines.{linesOf}
 use Rattle.table.specs.Table as document
 use Rattle.table.specs.View.{tableOf, listed, shallowOf}
-use Rattle.shallows.specs.Answers.{definedGives}
-use Rattle.shallows.specs.declared.defined.Defined.{Defined}
+use Rattle.cards.specs.Answers.{definedGives}
+use Rattle.cards.specs.declared.Defined.{Defined}
 use Rattle.cardfile.specs.Rest.{shallowsAnd, withShallows}
 use Rattle.cardfile.proofs.Followed.{part-refused, part-reached}
 use Rattle.cardfile.proofs.Parts.{part-4, last-check}

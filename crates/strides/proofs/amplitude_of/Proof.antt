@@ -3,10 +3,10 @@ use Rattle.strides.proofs.amplitude_of.Statement.{statement}
 use Rattle.strides.proofs.amplitude_of.Tie as tie
 use Rattle.strides.proofs.amplitude_of.Reads as reads
 use Rattle.strides.proofs.amplitude_of.Lts as lts
-use Rattle.columns.proofs.find_name.Reads as find-name-reads
+use Rattle.names.proofs.find_name.Reads as find-name-reads
 use Rattle.strides.proofs.amplitude_at.Reads as amplitude-at-reads
 use mathlib.Core.Path.{_≡_, refl, sym, ap, _∙_}
-use Rattle.columns.specs.Names.{placeOf, namesFrom}
+use Rattle.names.specs.Names.{placeOf, namesFrom}
 use Rattle.station.specs.Rows.{stationOf}
 use Rattle.columns.specs.Columns.{columns}
 use Rattle.strides.proofs.Names.{amplitude-by}

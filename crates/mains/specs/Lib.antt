@@ -1,0 +1,2 @@
+pub mod Mains
+pub mod Answers
