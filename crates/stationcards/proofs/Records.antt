@@ -13,9 +13,9 @@ use Rattle.columns.specs.Lines.{linesOf, firstLine, restLines}
 use Rattle.columns.proofs.Lines.{lines-next, lines-none}
 use Rattle.table.specs.View.{listed}
 use Rattle.table.proofs.Rows.{listed-same, listed-one-more}
-use Rattle.cards.specs.Card.{gives}
-use Rattle.cards.proofs.Rows.{had-room}
-use Rattle.cards.proofs.Walk.{lines-end}
+use Rattle.card.specs.Card.{gives}
+use Rattle.lines.proofs.Openings.{had-room}
+use Rattle.lines.proofs.Walk.{lines-end}
 use Rattle.station.specs.declared.Record.{Record}
 use Rattle.station.specs.declared.Rows.{Rows}
 use Rattle.station.specs.Rows.{putRow, recordFrom, recordsFrom}

@@ -2,8 +2,8 @@
 -- Assumes nothing.
 use Prim.Native.Nat.{ℕ}
 use Rattle.refusals.specs.Outcome.{outcomeOf}
-use Rattle.cards.specs.Answers as parts
-use Rattle.cards.specs.declared.Refusal.{Refusal}
+use Rattle.card.specs.Answers as parts
+use Rattle.card.specs.declared.Refusal.{Refusal}
 use Rattle.station.specs.Posts.{recordsOf}
 use Rattle.stationcards.specs.Station.{StationFile, refusedAt}
 use Rattle.stationcards.specs.declared.StationCards.{StationCards}

@@ -6,7 +6,7 @@ use lib.ListN.{length}
 use lib.IntN.{ℤ, pos}
 use Rattle.columns.specs.Lines.{linesOf}
 use Rattle.refusals.specs.Outcome.{Outcome, accepted, refused}
-use Rattle.cards.specs.Card.{Card, good, bad, Next, ends, gives, fails}
+use Rattle.card.specs.Card.{Card, good, bad, Next, ends, gives, fails}
 use Rattle.station.specs.declared.Record.{Record}
 use Rattle.stationfields.specs.Cards.{stationCard, nextRecord}
 

@@ -13,7 +13,7 @@ use native.Mathlib.Omega.{arith}
 use Rattle.fields.specs.Number as field
 use Rattle.fields.specs.Number.{inRange}
 use Rattle.fields.specs.declared.Field.the-variants.{Value}
-use Rattle.cards.proofs.Ranges.{ranged-within}
+use Rattle.card.proofs.Ranges.{ranged-within}
 
 -- a number from -99 to 99
 pub two-digits : (v : ℤ) (x : field.Number) → Value v ≡ inRange (negℤ (pos 99)) (pos 99) x → natAbs v ≤ 99

@@ -1,8 +1,8 @@
 -- What the code's answers stand for.
 -- Assumes nothing.
 use lib.IntN.{ℤ}
-use Rattle.cards.specs.Answers as parts
-use Rattle.cards.specs.Card.{Card, good, bad, Next, ends, gives, fails}
+use Rattle.card.specs.Answers as parts
+use Rattle.card.specs.Card.{Card, good, bad, Next, ends, gives, fails}
 use Rattle.station.specs.declared.Record.{Record}
 use Rattle.stationfields.specs.declared.Latitude.{Latitude}
 use Rattle.stationfields.specs.declared.Latitude.the-variants as latitude

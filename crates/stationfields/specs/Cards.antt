@@ -7,9 +7,9 @@ use mathlib.Core.Bool.{Bool, _||_}
 use lib.Dec.{eqb}
 use lib.IntN.{ℤ, pos, natAbs}
 use Rattle.columns.specs.Columns.{column, columns}
-use Rattle.columns.specs.Names.{placeOf}
+use Rattle.names.specs.Names.{placeOf}
 use Rattle.fields.specs.Number.{signed}
-use Rattle.cards.specs.Card.{Card, good, number, placeFound, Next, nextCard, dueCard, _>>=_}
+use Rattle.card.specs.Card.{Card, good, number, placeFound, Next, nextCard, dueCard, _>>=_}
 use Rattle.station.specs.declared.Record.{Record}
 use Rattle.stationfields.specs.Formats.{degreesField, minutesField, minusColumn, degreesColumn, southColumn, constituentName, amplitudeField, phaseField}
 

@@ -3,7 +3,7 @@
 -- Assumes nothing.
 use Prim.Native.Nat.{ℕ}
 use Rattle.fields.specs.declared.Format.the-variants.{Whole, Fixed}
-use Rattle.cards.specs.Formats.{Number, upTo, within}
+use Rattle.card.specs.Formats.{Number, upTo, within}
 
 -- (iv) "One card with the tidal station information [..] (5X, I4, 1X, 3A6, A4, A3, 1X, I2, 1X, I2, 2X, I3, 1X, I2)": number, name, time zone,
 -- latitude in degrees and minutes, longitude. The name is 3A6,A4: 22 columns.

@@ -1,18 +1,18 @@
 // The two cards of the station file (001, section 3.3): the station card's latitude, and the record of a constituent card.
 ghost use mathlib.Core.Path.{_≡_};
 ghost use Prim.Native.Nat.{_+_, _≤_, _<_, min};
-ghost use Rattle.columns.specs.Names.{namesFrom};
+ghost use Rattle.names.specs.Names.{namesFrom};
 ghost use Rattle.fields.specs.Number.{signed};
-ghost use Rattle.cards.specs.Answers as parts;
-ghost use Rattle.cards.specs.Card.{opened, readFields};
+ghost use Rattle.card.specs.Answers as parts;
+ghost use Rattle.card.specs.Card.{opened, readFields};
 ghost use Rattle.stationfields.specs.Cards as spec;
 ghost use Rattle.stationfields.specs.Cards.{southMark, latitudeSize, latitudeFields, recordFields, nextRecord};
 ghost use Rattle.stationfields.specs.Answers.{latitudeGives, recordGives};
-use cards::Refusal;
-use cards::numbers::Natural;
-use cards::numbers::natural_field;
-use cards::opening::Opening;
-use cards::opening::begins;
+use card::Natural;
+use card::Refusal;
+use card::natural_field;
+use lines::Opening;
+use lines::begins;
 
 // The station card's latitude in minutes, or the refusal that the card earns.
 pub enum Latitude {
@@ -92,8 +92,8 @@ fn record_fields(line: &[u8], names: &[u8], frequencies: usize) -> RecordStep
     requires { ⌜ frequencies ≤ 160 ⌝ }
     ensures { λ r. ⌜ recordGives r ≡ opened readFields (recordFields (namesFrom (now (names .entry)) 0 frequencies) (now (line .entry))) ⌝ }
 {
-    match columns::find_name(columns::name_part(line, 5), names, frequencies) {
-        columns::Found::At(place) => match natural_field(
+    match names::find_name(names::name_part(line, 5), names, frequencies) {
+        names::Found::At(place) => match natural_field(
             line,
             38,
             8,
@@ -116,7 +116,7 @@ fn record_fields(line: &[u8], names: &[u8], frequencies: usize) -> RecordStep
             },
             Natural::Bad(r) => RecordStep::Fails(r),
         },
-        columns::Found::Nothing => RecordStep::Fails(Refusal::Missing),
+        names::Found::Nothing => RecordStep::Fails(Refusal::Missing),
     }
 }
 

@@ -11,7 +11,7 @@ use mir.Syntax.{w32}
 use mir.Val.{SFits, toZ, ofZ}
 use mir.ValLaws.{toZ-ofZ}
 use Rattle.columns.specs.Lines.{linesOf}
-use Rattle.columns.specs.Names.{namesFrom}
+use Rattle.names.specs.Names.{namesFrom}
 use Rattle.station.specs.declared.Rows.{Rows}
 use Rattle.station.specs.Rows.{recordsFrom}
 use Rattle.station.specs.Posts.{recordsOf}

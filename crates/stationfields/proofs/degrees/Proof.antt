@@ -11,7 +11,7 @@ use Rattle.columns.specs.Columns.{columns}
 use Rattle.fields.specs.Number.{numberOf, inRange}
 use Rattle.fields.specs.declared.Format.the-variants.{Whole}
 use Rattle.fields.specs.declared.Field.the-variants.{Value, Malformed, OutOfRange}
-use Rattle.cards.proofs.Ranges.{number-is}
+use Rattle.card.proofs.Ranges.{number-is}
 use Rattle.stationfields.specs.Formats.{degreesField}
 use Rattle.stationfields.specs.Cards.{degrees}
 use Rattle.stationfields.proofs.Sizes.{two-digits}

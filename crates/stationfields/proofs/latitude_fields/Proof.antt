@@ -6,7 +6,7 @@ use mathlib.Core.Path.{_≡_, ap}
 use mir.Syntax.{w32}
 use mir.Val.{SFits}
 use mir.ValLaws.{toZ-ofZ}
-use Rattle.cards.specs.Card.{good}
+use Rattle.card.specs.Card.{good}
 use Rattle.stationfields.specs.Cards.{latitudeFields}
 
 degrees-requires : tie.Need-degrees-requires

@@ -4,7 +4,7 @@ use Rattle.stationfields.proofs.record_fields.Statement.{statement}
 use Rattle.stationfields.proofs.record_fields.Tie as tie
 use mathlib.Core.Path.{sym}
 use Prim.Native.Nat.{_≤_, _<_}
-use Rattle.cards.proofs.Defined.{place-within}
+use Rattle.places.proofs.Defined.{place-within}
 use Rattle.stationfields.specs.Cards.{recordFields}
 
 name-part-requires : tie.Need-name-part-requires

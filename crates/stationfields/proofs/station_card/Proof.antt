@@ -2,7 +2,7 @@
 use borrow.Author.Needs.{needs}
 use Rattle.stationfields.proofs.station_card.Statement.{statement}
 use Rattle.stationfields.proofs.station_card.Tie as tie
-use Rattle.cards.specs.Card.{dueCard}
+use Rattle.card.specs.Card.{dueCard}
 use Rattle.stationfields.specs.Cards.{stationCard}
 
 line-good-requires : tie.Need-line-good-requires
