@@ -20,6 +20,7 @@ pub record StationFile : Type 0 where
 abbrev pub refusedAt : ℕ → ℕ → StationFile
 refusedAt r line = record { outcome = refused r line; latitude = pos 0; records = [] }
 
+-- a file that is accepted gives its latitude and its records
 abbrev pub acceptedWith : ℤ → List Record → StationFile
 acceptedWith latitude records = record { outcome = accepted; latitude = latitude; records = records }
 
