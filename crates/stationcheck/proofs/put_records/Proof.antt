@@ -1,0 +1,66 @@
+-- `stationcheck::put_records` is safe and ends. The measure is the places left. Assumes nothing.
+use Prim.Native.Nat.{_-_}
+use borrow.Author.Needs.{needs}
+use Rattle.stationcheck.proofs.put_records.Statement.{statement}
+use Rattle.stationcheck.proofs.put_records.Tie as tie
+
+abbrev Inv-loop : tie.InvT-loop
+Inv-loop count rows k₀ k = Unit
+
+abbrev μ-loop : tie.MeasureT-loop
+μ-loop count rows k₀ k = 146 - k
+
+loop-holds : tie.Need-loop-holds Inv-loop μ-loop
+loop-holds c = search needs
+
+element-copy-out-put-record : tie.Need-element-copy-out-put-record Inv-loop μ-loop
+element-copy-out-put-record c = search needs
+
+mul-put-record : tie.Need-mul-put-record Inv-loop μ-loop
+mul-put-record c = search needs
+
+element-copy-out-put-record-2 : tie.Need-element-copy-out-put-record-2 Inv-loop μ-loop
+element-copy-out-put-record-2 c = search needs
+
+mul-put-record-2 : tie.Need-mul-put-record-2 Inv-loop μ-loop
+mul-put-record-2 c = search needs
+
+element-copy-out-put-record-3 : tie.Need-element-copy-out-put-record-3 Inv-loop μ-loop
+element-copy-out-put-record-3 c = search needs
+
+put-record-requires : tie.Need-put-record-requires Inv-loop μ-loop
+put-record-requires c κs = search needs
+
+add-k : tie.Need-add-k Inv-loop μ-loop
+add-k c = search needs
+
+loop-less : tie.Need-loop-less Inv-loop μ-loop
+loop-less c = search needs
+
+loop-again : tie.Need-loop-again Inv-loop μ-loop
+loop-again c = search needs
+
+returns : tie.Need-returns Inv-loop μ-loop
+returns c = search needs
+
+returns-2 : tie.Need-returns-2 Inv-loop μ-loop
+returns-2 c = search needs
+
+pub put-records-spec : {M : Type 1} → statement M
+put-records-spec =
+    tie.close
+    (tie.spec
+    Inv-loop
+    μ-loop
+    loop-holds
+    element-copy-out-put-record
+    mul-put-record
+    element-copy-out-put-record-2
+    mul-put-record-2
+    element-copy-out-put-record-3
+    put-record-requires
+    add-k
+    loop-less
+    loop-again
+    returns
+    returns-2)
