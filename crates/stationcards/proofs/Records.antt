@@ -20,7 +20,7 @@ use Rattle.records.specs.declared.Record.{Record}
 use Rattle.records.specs.declared.Rows.{Rows}
 use Rattle.records.specs.Rows.{putRow, recordFrom, recordsFrom}
 use Rattle.records.specs.Rows.{recordsOf}
-use Rattle.station.proofs.Copies.{records-length}
+use Rattle.records.proofs.Copies.{records-length}
 use Rattle.stationfields.specs.Cards.{stationCard, recordFields, nextRecord}
 use Rattle.stationfields.specs.Answers.{recordGives}
 use Rattle.stationfields.specs.declared.RecordStep.{RecordStep}
