@@ -3,8 +3,8 @@
 use card::Natural;
 use card::natural_field;
 use libc::STDOUT_FILENO;
-use refusals::Answer;
 use records::Rows;
+use refusals::Answer;
 use stationcards::StationCards;
 
 // A text as it stands.
