@@ -21,11 +21,11 @@ use Rattle.mains.specs.declared.MainRead.{MainRead}
 use Rattle.lines.proofs.Walk.{lines-here, lines-end}
 use Rattle.card.specs.Card.{_>>=_, given, refused, onward, onwardOrEnd}
 use Rattle.mains.specs.Mains.{nextMain, mainPlaces}
-use Rattle.satellites.specs.Satellites.{satelliteCard}
+use Rattle.satellitecard.specs.Satellites.{satelliteCard}
 use Rattle.constituents.specs.Constituents.{withMore, mainsFrom, satellitesFrom}
 use Rattle.mains.specs.Answers.{mainGives}
 use Rattle.places.specs.Answers.{placesIn}
-use Rattle.satellites.specs.Answers.{Kept}
+use Rattle.satellitecard.specs.Answers.{Kept}
 use Rattle.constituents.specs.Answers.{satellitesEnd, Stored, mainsIn}
 use Rattle.table.proofs.Rows.{ends-with}
 

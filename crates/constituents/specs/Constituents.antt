@@ -6,7 +6,7 @@ use lib.Dec.{leb, eqb}
 use Rattle.table.specs.Table.{Satellite, Main}
 use Rattle.card.specs.Card.{Reading, given, refused, onward, onwardOrEnd}
 use Rattle.mains.specs.Mains.{mainPlaces, nextMain}
-use Rattle.satellites.specs.Satellites.{satelliteCard}
+use Rattle.satellitecard.specs.Satellites.{satelliteCard}
 
 -- the main with more satellites
 unfoldable pub withMore : Main → List Satellite → Main

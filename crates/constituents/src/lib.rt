@@ -9,7 +9,7 @@ ghost use Rattle.table.specs.View.{mainOf};
 ghost use Rattle.constituents.specs.Constituents.{mainsFrom, satellitesFrom};
 ghost use Rattle.lines.specs.Answers.{readingGives, Within};
 ghost use Rattle.constituents.specs.Answers.{MainRoom, satellitesEnd, Stored, mainsIn};
-ghost use Rattle.satellites.specs.Answers.{SatelliteRoom};
+ghost use Rattle.satellitecard.specs.Answers.{SatelliteRoom};
 use card::Fault;
 use card::Refusal;
 use lines::Progress;
@@ -19,8 +19,8 @@ use mains::MainStep;
 use mains::next_main;
 use rows::add_satellites;
 use rows::put_main;
-use satellites::at_most_three;
-use satellites::satellite_card;
+use satellitecard::at_most_three;
+use satellitecard::satellite_card;
 
 // Where part 3 ends, and how many mains and satellites are stored.
 pub struct MainsRead {

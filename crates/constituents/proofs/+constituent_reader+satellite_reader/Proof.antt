@@ -15,8 +15,8 @@ use Rattle.lines.proofs.next_line.Reads as next-line-reads
 use Rattle.rows.proofs.add_satellites.Reads as add-satellites-reads
 use Rattle.mains.proofs.next_main.Reads as next-main-reads
 use Rattle.rows.proofs.put_main.Reads as put-main-reads
-use Rattle.satellites.proofs.at_most_three.Reads as at-most-three-reads
-use Rattle.satellites.proofs.satellite_card.Reads as satellite-card-reads
+use Rattle.satellitecard.proofs.at_most_three.Reads as at-most-three-reads
+use Rattle.satellitecard.proofs.satellite_card.Reads as satellite-card-reads
 use Rattle.constituents.proofs.+constituent_reader+satellite_reader.{statement}
 use Rattle.constituents.proofs.+constituent_reader+satellite_reader.Tie.{close}
 use Prim.Native.Nat.{ℕ, _+_, _-_, _*_, _≤_, _<_, min}
@@ -39,7 +39,7 @@ use borrow.Author.Tests.{eq-eqb, ne-eqb, le-leb, lt-leb}
 use Rattle.names.specs.Names.{namesFrom}
 use Rattle.table.proofs.Rows.{listed-length, row-at}
 use Rattle.mains.specs.Mains.{nextMain}
-use Rattle.satellites.specs.Satellites.{satelliteCard}
+use Rattle.satellitecard.specs.Satellites.{satelliteCard}
 use Rattle.constituents.specs.Constituents.{mainsFrom, satellitesFrom}
 use Rattle.card.specs.Card.{good, gives}
 use Rattle.card.specs.Answers.{faultGives}

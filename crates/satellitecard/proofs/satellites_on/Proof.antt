@@ -1,8 +1,8 @@
--- `cards::satellites::satellites_on` meets its contract. The loop keeps that reading on from satellite j gives what reading all of them gives,
+-- `cards::satellitecard::satellites_on` meets its contract. The loop keeps that reading on from satellite j gives what reading all of them gives,
 -- and that the satellites stored before are as they were. Rests on the laws of part 3.
 use borrow.Author.Needs.{needs}
-use Rattle.satellites.proofs.satellites_on.Statement.{statement}
-use Rattle.satellites.proofs.satellites_on.Tie as tie
+use Rattle.satellitecard.proofs.satellites_on.Statement.{statement}
+use Rattle.satellitecard.proofs.satellites_on.Tie as tie
 use mathlib.Core.Path.{_≡_, refl, ap, _∙_}
 use mathlib.Core.List.{[], _∷_}
 use native.Mathlib.Omega.{arith}
@@ -11,10 +11,10 @@ use Prim.Native.Nat.{_+_, _-_, _*_, _≤_}
 use lib.ListN.{length, length-set, take, set}
 use lib.Seq.{length-sets, length-take-le, sets}
 use Rattle.table.specs.View.{listed, satelliteOf}
-use Rattle.satellites.specs.Satellites.{satellitesOn}
-use Rattle.satellites.specs.Answers.{Kept}
-use Rattle.satellites.proofs.OfSatellites.{satellite-put, satellite-kept, satellites-grow, satellites-more, satellites-none}
-use Rattle.satellites.specs.Answers.{SatelliteRoom}
+use Rattle.satellitecard.specs.Satellites.{satellitesOn}
+use Rattle.satellitecard.specs.Answers.{Kept}
+use Rattle.satellitecard.proofs.OfSatellites.{satellite-put, satellite-kept, satellites-grow, satellites-more, satellites-none}
+use Rattle.satellitecard.specs.Answers.{SatelliteRoom}
 
 abbrev Inv-loop : tie.InvT-loop
 Inv-loop line first count angles₀ ratios₀ j₀ angles ratios j =

@@ -7,7 +7,7 @@ use lib.IntN.{ℤ}
 use Rattle.table.specs.Table.{markOf, Satellite}
 use Rattle.card.specs.Answers.{faultGives}
 use Rattle.card.specs.Card.{Card}
-use Rattle.satellites.specs.declared.SatelliteRead.{SatelliteRead}
+use Rattle.satellitecard.specs.declared.SatelliteRead.{SatelliteRead}
 
 -- a satellite of a card
 abbrev pub satelliteGives : SatelliteRead → Card Satellite

@@ -1,10 +1,10 @@
--- `cards::satellites::satellite_card` meets its contract: a good line, then its satellites.
+-- `cards::satellitecard::satellite_card` meets its contract: a good line, then its satellites.
 use borrow.Author.Needs.{needs}
-use Rattle.satellites.proofs.satellite_card.Statement.{statement}
-use Rattle.satellites.proofs.satellite_card.Tie as tie
+use Rattle.satellitecard.proofs.satellite_card.Statement.{statement}
+use Rattle.satellitecard.proofs.satellite_card.Tie as tie
 use mathlib.Core.Path.{refl}
 use Rattle.card.specs.Card.{dueCard}
-use Rattle.satellites.specs.Satellites.{satelliteCard}
+use Rattle.satellitecard.specs.Satellites.{satelliteCard}
 
 line-good-requires : tie.Need-line-good-requires
 line-good-requires c κs = search needs

@@ -1,12 +1,12 @@
--- `cards::satellites::satellite_fields` meets its contract: the fields from left to right, each as the definition has it.
+-- `cards::satellitecard::satellite_fields` meets its contract: the fields from left to right, each as the definition has it.
 use borrow.Author.Needs.{needs}
-use Rattle.satellites.proofs.satellite_fields.Statement.{statement}
-use Rattle.satellites.proofs.satellite_fields.Tie as tie
+use Rattle.satellitecard.proofs.satellite_fields.Statement.{statement}
+use Rattle.satellitecard.proofs.satellite_fields.Tie as tie
 use Prim.Native.Nat.{_≤_}
 use mir.Syntax.{w8}
 use mir.Val.{SFits}
 use mir.ValLaws.{toZ-ofZ}
-use Rattle.satellites.specs.Satellites.{satellite}
+use Rattle.satellitecard.specs.Satellites.{satellite}
 
 small-row-requires : tie.Need-small-row-requires
 small-row-requires c κs = search needs

@@ -1,7 +1,7 @@
--- `cards::satellites::put_satellite` meets its contract: what the table's stores leave.
+-- `cards::satellitecard::put_satellite` meets its contract: what the table's stores leave.
 use borrow.Author.Needs.{needs}
-use Rattle.satellites.proofs.put_satellite.Statement.{statement}
-use Rattle.satellites.proofs.put_satellite.Tie as tie
+use Rattle.satellitecard.proofs.put_satellite.Statement.{statement}
+use Rattle.satellitecard.proofs.put_satellite.Tie as tie
 use mathlib.Core.Path.{_≡_, sym}
 use native.Mathlib.Omega.{arith}
 use lib.ListN.{length}
