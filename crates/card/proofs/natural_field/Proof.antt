@@ -1,4 +1,4 @@
--- `cards::numbers::natural_field` meets its contract: a number in its range is not below 0, so the cast keeps it.
+-- `card::natural_field` meets its contract: a number in its range is not below 0, so the cast keeps it.
 use borrow.Author.Needs.{needs}
 use Rattle.card.proofs.natural_field.Statement.{statement}
 use Rattle.card.proofs.natural_field.Tie as tie

@@ -1,4 +1,4 @@
--- `cards::numbers::small_field` meets its contract: a number in its range fits a byte, so the cast keeps it.
+-- `card::small_field` meets its contract: a number in its range fits a byte, so the cast keeps it.
 use borrow.Author.Needs.{needs}
 use Rattle.card.proofs.small_field.Statement.{statement}
 use Rattle.card.proofs.small_field.Tie as tie

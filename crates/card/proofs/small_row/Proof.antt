@@ -1,4 +1,4 @@
--- `cards::numbers::small_row` meets its contract. The loop keeps that reading on from field k gives what reading the whole row gives.
+-- `card::small_row` meets its contract. The loop keeps that reading on from field k gives what reading the whole row gives.
 use borrow.Author.Needs.{needs}
 use Rattle.card.proofs.small_row.Statement.{statement}
 use Rattle.card.proofs.small_row.Tie as tie

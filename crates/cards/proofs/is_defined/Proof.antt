@@ -1,4 +1,4 @@
--- `shallows::defined::is_defined` meets its contract. A place is among those of two kinds where it is among one: `among-both`. Assumes nothing.
+-- `cards::is_defined` meets its contract. A place is among those of two kinds where it is among one: `among-both`. Assumes nothing.
 use borrow.Author.Needs.{needs}
 use Rattle.cards.proofs.is_defined.Statement.{statement}
 use Rattle.cards.proofs.is_defined.Tie as tie

@@ -1,4 +1,4 @@
--- `shallows::defined::undefined` meets its contract. The loop's invariant: the frequencies from this place on give what all of them give.
+-- `cards::undefined` meets its contract. The loop's invariant: the frequencies from this place on give what all of them give.
 -- The measure is how many are left. Rests on the laws of `Last`.
 use Rattle.cards.proofs.undefined.Statement.{statement}
 use Rattle.cards.proofs.undefined.Tie as tie

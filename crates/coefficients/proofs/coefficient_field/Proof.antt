@@ -1,4 +1,4 @@
--- `shallows::parts::coefficient_field` meets its contract. The field's number, in its range, is at most 900 hundredths in size. Assumes nothing.
+-- `coefficients::coefficient_field` meets its contract. The field's number, in its range, is at most 900 hundredths in size. Assumes nothing.
 use borrow.Author.Needs.{needs}
 use Rattle.coefficients.proofs.coefficient_field.Statement.{statement}
 use Rattle.coefficients.proofs.coefficient_field.Tie as tie

@@ -1,4 +1,4 @@
--- `shallows::parts::size` meets its contract. A number below 0 is turned round, any other is kept. Assumes nothing.
+-- `coefficients::size` meets its contract. A number below 0 is turned round, any other is kept. Assumes nothing.
 use borrow.Author.Needs.{needs}
 use Rattle.coefficients.proofs.size.Statement.{statement}
 use Rattle.coefficients.proofs.size.Tie as tie

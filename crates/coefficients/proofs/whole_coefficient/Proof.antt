@@ -1,4 +1,4 @@
--- `shallows::parts::whole_coefficient` meets its contract. Its tests on the size are the definition's on the number: laws of `Coefficients`.
+-- `coefficients::whole_coefficient` meets its contract. Its tests on the size are the definition's on the number: laws of `Coefficients`.
 -- Assumes nothing.
 use borrow.Author.Needs.{needs}
 use Rattle.coefficients.proofs.whole_coefficient.Statement.{statement}

@@ -1,4 +1,4 @@
--- `cards::constituents::constituent_reader` and `satellite_reader` meet their contracts together, by induction on the bytes left.
+-- `constituents::constituent_reader` and `satellite_reader` meet their contracts together, by induction on the bytes left.
 -- First what is known once a main is stored (`begun`) or has satellites more (`grown`): its rows, that no main has a satellite past those stored,
 -- and what is left to read. Each call is then that last fact, with the branch taken. Rests on the laws of part 3.
 use borrow.Author.Needs.{needs}

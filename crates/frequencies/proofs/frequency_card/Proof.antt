@@ -1,4 +1,4 @@
--- `cards::frequencies::frequency_card` meets its contract: how the card begins, then its fields.
+-- `frequencies::frequency_card` meets its contract: how the card begins, then its fields.
 use borrow.Author.Needs.{needs}
 use Rattle.frequencies.proofs.frequency_card.Statement.{statement}
 use Rattle.frequencies.proofs.frequency_card.Tie as tie

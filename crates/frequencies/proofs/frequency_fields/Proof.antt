@@ -1,4 +1,4 @@
--- `cards::frequencies::frequency_fields` meets its contract: the name, then the number to the right of it.
+-- `frequencies::frequency_fields` meets its contract: the name, then the number to the right of it.
 use borrow.Author.Needs.{needs}
 use Rattle.frequencies.proofs.frequency_fields.Statement.{statement}
 use Rattle.frequencies.proofs.frequency_fields.Tie as tie

@@ -1,4 +1,4 @@
--- `cards::frequencies::put_name` meets its contract. The loop keeps that storing the columns left gives what storing all of them gives.
+-- `frequencies::put_name` meets its contract. The loop keeps that storing the columns left gives what storing all of them gives.
 use borrow.Author.Needs.{needs}
 use Rattle.frequencies.proofs.put_name.Statement.{statement}
 use Rattle.frequencies.proofs.put_name.Tie as tie

@@ -1,4 +1,4 @@
--- `cards::frequencies::read_frequencies` meets its contract. The loop keeps that reading on from here gives what reading the whole part gives.
+-- `frequencies::read_frequencies` meets its contract. The loop keeps that reading on from here gives what reading the whole part gives.
 -- Rests on the laws of part 1.
 use borrow.Author.Needs.{needs}
 use Rattle.frequencies.proofs.read_frequencies.Statement.{statement}

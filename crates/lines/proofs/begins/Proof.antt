@@ -1,4 +1,4 @@
--- `cards::opening::begins` meets its contract: the definition branches as the code does.
+-- `lines::begins` meets its contract: the definition branches as the code does.
 use borrow.Author.Needs.{needs}
 use Rattle.lines.proofs.begins.Statement.{statement}
 use Rattle.lines.proofs.begins.Tie as tie

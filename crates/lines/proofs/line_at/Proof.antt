@@ -1,4 +1,4 @@
--- `cards::lines::line_at` meets its contract: the part of the file from a byte on is what is left when those before it are dropped.
+-- `lines::line_at` meets its contract: the part of the file from a byte on is what is left when those before it are dropped.
 use borrow.Author.Needs.{needs}
 use Rattle.lines.proofs.line_at.Statement.{statement}
 use Rattle.lines.proofs.line_at.Tie as tie

@@ -1,4 +1,4 @@
--- `cards::lines::next_line` meets its contract: the lines behind the first are found again by their length.
+-- `lines::next_line` meets its contract: the lines behind the first are found again by their length.
 use borrow.Author.Needs.{needs}
 use Rattle.lines.proofs.next_line.Statement.{statement}
 use Rattle.lines.proofs.next_line.Tie as tie

@@ -1,4 +1,4 @@
--- `cards::numbers::five_card` meets its contract. The loop keeps that reading on from field k gives what reading the whole card gives.
+-- `longitudes::five_card` meets its contract. The loop keeps that reading on from field k gives what reading the whole card gives.
 use borrow.Author.Needs.{needs}
 use Rattle.longitudes.proofs.five_card.Statement.{statement}
 use Rattle.longitudes.proofs.five_card.Tie as tie

@@ -1,4 +1,4 @@
--- `cards::longitudes::read_five` meets its contract: the definition at the line there, with the tests on the way.
+-- `longitudes::read_five` meets its contract: the definition at the line there, with the tests on the way.
 use borrow.Author.Needs.{needs}
 use Rattle.longitudes.proofs.read_five.Statement.{statement}
 use Rattle.longitudes.proofs.read_five.Tie as tie

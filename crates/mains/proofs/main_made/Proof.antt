@@ -1,4 +1,4 @@
--- `cards::mains::main_made` meets its contract: the one test of the definition.
+-- `mains::main_made` meets its contract: the one test of the definition.
 use borrow.Author.Needs.{needs}
 use Rattle.mains.proofs.main_made.Statement.{statement}
 use Rattle.mains.proofs.main_made.Tie as tie

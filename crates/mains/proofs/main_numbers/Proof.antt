@@ -1,4 +1,4 @@
--- `cards::mains::main_numbers` meets its contract: the fields from left to right, each as the definition has it.
+-- `mains::main_numbers` meets its contract: the fields from left to right, each as the definition has it.
 use borrow.Author.Needs.{needs}
 use Rattle.mains.proofs.main_numbers.Statement.{statement}
 use Rattle.mains.proofs.main_numbers.Tie as tie

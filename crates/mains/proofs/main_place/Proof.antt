@@ -1,4 +1,4 @@
--- `cards::mains::main_place` meets its contract: the place of the name, then whether it is defined.
+-- `mains::main_place` meets its contract: the place of the name, then whether it is defined.
 use borrow.Author.Needs.{needs}
 use Rattle.mains.proofs.main_place.Statement.{statement}
 use Rattle.mains.proofs.main_place.Tie as tie

@@ -1,4 +1,4 @@
--- `cards::mains::next_main` meets its contract: how the card begins, its name, then its numbers.
+-- `mains::next_main` meets its contract: how the card begins, its name, then its numbers.
 use borrow.Author.Needs.{needs}
 use Rattle.mains.proofs.next_main.Statement.{statement}
 use Rattle.mains.proofs.next_main.Tie as tie

@@ -1,4 +1,4 @@
--- `columns::byte` meets its contract. Within the row the byte is read; past its end it is the 0 that `getD` gives. Assumes nothing.
+-- `names::byte` meets its contract. Within the row the byte is read; past its end it is the 0 that `getD` gives. Assumes nothing.
 use borrow.Author.Needs.{needs}
 use Rattle.names.proofs.byte.Statement.{statement}
 use Rattle.names.proofs.byte.Tie as tie

@@ -1,4 +1,4 @@
--- `columns::find_name` meets its contract. The loop's invariant: looking from place k on finds what looking from 0 on finds. Rests on the clauses of `placeFrom`. Assumes nothing.
+-- `names::find_name` meets its contract. The loop's invariant: looking from place k on finds what looking from 0 on finds. Rests on the clauses of `placeFrom`. Assumes nothing.
 use borrow.Author.Needs.{needs}
 use Rattle.names.proofs.find_name.Statement.{statement}
 use Rattle.names.proofs.find_name.Tie as tie

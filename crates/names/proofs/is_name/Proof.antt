@@ -1,4 +1,4 @@
--- `columns::is_name` meets its contract. What is read of the part at a place, padded, is the name there: `padded-part`. Assumes nothing.
+-- `names::is_name` meets its contract. What is read of the part at a place, padded, is the name there: `padded-part`. Assumes nothing.
 use borrow.Author.Needs.{needs}
 use Rattle.names.proofs.is_name.Statement.{statement}
 use Rattle.names.proofs.is_name.Tie as tie

@@ -1,4 +1,4 @@
--- `columns::name_at` meets its contract. Past the last name the part is empty, as is what is dropped to there. Assumes nothing.
+-- `names::name_at` meets its contract. Past the last name the part is empty, as is what is dropped to there. Assumes nothing.
 use native.Mathlib.Omega.{arith}
 use borrow.Author.Needs.{needs}
 use Rattle.names.proofs.name_at.Statement.{statement}

@@ -1,4 +1,4 @@
--- `columns::name_part` meets its contract. The part of the line, and that it is the five columns when padded: `padded-part`. Assumes nothing.
+-- `names::name_part` meets its contract. The part of the line, and that it is the five columns when padded: `padded-part`. Assumes nothing.
 use borrow.Author.Needs.{needs}
 use Rattle.names.proofs.name_part.Statement.{statement}
 use Rattle.names.proofs.name_part.Tie as tie

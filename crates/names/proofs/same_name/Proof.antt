@@ -1,4 +1,4 @@
--- `columns::same_name` meets its contract. The loop's invariant: comparing from byte j on answers as from 0 on. Rests on the clauses of `same`. Assumes nothing.
+-- `names::same_name` meets its contract. The loop's invariant: comparing from byte j on answers as from 0 on. Rests on the clauses of `same`. Assumes nothing.
 use native.Mathlib.Omega.{arith}
 use borrow.Author.Needs.{needs}
 use Rattle.names.proofs.same_name.Statement.{statement}

@@ -1,4 +1,4 @@
--- `shallows::parts::part` meets its contract. A part is its coefficient and then its main: `part-is`. Assumes nothing.
+-- `parts::part` meets its contract. A part is its coefficient and then its main: `part-is`. Assumes nothing.
 use borrow.Author.Needs.{needs}
 use Rattle.parts.proofs.part.Statement.{statement}
 use Rattle.parts.proofs.part.Tie as tie

@@ -1,4 +1,4 @@
--- `shallows::parts::parts_on` meets its contract. The loop's invariant: the parts left on the card, after those in the rows, give all of them.
+-- `parts::parts_on` meets its contract. The loop's invariant: the parts left on the card, after those in the rows, give all of them.
 -- The measure is how many are left. Rests on the laws of a card's parts.
 use Rattle.parts.proofs.parts_on.Statement.{statement}
 use Rattle.parts.proofs.parts_on.Tie as tie

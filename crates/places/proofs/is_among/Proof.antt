@@ -1,4 +1,4 @@
--- `cards::places::is_among` meets its contract. The loop keeps that the place is among the rows left just when it is among all.
+-- `places::is_among` meets its contract. The loop keeps that the place is among the rows left just when it is among all.
 use borrow.Author.Needs.{needs}
 use Rattle.places.proofs.is_among.Statement.{statement}
 use Rattle.places.proofs.is_among.Tie as tie

@@ -1,4 +1,4 @@
--- `cards::places::main_at` meets its contract. The loop keeps that what is found among the rows left is what is found among all.
+-- `places::main_at` meets its contract. The loop keeps that what is found among the rows left is what is found among all.
 use borrow.Author.Needs.{needs}
 use Rattle.places.proofs.main_at.Statement.{statement}
 use Rattle.places.proofs.main_at.Tie as tie

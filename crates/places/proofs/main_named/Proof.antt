@@ -1,4 +1,4 @@
--- `cards::places::main_named` meets its contract: the place of the name first, then the main with that place.
+-- `places::main_named` meets its contract: the place of the name first, then the main with that place.
 use borrow.Author.Needs.{needs}
 use Rattle.places.proofs.main_named.Statement.{statement}
 use Rattle.places.proofs.main_named.Tie as tie

@@ -1,4 +1,4 @@
--- `cards::places::place_named` meets its contract: the returned part, padded, is the name, and a place found is below the count, so it fits.
+-- `places::place_named` meets its contract: the returned part, padded, is the name, and a place found is below the count, so it fits.
 use borrow.Author.Needs.{needs}
 use Rattle.places.proofs.place_named.Statement.{statement}
 use Rattle.places.proofs.place_named.Tie as tie

@@ -1,4 +1,4 @@
--- `cards::mains::put_main` meets its contract: what the table's stores leave.
+-- `rows::put_main` meets its contract: what the table's stores leave.
 use borrow.Author.Needs.{needs}
 use Rattle.rows.proofs.put_main.Statement.{statement}
 use Rattle.rows.proofs.put_main.Tie as tie

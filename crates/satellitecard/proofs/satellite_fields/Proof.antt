@@ -1,4 +1,4 @@
--- `cards::satellites::satellite_fields` meets its contract: the fields from left to right, each as the definition has it.
+-- `cards::satellitecard::satellite_fields` meets its contract: the fields from left to right, each as the definition has it.
 use borrow.Author.Needs.{needs}
 use Rattle.satellitecard.proofs.satellite_fields.Statement.{statement}
 use Rattle.satellitecard.proofs.satellite_fields.Tie as tie

@@ -1,4 +1,4 @@
--- `shallows::card::next_shallow` meets its contract. The card's opening, and then its fields. Assumes nothing.
+-- `shallowcard::next_shallow` meets its contract. The card's opening, and then its fields. Assumes nothing.
 use borrow.Author.Needs.{needs}
 use Rattle.shallowcard.proofs.next_shallow.Statement.{statement}
 use Rattle.shallowcard.proofs.next_shallow.Tie as tie

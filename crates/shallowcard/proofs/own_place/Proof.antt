@@ -1,4 +1,4 @@
--- `shallows::card::own_place` meets its contract. A place is among those of two kinds where it is among one: `among-both`. Assumes nothing.
+-- `shallowcard::own_place` meets its contract. A place is among those of two kinds where it is among one: `among-both`. Assumes nothing.
 use borrow.Author.Needs.{needs}
 use Rattle.shallowcard.proofs.own_place.Statement.{statement}
 use Rattle.shallowcard.proofs.own_place.Tie as tie

@@ -1,4 +1,4 @@
--- `shallows::card::shallow_card` meets its contract. Place, count of parts and parts, each as its reader says. Assumes nothing.
+-- `shallowcard::shallow_card` meets its contract. Place, count of parts and parts, each as its reader says. Assumes nothing.
 use borrow.Author.Needs.{needs}
 use Rattle.shallowcard.proofs.shallow_card.Statement.{statement}
 use Rattle.shallowcard.proofs.shallow_card.Tie as tie

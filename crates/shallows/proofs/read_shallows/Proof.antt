@@ -1,4 +1,4 @@
--- `shallows::reader::read_shallows` meets its contract. The loop's invariant: the cards from this byte on, after the constituents in the rows,
+-- `shallows::read_shallows` meets its contract. The loop's invariant: the cards from this byte on, after the constituents in the rows,
 -- give what part 4 gives. The measure is the bytes left. Rests on the laws of `Rows`.
 use Rattle.shallows.proofs.read_shallows.Statement.{statement}
 use Rattle.shallows.proofs.read_shallows.Tie as tie
