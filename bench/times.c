@@ -5,7 +5,7 @@
 #include <string.h>
 #include <time.h>
 
-enum { ROUNDS = 31, SIDES = 4 };
+enum { ROUNDS = 25, SIDES = 5 };
 
 static struct work w;
 static struct doubles d;
@@ -23,19 +23,18 @@ static double now(void) {
 // What is timed: a function that does its work so often, after whatever it sets up.
 typedef void repeated(uint32_t repeats);
 
-// The time of one repeat in this round: both lengths twice, the better of each.
-static double one_round(repeated *f, uint32_t repeats) {
-    double brief = 1e300, extended = 1e300;
-    for (int i = 0; i < 2; i++) {
-        double t0 = now();
-        f(1);
-        double t1 = now();
-        f(1 + repeats);
-        double t2 = now();
-        if (t1 - t0 < brief) brief = t1 - t0;
-        if (t2 - t1 < extended) extended = t2 - t1;
-    }
-    return (extended - brief) / repeats;
+// One round of one side: the setting up alone, and with the work so often.
+struct round {
+    double brief, extended;
+};
+
+static struct round one_round(repeated *f, uint32_t repeats) {
+    double t0 = now();
+    f(0);
+    double t1 = now();
+    f(repeats);
+    double t2 = now();
+    return (struct round){t1 - t0, t2 - t1};
 }
 
 static int ascending(const void *a, const void *b) {
@@ -48,17 +47,26 @@ static double median(double *xs, int n) {
     return xs[n / 2];
 }
 
-// Rounds of each side in turn: the medians of the times, and of the ratios ours to a peer's.
-static void rounds(repeated **sides, int n, uint32_t repeats, double *times, double *ratios) {
-    static double t[SIDES][ROUNDS], r[SIDES][ROUNDS];
+// The time of one repeat by the best of the rounds: what the machine's other work disturbed least.
+static double best(const struct round *rounds, int n, uint32_t repeats) {
+    double brief = rounds[0].brief, extended = rounds[0].extended;
+    for (int i = 1; i < n; i++) {
+        if (rounds[i].brief < brief) brief = rounds[i].brief;
+        if (rounds[i].extended < extended) extended = rounds[i].extended;
+    }
+    return (extended - brief) / repeats;
+}
+
+// Rounds of each side in turn: the best times, and the medians of the rounds' own ratios, ours to a side's.
+static void race(repeated **sides, int n, uint32_t repeats, double *times, double *ratios) {
+    static struct round r[SIDES][ROUNDS];
+    static double own[ROUNDS];
     for (int i = 0; i < ROUNDS; i++)
-        for (int s = 0; s < n; s++) {
-            t[s][i] = one_round(sides[s], repeats);
-            r[s][i] = t[0][i] / t[s][i];
-        }
+        for (int s = 0; s < n; s++) r[s][i] = one_round(sides[s], repeats);
     for (int s = 0; s < n; s++) {
-        times[s] = median(t[s], ROUNDS);
-        ratios[s] = median(r[s], ROUNDS);
+        times[s] = best(r[s], ROUNDS, repeats);
+        for (int i = 0; i < ROUNDS; i++) own[i] = (r[0][i].extended - r[0][i].brief) / (r[s][i].extended - r[s][i].brief);
+        ratios[s] = median(own, ROUNDS);
     }
 }
 
@@ -107,34 +115,31 @@ static void chebyshev_series(uint32_t n) {
 
 static const char *verdict(double ratio, double target) { return ratio <= target ? "met" : "MISSED"; }
 
-// One line: what, the time of ours and of the peer, the ratio and its target.
+// One line: what, the best time of ours and of the peer, their ratio, the median of the rounds' ratios, and the target of the first ratio.
 static void line(const char *what, const char *peer, double ours, double theirs, double ratio, double target) {
-    printf("| %-38s | %-26s | %11.3f | %11.3f | %5.2f |", what, peer, ours / 1000, theirs / 1000, ratio);
+    printf("| %-36s | %-25s | %10.3f | %10.3f | %5.2f | %5.2f |", what, peer, ours / 1000, theirs / 1000, ours / theirs, ratio);
     if (target > 0)
-        printf(" %4.2f %s |\n", target, verdict(ratio, target));
+        printf(" %4.2f %s |\n", target, verdict(ours / theirs, target));
     else
-        printf("  |\n");
+        printf(" |\n");
 }
 
 static void time_series(int count) {
     char what[80];
     snprintf(what, sizeof what, "series, a month, %d constituents", count);
-    repeated *sides[] = {our_series, peer_serieses, libm_series, chebyshev_series};
+    repeated *sides[] = {our_series, peer_serieses, libm_series, cosine_series, chebyshev_series};
     double t[SIDES], r[SIDES];
-    rounds(sides, 4, count > 100 ? 1 : count > 20 ? 2 : 6, t, r);
+    race(sides, SIDES, count > 20 ? 1 : 4, t, r);
     line(what, "(a) whole numbers in C", t[0], t[1], r[1], 1.05);
     line(what, "(b) libm, cosine and sine", t[0], t[2], r[2], 0.25);
-    repeated *more[] = {our_series, cosine_series};
-    double u[SIDES], q[SIDES];
-    rounds(more, 2, count > 100 ? 1 : count > 20 ? 2 : 6, u, q);
-    line(what, "(b') libm, one cosine", u[0], u[1], q[1], 0);
-    line(what, "(c) Chebyshev recursion", t[0], t[3], r[3], 0);
+    line(what, "(b') libm, one cosine", t[0], t[3], r[3], 0);
+    line(what, "(c) Chebyshev recursion", t[0], t[4], r[4], 0);
 }
 
 static void time_two(const char *what, repeated *ours, repeated *theirs, uint32_t repeats, double target) {
     repeated *sides[] = {ours, theirs};
     double t[SIDES], r[SIDES];
-    rounds(sides, 2, repeats, t, r);
+    race(sides, 2, repeats, t, r);
     line(what, "(a) whole numbers in C", t[0], t[1], r[1], target);
 }
 
@@ -145,8 +150,8 @@ static void set(const char *file, size_t length, int count) {
 }
 
 void print_times(const char *file, size_t length) {
-    printf("\nTimes in microseconds, the median of %d interleaved rounds; ratio: ours to the peer's, the median of the rounds' ratios\n\n", ROUNDS);
-    printf("| %-38s | %-26s | %11s | %11s | %5s | target |\n|---|---|---|---|---|---|\n", "work", "peer", "ours", "peer", "ratio");
+    printf("\nTimes in microseconds, the best of %d interleaved rounds; their ratio, ours to the peer's; the median of the rounds' ratios\n\n", ROUNDS);
+    printf("| %-36s | %-25s | %10s | %10s | %5s | %5s | target |\n|---|---|---|---|---|---|---|\n", "work", "peer", "ours", "peer", "ratio", "med.");
     static const int counts[] = {11, 37, 145};
     for (int i = 0; i < 3; i++) {
         set(file, length, counts[i]);
@@ -168,13 +173,10 @@ static size_t grown;
 
 static void grown_series(uint32_t n) { timed_series(OURS(&w), w.month, n, heights, grown); }
 
-static double best(uint32_t repeats) {
-    double t = 1e300;
-    for (int i = 0; i < 9; i++) {
-        double x = one_round(grown_series, repeats);
-        if (x < t) t = x;
-    }
-    return t;
+static double best_growth(uint32_t repeats) {
+    struct round r[ROUNDS];
+    for (int i = 0; i < ROUNDS; i++) r[i] = one_round(grown_series, repeats);
+    return best(r, ROUNDS, repeats);
 }
 
 void print_growth(const char *file, size_t length) {
@@ -188,7 +190,7 @@ void print_growth(const char *file, size_t length) {
         double t = 0;
         for (int i = 0; i < 3; i++) {
             grown = 1440 * days[i];
-            t = best((uint32_t)(200 / (days[i] * (1 + (size_t)counts[c] / 10)) + 1));
+            t = best_growth((uint32_t)(60 / (days[i] * (1 + (size_t)counts[c] / 10)) + 1));
             printf(" %.1f |", t / 1000);
         }
         if (counts[c])
