@@ -14,13 +14,29 @@ void doubles_prepare(struct doubles *d, const struct month *month) {
     }
 }
 
-// (b) P × cosine - Q × sine, each from libm at the angle of the minute.
+// (b) P × cosine - Q × sine, from libm at the angle of the minute. (gcc makes one call of the two, to sincos.)
 void doubles_libm(const struct doubles *d, double *heights, size_t places) {
     for (size_t n = 0; n < places; n++) {
         double sum = 0;
         for (int k = 0; k < d->count; k++) {
             double angle = d->start[k] + d->rate[k] * (double)n;
             sum += d->p[k] * cos(angle) - d->q[k] * sin(angle);
+        }
+        heights[n] = sum;
+    }
+}
+
+// libm's functions, where gcc does not know them
+double (*libm_cosine)(double) = cos;
+double (*libm_sine)(double) = sin;
+
+// (b) the same, as compilers that know no sincos make it: two calls.
+void doubles_two_calls(const struct doubles *d, double *heights, size_t places) {
+    for (size_t n = 0; n < places; n++) {
+        double sum = 0;
+        for (int k = 0; k < d->count; k++) {
+            double angle = d->start[k] + d->rate[k] * (double)n;
+            sum += d->p[k] * libm_cosine(angle) - d->q[k] * libm_sine(angle);
         }
         heights[n] = sum;
     }

@@ -11,6 +11,7 @@ struct doubles {
 
 void doubles_prepare(struct doubles *d, const struct month *month);
 void doubles_libm(const struct doubles *d, double *heights, size_t places);
+void doubles_two_calls(const struct doubles *d, double *heights, size_t places);
 void doubles_one_cosine(const struct doubles *d, double *heights, size_t places);
 void doubles_chebyshev(const struct doubles *d, double *heights, size_t places);
 

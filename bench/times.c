@@ -5,7 +5,7 @@
 #include <string.h>
 #include <time.h>
 
-enum { ROUNDS = 25, SIDES = 5 };
+enum { ROUNDS = 25, SIDES = 6 };
 
 static struct work w;
 static struct doubles d;
@@ -105,6 +105,10 @@ static void libm_series(uint32_t n) {
     for (uint32_t i = 0; i < n; i++) doubles_libm(&d, reals, MONTH);
 }
 
+static void two_calls_series(uint32_t n) {
+    for (uint32_t i = 0; i < n; i++) doubles_two_calls(&d, reals, MONTH);
+}
+
 static void cosine_series(uint32_t n) {
     for (uint32_t i = 0; i < n; i++) doubles_one_cosine(&d, reals, MONTH);
 }
@@ -127,13 +131,14 @@ static void line(const char *what, const char *peer, double ours, double theirs,
 static void time_series(int count) {
     char what[80];
     snprintf(what, sizeof what, "series, a month, %d constituents", count);
-    repeated *sides[] = {our_series, peer_serieses, libm_series, cosine_series, chebyshev_series};
+    repeated *sides[] = {our_series, peer_serieses, libm_series, two_calls_series, cosine_series, chebyshev_series};
     double t[SIDES], r[SIDES];
     race(sides, SIDES, count > 20 ? 1 : 4, t, r);
     line(what, "(a) whole numbers in C", t[0], t[1], r[1], 1.05);
-    line(what, "(b) libm, cosine and sine", t[0], t[2], r[2], 0.25);
-    line(what, "(b') libm, one cosine", t[0], t[3], r[3], 0);
-    line(what, "(c) Chebyshev recursion", t[0], t[4], r[4], 0);
+    line(what, "(b) libm, sincos", t[0], t[2], r[2], 0.25);
+    line(what, "(b) libm, cos and sin", t[0], t[3], r[3], 0.25);
+    line(what, "(b) libm, one cosine", t[0], t[4], r[4], 0);
+    line(what, "(c) Chebyshev recursion", t[0], t[5], r[5], 0);
 }
 
 static void time_two(const char *what, repeated *ours, repeated *theirs, uint32_t repeats, double target) {
