@@ -5,9 +5,9 @@ use mathlib.Core.Bool.{Bool, false}
 use mathlib.Core.List.{List}
 use lib.ListN.{getD, set}
 use lib.IntN.{ℤ, pos}
-use Rattle.station.specs.declared.Record.{Record}
-use Rattle.station.specs.declared.Rows.{Rows}
-use Rattle.station.specs.Posts.{recordsOf}
+use Rattle.records.specs.declared.Record.{Record}
+use Rattle.records.specs.declared.Rows.{Rows}
+use Rattle.records.specs.Rows.{recordsOf}
 use Rattle.clock.specs.State.{State, nothing}
 use Rattle.clock.specs.Returned.{Returned, accepted, heightIs, turnsAre, refused}
 use Rattle.clock.specs.Calls.{cardsLeaves, stationLeaves, dateLeaves, heightReturns, SeriesGiven, seriesGives, TurnsGiven, turnsGives}

@@ -3,7 +3,7 @@
 ghost use mathlib.Core.Path.{_≡_};
 ghost use Prim.Native.Nat.{min};
 ghost use lib.ListN.{length};
-ghost use Rattle.station.specs.Posts.{recordsOf};
+ghost use Rattle.records.specs.Rows.{recordsOf};
 ghost use Rattle.clock.specs.State.{nothing};
 ghost use Rattle.clock.specs.Returned.{heightReturned, turnsReturned};
 ghost use Rattle.clock.specs.Calls.{stationLeaves, dateLeaves, seriesGives, turnsGives};
@@ -12,7 +12,7 @@ ghost use Rattle.timed.specs.Often.{recordsIn, readOften, datedOften, se
 use clock::Clock;
 use clock::HeightAnswer;
 use clock::TurnsAnswer;
-use station::Rows;
+use records::Rows;
 
 // A station's rows, from the lent arrays.
 fn rows_from<'a>(places: &'a [u8; 146], amplitudes: &'a [u32; 146], phases: &'a [u32; 146]) -> Rows

@@ -3,7 +3,7 @@ use mir.ValLaws.{toZ-ofZ}
 use native.Mathlib.Omega.{arith}
 use mathlib.Core.Path.{_∙_}
 use mathlib.Core.Path.{ap}
-use Rattle.station.specs.Posts.{recordsOf}
+use Rattle.records.specs.Rows.{recordsOf}
 use Rattle.clock.specs.State.{State}
 use Rattle.clock.specs.Calls.{cardsLeaves, stationLeaves}
 use borrow.Author.Needs.{needs}
