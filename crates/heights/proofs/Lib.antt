@@ -1,3 +1,4 @@
+pub mod Sums
 pub mod Turning
 pub mod Filling
 pub mod Shares

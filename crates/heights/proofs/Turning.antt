@@ -47,6 +47,14 @@ angle-is v lag f m h =
     ∙ of-naturals (v + 1_314 * f * m) (l + 1_314 * f * 21_600) (v % turn + (2 * turn - l) + laps f m % lap * 1_314) (f / lap * 21_600 + 21_602) (v / turn + f / lap * m + laps f m / lap)
     (balance v (v / turn) (v % turn) f (f / lap) (f % lap) (lap - f % lap) m (laps f m / lap) (laps f m % lap) l (div-add-mod v turn) (div-add-mod f lap) en (div-add-mod (laps f m) lap) h)
 
+-- of a V and a frequency that fit: with g = 1,314 × f × 21,600, one remainder
+pub angle-of-card : (v lag f m x : ℕ) → x + (lag * centidegree + f * (1_314 * 21_600)) ≡ v + 200 * turn + f * (1_314 * m) → angle v lag f m ≡ x % turn
+unfolding angle
+angle-of-card v lag f m x e =
+    let l = lag * centidegree in
+    ap modTurn (as-difference v l (1_314 * f) m 21_600)
+    ∙ of-naturals (v + 1_314 * f * m) (l + 1_314 * f * 21_600) x 200 0 (omega arith)
+
 pub angle-below : (v lag f m : ℕ) → angle v lag f m < turn
 unfolding angle
 angle-below v lag f m = below-turn (pos v -ℤ pos (lag * centidegree) +ℤ pos (1_314 * f) *ℤ (pos m -ℤ pos 21_600))

@@ -21,6 +21,9 @@ const ADVANCE: u64 = 1_314;
 // so a frequency of this many moves it by a whole turn.
 const LAP: u64 = TURN / ADVANCE;
 
+// The most that a card gives.
+const MOST: u64 = 4_999_999_999;
+
 // Minutes from the month's start to its instant.
 const INSTANT: u64 = 21_600;
 
@@ -32,11 +35,24 @@ fn wide(x: u16) -> u64
     x as u64
 }
 
+// A constituent's angle at a minute, of a V below a turn and a frequency that a card can have: one division.
+fn angle_of_card(argument: u64, lag: u16, frequency: u64, minute: u64) -> u64
+    requires { ⌜ (argument < turn) × ((frequency ≤ 4_999_999_999) × (minute ≤ 44_640)) ⌝ }
+    ensures { λ r. ⌜ r ≡ angle argument lag frequency minute ⌝ }
+{
+    let start = argument + (200 * TURN - wide(lag) * CENTIDEGREE);
+    let back = frequency * (ADVANCE * INSTANT);
+    (start + frequency * (ADVANCE * minute) - back) % TURN
+}
+
 // A constituent's angle at a minute.
 pub fn angle_at(argument: u64, lag: u16, frequency: u64, minute: u64) -> u64
     requires { ⌜ minute ≤ 44_640 ⌝ }
     ensures { λ r. ⌜ r ≡ angle argument lag frequency minute ⌝ }
 {
+    if argument < TURN && frequency <= MOST {
+        return angle_of_card(argument, lag, frequency, minute);
+    }
     let f = frequency % LAP;
     let laps = f * minute + (LAP - f) * INSTANT;
     (argument % TURN + (2 * TURN - wide(lag) * CENTIDEGREE) + laps % LAP * ADVANCE) % TURN
@@ -161,8 +177,14 @@ pub fn height<'a>(
     ensures { λ r. ⌜ r ≡ heightAt (constituentsFrom (now (arguments .entry)) (now (lags .entry)) (now (frequencies .entry)) (now (ps .entry)) (now (qs .entry)) count) minute ⌝ }
     ensures { λ r. ⌜ natAbs r ≤ 2 ^ 28 ⌝ }
 {
-    let angles = angles_at(arguments, lags, frequencies, count, minute);
-    height_of(table, &angles, ps, qs, count)
+    let mut sum: i64 = 0;
+    let mut k: usize = 0;
+    while k < count {
+        let angle = angle_at(arguments[k], lags[k], frequencies[k], minute);
+        sum = sum + share_at(table, angle, ps[k], qs[k]);
+        k = k + 1;
+    }
+    (sum + 2_048) >> 12
 }
 
 // The heights at start, start + step, start + 2 × step and so on, one for each lent place.

@@ -1,19 +1,168 @@
--- `heights::height` meets its contract: the height of the angles at the minute. Assumes nothing.
+-- `heights::height` meets its contract: the sum so far and the shares that are left give the sum of all. Assumes nothing.
+use Prim.Native.Nat.{ℕ, _+_, _-_, _*_, _^_, _≤_}
+use native.Mathlib.Omega.{arith}
+use native.Mathlib.Nat.{sub-zero}
+use mathlib.Core.Path.{_≡_, sym, ap, ap₂, _∙_}
 use borrow.Author.Needs.{needs}
-use lib.Dec.{lit<}
-use Rattle.angles.proofs.Known.{known, kept, says}
+use lib.Dec.{lit<, lit≤}
+use lib.IntN.{ℤ, pos, natAbs, _+ℤ_, +ℤ-idl, +ℤ-idr, +ℤ-assoc}
+use lib.ListN.{getD}
+use mir.Syntax.{w32, w64}
+use mir.Val.{SFits, toZ}
+use mir.ValLaws.{toZ-ofZ}
+use Rattle.angles.specs.Floor.{floorDiv}
+use Rattle.angles.proofs.Known.{plainly, plus, shifted, kept, fits, says}
+use Rattle.prepared.specs.View.{constituentsAfter, constituentsFrom}
+use Rattle.heights.specs.Height.{share, sumOfShares, heightAt}
+use Rattle.heights.proofs.Shares.{shares-more, shares-none}
+use Rattle.heights.proofs.Sums.{one-more}
 use Rattle.heights.proofs.height.Statement.{statement}
 use Rattle.heights.proofs.height.Tie as tie
+use Rattle.heights.proofs.height.Reads as reads
+use Rattle.heights.proofs.height.Lts as lts
+use Rattle.heights.proofs.angle_at.Reads as angle-at-reads
+use Rattle.heights.proofs.share_at.Reads as share-at-reads
 
-angles-at-requires : tie.Need-angles-at-requires
-angles-at-requires c κs = search needs
+abbrev Inv-loop : tie.InvT-loop
+Inv-loop table arguments lags frequencies ps qs count minute sum₀ k₀ sum k =
+    (k ≤ count)
+    × ((natAbs (toZ w64 sum) ≤ k * 2 ^ 32)
+    × (toZ w64 sum +ℤ sumOfShares (constituentsAfter arguments lags frequencies ps qs k (count - k)) minute ≡ sumOfShares (constituentsFrom arguments lags frequencies ps qs count) minute))
 
-height-of-requires : tie.Need-height-of-requires
-height-of-requires c κs = search needs
+abbrev μ-loop : tie.MeasureT-loop
+μ-loop table arguments lags frequencies ps qs count minute sum₀ k₀ sum k = count - k
 
-returns : tie.Need-returns
-returns c = let a = c .before .before .before .args in let h = c .height-of .ensures in
-    says (kept (known (h .0 (a .arguments .now) (a .lags .now) (a .frequencies .now) (a .minute) (c .before .before .angles-at .ensures)) (h .1)) (lit< tt))
+-- src/lib.rt:182:5
+loop-holds : tie.Need-loop-holds Inv-loop μ-loop
+loop-holds c =
+    let a = c .args in
+    (omega arith, (omega arith, +ℤ-idl _ ∙ ap (λ (n : ℕ). sumOfShares (constituentsAfter (a .arguments .now) (a .lags .now) (a .frequencies .now) (a .ps .now) (a .qs .now) 0 n) (a .minute)) (sub-zero (a .count))))
+
+-- src/lib.rt:183:30
+mul-angle-at : tie.Need-mul-angle-at Inv-loop μ-loop
+mul-angle-at c = search needs
+
+-- src/lib.rt:183:30
+element-copy-out-angle-at : tie.Need-element-copy-out-angle-at Inv-loop μ-loop
+element-copy-out-angle-at c = search needs
+
+-- src/lib.rt:183:44
+mul-angle-at-2 : tie.Need-mul-angle-at-2 Inv-loop μ-loop
+mul-angle-at-2 c = search needs
+
+-- src/lib.rt:183:44
+element-copy-out-angle-at-2 : tie.Need-element-copy-out-angle-at-2 Inv-loop μ-loop
+element-copy-out-angle-at-2 c = search needs
+
+-- src/lib.rt:183:53
+mul-angle-at-3 : tie.Need-mul-angle-at-3 Inv-loop μ-loop
+mul-angle-at-3 c = search needs
+
+-- src/lib.rt:183:53
+element-copy-out-angle-at-3 : tie.Need-element-copy-out-angle-at-3 Inv-loop μ-loop
+element-copy-out-angle-at-3 c = search needs
+
+-- src/lib.rt:183:13
+angle-at-requires : tie.Need-angle-at-requires Inv-loop μ-loop
+angle-at-requires c κs = search needs
+
+-- src/lib.rt:184:44
+mul-share-at : tie.Need-mul-share-at Inv-loop μ-loop
+mul-share-at c = search needs
+
+-- src/lib.rt:184:44
+element-copy-out-share-at : tie.Need-element-copy-out-share-at Inv-loop μ-loop
+element-copy-out-share-at c = search needs
+
+-- src/lib.rt:184:51
+mul-share-at-2 : tie.Need-mul-share-at-2 Inv-loop μ-loop
+mul-share-at-2 c = search needs
+
+-- src/lib.rt:184:51
+element-copy-out-share-at-2 : tie.Need-element-copy-out-share-at-2 Inv-loop μ-loop
+element-copy-out-share-at-2 c = search needs
+
+-- src/lib.rt:184:21
+share-at-requires : tie.Need-share-at-requires Inv-loop μ-loop
+share-at-requires c κs = search needs
+
+-- src/lib.rt:184:15
+add-sum : tie.Need-add-sum Inv-loop μ-loop
+add-sum c =
+    let s = c .before .before .before .before .before .before .before .before .loop in
+    let r = c .share-at in
+    fits (one-more (toZ w64 (s .sum)) (r .result) (s .k) (omega arith) (s .inv .1 .0) (r .ensures .1)) (omega arith)
+
+-- src/lib.rt:185:13
+add-k : tie.Need-add-k Inv-loop μ-loop
+add-k c = search needs
+
+-- src/lib.rt:182:5
+loop-less : tie.Need-loop-less Inv-loop μ-loop
+loop-less c = search needs
+
+-- src/lib.rt:182:5
+loop-again : tie.Need-loop-again Inv-loop μ-loop
+loop-again c =
+    let s = c .before .before .before .before .before .before .before .before .loop in
+    let a = c .before .before .before .before .before .before .before .before .before .args in
+    let r = c .share-at in
+    let t = c .before .before .before .angle-at in
+    let z = toZ w64 (s .sum) in
+    let p = getD (a .ps .now) (s .k) (pos 0) in
+    let q = getD (a .qs .now) (s .k) (pos 0) in
+    let fp : SFits w32 p = search needs in
+    let fq : SFits w32 q = search needs in
+    let left = sumOfShares (constituentsAfter (a .arguments .now) (a .lags .now) (a .frequencies .now) (a .ps .now) (a .qs .now) (s .k + 1) (a .count - (s .k + 1))) (a .minute) in
+    let more = says (kept (one-more z (r .result) (s .k) (omega arith) (s .inv .1 .0) (r .ensures .1)) (omega arith)) in
+    let same = r .ensures .0 ∙ (ap₂ (λ (x y : ℤ). share x y (t .result)) (toZ-ofZ w32 p fp) (toZ-ofZ w32 q fq) ∙ ap (λ (u : ℕ). share p q u) (t .ensures)) in
+    let all = shares-more (a .arguments .now) (a .lags .now) (a .frequencies .now) (a .ps .now) (a .qs .now) (a .minute) (s .k) (a .count) (omega arith) in (
+      omega arith,
+      (
+        more .1,
+        ap (λ (y : ℤ). y +ℤ left) (more .0)
+            ∙ (+ℤ-assoc z (r .result) left ∙ (ap (λ (y : ℤ). z +ℤ y) (ap (λ (y : ℤ). y +ℤ left) same ∙ sym all) ∙ s .inv .1 .1)),
+      ),
+    )
+
+-- src/lib.rt:187:6
+add-result : tie.Need-add-result Inv-loop μ-loop
+add-result c = let z = toZ w64 (c .before .loop .sum) in fits (plus (plainly z {A = 146 * 2 ^ 32} (omega arith)) (plainly _ {A = 2_048} (lit≤ tt))) (lit< tt)
+
+-- src/lib.rt:166:1
+returns : tie.Need-returns Inv-loop μ-loop
+unfolding heightAt
+returns c =
+    let s = c .before .loop in
+    let a = c .before .before .args in
+    let z = toZ w64 (s .sum) in
+    let height = says (kept (shifted (kept (plus (plainly z {A = 146 * 2 ^ 32} (omega arith)) (plainly (pos 2_048) {A = 2_048} (lit≤ tt))) (lit< tt)) 4_096 (2 ^ 28) (lit< tt) (lit≤ tt)) (lit< tt)) in
+    let none = shares-none (a .arguments .now) (a .lags .now) (a .frequencies .now) (a .ps .now) (a .qs .now) (a .minute) (s .k) (a .count) (omega arith) in
+    let all = sym (ap (λ (y : ℤ). z +ℤ y) none ∙ +ℤ-idr z) ∙ s .inv .1 .1 in
+    (height .0 ∙ ap (λ (y : ℤ). floorDiv (y +ℤ pos 2_048) 4_096) all, height .1)
 
 pub height-spec : {M : Type 1} → statement M
-height-spec = tie.close (tie.spec angles-at-requires height-of-requires returns)
+height-spec =
+    tie.close
+    (tie.spec
+    Inv-loop
+    μ-loop
+    loop-holds
+    mul-angle-at
+    element-copy-out-angle-at
+    mul-angle-at-2
+    element-copy-out-angle-at-2
+    mul-angle-at-3
+    element-copy-out-angle-at-3
+    angle-at-requires
+    mul-share-at
+    element-copy-out-share-at
+    mul-share-at-2
+    element-copy-out-share-at-2
+    share-at-requires
+    add-sum
+    add-k
+    loop-less
+    loop-again
+    add-result
+    returns)

@@ -9,14 +9,15 @@ use lib.Dec.{lit<, lit≤}
 use lib.IntN.{ℤ, pos, natAbs, _+ℤ_, +ℤ-idl, +ℤ-idr, +ℤ-assoc}
 use lib.ListN.{getD}
 use mir.Syntax.{w32, w64}
-use mir.Val.{SFits, toZ, ofZ}
+use mir.Val.{SFits, toZ}
 use mir.ValLaws.{toZ-ofZ}
 use Rattle.angles.specs.Floor.{floorDiv}
-use Rattle.angles.proofs.Known.{Known, plainly, read, plus, bounded, shifted, kept, fits, says}
+use Rattle.angles.proofs.Known.{plainly, plus, shifted, kept, fits, says}
 use Rattle.prepared.specs.View.{constituentsAfter, constituentsFrom}
 use Rattle.heights.specs.Height.{share, sumOfShares, heightAt}
 use Rattle.heights.specs.Angles.{Angles}
 use Rattle.heights.proofs.Shares.{shares-more, shares-none}
+use Rattle.heights.proofs.Sums.{one-more}
 use Rattle.heights.proofs.height_of.Statement.{statement}
 use Rattle.heights.proofs.height_of.Tie as tie
 
@@ -25,10 +26,6 @@ pub record Summing (angles : List ℕ) (ps qs : List ℤ) (count : ℕ) (sum : �
   pub within : k ≤ count
   pub size : natAbs sum ≤ k * 2 ^ 32
   pub left : (arguments lags frequencies : List ℕ) (minute : ℕ) → Angles arguments lags frequencies count minute angles → sum +ℤ sumOfShares (constituentsAfter arguments lags frequencies ps qs k (count - k)) minute ≡ sumOfShares (constituentsFrom arguments lags frequencies ps qs count) minute
-
--- a sum of k shares, in a register, and one share more
-one-more : (z r : ℤ) (k : ℕ) → k < 146 → natAbs z ≤ k * 2 ^ 32 → natAbs r ≤ 2 ^ 32 → Known (z +ℤ toZ w64 (ofZ w64 r)) (z +ℤ r) ((k + 1) * 2 ^ 32)
-one-more z r k h hz hr = bounded (plus (plainly z hz) (read r hr (lit< tt))) (omega (arith, plus (plainly z hz) (plainly r hr) .size))
 
 abbrev Inv-loop : tie.InvT-loop
 Inv-loop table angles ps qs count sum₀ k₀ sum k = Summing angles ps qs count (toZ w64 sum) k

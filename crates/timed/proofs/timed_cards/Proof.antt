@@ -1,0 +1,70 @@
+use mathlib.Core.Path.{_∙_, sym, ap}
+use mir.Syntax.{w32}
+use mir.ValLaws.{toZ-ofZ}
+use Rattle.clock.specs.State.{State}
+use Rattle.clock.specs.Calls.{stationLeaves, dateLeaves, SeriesGiven, seriesGives}
+use Rattle.timed.specs.Often.{recordsIn, readOften}
+use borrow.Author.Needs.{needs}
+use Rattle.timed.proofs.timed_cards.Statement.{statement}
+use Rattle.timed.proofs.timed_cards.Tie as tie
+use Rattle.timed.proofs.timed_cards.Reads as reads
+use Rattle.timed.proofs.timed_cards.Lts as lts
+use Rattle.clock.proofs.new.Reads as new-reads
+use Rattle.clock.proofs.place_station.Reads as place-station-reads
+use Rattle.clock.proofs.series.Reads as series-reads
+use Rattle.clock.proofs.set_date.Reads as set-date-reads
+use Rattle.timed.proofs.read_often.Reads as read-often-reads
+use Rattle.timed.proofs.rows_from.Reads as rows-from-reads
+
+-- src/lib.rt:150:9
+rows-from-requires : tie.Need-rows-from-requires
+rows-from-requires c κs = search needs
+
+-- src/lib.rt:151:29
+new-requires : tie.Need-new-requires
+new-requires c κs = search needs
+
+-- src/lib.rt:151:9
+read-often-requires : tie.Need-read-often-requires
+read-often-requires c κs = search needs
+
+-- src/lib.rt:152:9
+place-station-requires : tie.Need-place-station-requires
+place-station-requires c κs = search needs
+
+-- src/lib.rt:154:9
+set-date-requires : tie.Need-set-date-requires
+set-date-requires c κs = search needs
+
+-- src/lib.rt:156:5
+series-requires : tie.Need-series-requires
+series-requires c κs = search needs
+
+-- src/lib.rt:135:1
+same-length : tie.Need-same-length
+same-length c = search needs
+
+-- src/lib.rt:135:1
+returns : tie.Need-returns
+returns c =
+    let z = c .before .before .before .before .before .before .before .before .before .before .before in
+    let a = z .args in
+    let rows = c .before .before .before .before .before .before .before .before .before .rows-from .ensures in
+    let read = c .before .before .before .before .before .before .before .read-often .ensures .1 ∙ ap (λ (k : State). readOften k (a .file .now) (a .repeats)) (c .before .before .before .before .before .before .before .before .new .ensures .leaves) in
+    let placed = rw (toZ-ofZ w32 (a .latitude) (z .fits .latitude), rows) at (c .before .before .before .before .before .before .place-station .ensures .leaves) in
+    let stationed = placed ∙ ap (λ (k : State). stationLeaves k (a .latitude) (recordsIn (a .places .now) (a .amplitudes .now) (a .phases .now) (a .records))) read in
+    let dated = c .before .before .before .before .set-date .ensures .leaves ∙ ap (λ (k : State). dateLeaves k (a .year) (a .month)) stationed in
+    ap (λ (g : SeriesGiven). g .heights) (c .before .series .ensures .gives ∙ ap (λ (k : State). seriesGives k 0 1 (a .heights .now)) dated)
+
+pub timed-cards-spec : {M : Type 1} → statement M
+timed-cards-spec =
+    tie.close
+    (tie.spec
+    rows-from-requires
+    new-requires
+    read-often-requires
+    place-station-requires
+    set-date-requires
+    series-requires
+    same-length
+    returns)

@@ -1,0 +1,45 @@
+use mathlib.Core.Path.{_∙_, sym, ap}
+use mir.Syntax.{w32}
+use mir.ValLaws.{toZ-ofZ}
+use Rattle.clock.specs.State.{State}
+use Prim.Native.Nat.{min}
+use lib.ListN.{length}
+use Rattle.timed.specs.Often.{heightsAt}
+use borrow.Author.Needs.{needs}
+use Rattle.timed.proofs.timed_heights.Statement.{statement}
+use Rattle.timed.proofs.timed_heights.Tie as tie
+use Rattle.timed.proofs.timed_heights.Reads as reads
+use Rattle.timed.proofs.timed_heights.Lts as lts
+use Rattle.timed.proofs.heights_each.Reads as heights-each-reads
+use Rattle.timed.proofs.rows_from.Reads as rows-from-reads
+use Rattle.timed.proofs.with_month.Reads as with-month-reads
+
+-- src/lib.rt:247:9
+rows-from-requires : tie.Need-rows-from-requires
+rows-from-requires c κs = search needs
+
+-- src/lib.rt:248:9
+with-month-requires : tie.Need-with-month-requires
+with-month-requires c κs = search needs
+
+-- src/lib.rt:249:5
+heights-each-requires : tie.Need-heights-each-requires
+heights-each-requires c κs = search needs
+
+-- src/lib.rt:232:1
+same-length : tie.Need-same-length
+same-length c = search needs
+
+-- src/lib.rt:232:1
+returns : tie.Need-returns
+returns c =
+    let z = c .before .before .before .before .before .before .before in
+    let a = z .args in
+    let rows = c .before .before .before .before .rows-from .ensures in
+    let clock = rw (toZ-ofZ w32 (a .latitude) (z .fits .latitude), rows) at (c .before .before .before .with-month .ensures .1) in
+    c .before .heights-each .ensures ∙ ap (λ (k : State). heightsAt k (a .minutes .now) (min (length (a .minutes .now)) (length (a .heights .now))) (a .heights .now)) clock
+
+pub timed-heights-spec : {M : Type 1} → statement M
+timed-heights-spec =
+    tie.close
+    (tie.spec rows-from-requires with-month-requires heights-each-requires same-length returns)

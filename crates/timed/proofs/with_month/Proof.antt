@@ -1,0 +1,34 @@
+use mir.Syntax.{w32}
+use mir.ValLaws.{toZ-ofZ}
+use native.Mathlib.Omega.{arith}
+use mathlib.Core.Path.{_∙_}
+use mathlib.Core.Path.{ap}
+use Rattle.clock.specs.State.{State}
+use Rattle.clock.specs.Calls.{dateLeaves}
+use borrow.Author.Needs.{needs}
+use Rattle.timed.proofs.with_month.Statement.{statement}
+use Rattle.timed.proofs.with_month.Tie as tie
+use Rattle.timed.proofs.with_month.Reads as reads
+use Rattle.timed.proofs.with_month.Lts as lts
+use Rattle.clock.proofs.set_date.Reads as set-date-reads
+use Rattle.timed.proofs.with_station.Reads as with-station-reads
+
+-- src/lib.rt:54:9
+with-station-requires : tie.Need-with-station-requires
+with-station-requires c κs = search needs
+
+-- src/lib.rt:55:9
+set-date-requires : tie.Need-set-date-requires
+set-date-requires c κs = search needs
+
+-- src/lib.rt:43:1
+returns : tie.Need-returns
+returns c =
+    let z = c .before .before .before .before in
+    let a = z .args in
+    let e = c .before .set-date .ensures in
+    let stationed = rw (toZ-ofZ w32 (a .latitude) (z .fits .latitude)) at (c .before .before .with-station .ensures .1) in
+    (e .made, e .leaves ∙ ap (λ (k : State). dateLeaves k (a .year) (a .month)) stationed)
+
+pub with-month-spec : {M : Type 1} → statement M
+with-month-spec = tie.close (tie.spec with-station-requires set-date-requires returns)
