@@ -1,7 +1,3 @@
 -- What the proofs of several functions use.
-mod Lengths
-mod Records
-mod Ready
-mod Satellites
 mod Counted
 mod Once

@@ -1,12 +1,11 @@
 -- What the structs that cross to other languages say, from what 01's definitions return.
 -- Assumes nothing.
-use Prim.Native.Nat.{ℕ, _+_}
+use Prim.Native.Nat.{ℕ}
 use mathlib.Core.Bool.{Bool, false}
-use mathlib.Core.List.{List, [], _∷_}
 use lib.ListN.{length}
 use lib.IntN.{ℤ}
-use Rattle.table.specs.Table.{Main}
 use Rattle.cards.specs.Cards as cards
+use Rattle.onecall.specs.Satellites.{satellitesIn}
 use Rattle.clock.specs.Returned.{Returned, accepted, heightIs, turnsAre, refused}
 use Rattle.cuvalimodo_c.specs.declared.Verdict.{Verdict}
 use Rattle.cuvalimodo_c.specs.declared.Counts.{Counts}
@@ -25,11 +24,6 @@ turningsOf accepted = record { number = 0; place = 0; count = 0; high = false }
 turningsOf (heightIs h) = record { number = 0; place = 0; count = 0; high = false }
 turningsOf (turnsAre count high) = record { number = 0; place = 0; count = count; high = high }
 turningsOf (refused number place) = record { number = number; place = place; count = 0; high = false }
-
--- "256 satellites": those of all mains together
-unfoldable pub satellitesIn : List Main → ℕ
-satellitesIn [] = 0
-satellitesIn (m ∷ ms) = length (m .satellites) + satellitesIn ms
 
 -- "At most 160 frequencies [..], 64 mains, 256 satellites, 128 shallow": how many of each an accepted card file has; else the refusal's number and line
 abbrev pub countsOf : cards.Outcome → Counts

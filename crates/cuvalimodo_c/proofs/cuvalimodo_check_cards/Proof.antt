@@ -5,7 +5,7 @@ use Rattle.cuvalimodo_c.proofs.cuvalimodo_check_cards.Tie as tie
 use Rattle.cuvalimodo_c.proofs.cuvalimodo_check_cards.Reads as reads
 use Rattle.cuvalimodo_c.proofs.cuvalimodo_check_cards.Lts as lts
 use Rattle.cardfile.proofs.read_cards.Reads as read-cards-reads
-use Rattle.cuvalimodo_c.proofs.satellites_of.Reads as satellites-of-reads
+use Rattle.onecall.proofs.satellites_of.Reads as satellites-of-reads
 use Rattle.refusals.proofs.number_of.Reads as number-of-reads
 
 -- src/lib.rt:207:9

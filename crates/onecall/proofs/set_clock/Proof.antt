@@ -1,17 +1,17 @@
-use Rattle.cuvalimodo_c.proofs.Ready.{placed, ready}
+use Rattle.onecall.proofs.Calls.{placed, ready}
 use mir.ValLaws.{toZ-ofZ}
 use mir.Syntax.{w32}
 use borrow.Author.Needs.{needs}
-use Rattle.cuvalimodo_c.proofs.ready_clock.Statement.{statement}
-use Rattle.cuvalimodo_c.proofs.ready_clock.Tie as tie
-use Rattle.cuvalimodo_c.proofs.ready_clock.Reads as reads
-use Rattle.cuvalimodo_c.proofs.ready_clock.Lts as lts
+use Rattle.onecall.proofs.set_clock.Statement.{statement}
+use Rattle.onecall.proofs.set_clock.Tie as tie
+use Rattle.onecall.proofs.set_clock.Reads as reads
+use Rattle.onecall.proofs.set_clock.Lts as lts
 use Rattle.clock.proofs.load_cards.Reads as load-cards-reads
 use Rattle.clock.proofs.new.Reads as new-reads
 use Rattle.clock.proofs.place_station.Reads as place-station-reads
 use Rattle.clock.proofs.set_date.Reads as set-date-reads
-use Rattle.cuvalimodo_c.proofs.first_refusal.Reads as first-refusal-reads
-use Rattle.cuvalimodo_c.proofs.rows_in.Reads as rows-in-reads
+use Rattle.onecall.proofs.first_refusal.Reads as first-refusal-reads
+use Rattle.onecall.proofs.rows_in.Reads as rows-in-reads
 
 -- src/lib.rt:169:9
 rows-in-requires : tie.Need-rows-in-requires
@@ -55,8 +55,8 @@ returns c =
     (placed (cards .result .clock) (a .latitude) (a .places .now) (a .amplitudes .now) (a .phases .now) (c .before .before .before .before .before .before .before .rows-in .result) _ _ (c .before .before .before .before .before .before .before .rows-in .ensures) (rw (toZ-ofZ w32 (a .latitude) (s .fits .latitude)) at (station .ensures)))
     (date .ensures) (c .before .before .first-refusal .ensures) (c .before .first-refusal2 .ensures)
 
-pub ready-clock-spec : {M : Type 1} → statement M
-ready-clock-spec =
+pub set-clock-spec : {M : Type 1} → statement M
+set-clock-spec =
     tie.close
     (tie.spec
     rows-in-requires

@@ -2,10 +2,14 @@
 -- Assumes nothing.
 use mathlib.Core.Path.{_≡_, refl, sym, ap, ap₂, subst, _∙_}
 use Prim.Native.Nat.{ℕ, min}
+use native.Mathlib.Omega.{arith}
+use mathlib.Core.Bool.{Bool, true, false}
 use mathlib.Core.List.{List}
 use lib.ListN.{length}
 use lib.IntN.{ℤ}
+use Rattle.refusals.specs.declared.Refusal.{Refusal}
 use Rattle.refusals.specs.declared.Answer.{Answer}
+use Rattle.refusals.specs.declared.Answer.the-variants as answers
 use Rattle.station.specs.declared.Record.{Record}
 use Rattle.station.specs.declared.Rows.{Rows}
 use Rattle.station.specs.Rows.{recordsFrom, rowsUpto}
@@ -18,7 +22,10 @@ use Rattle.clock.specs.Calls.{cardsReturns, cardsLeaves, stationReturns, statio
 use Rattle.clock.specs.View.{view}
 use Rattle.clock.specs.Posts.{NewPost, CardsPost, StationPost, DatePost}
 use Rattle.clock.proofs.Lent.{lent-post}
-use Rattle.cuvalimodo_c.specs.OneCall.{recordsIn, firstRefusal, stateAfter, setReturns, ReadyPost}
+use Rattle.onecall.specs.Setting.{recordsIn, oneLength, lacking, firstRefusal, stateAfter, setReturns, setOnce}
+use Rattle.onecall.specs.Posts.{SetPost, ReadyPost}
+use Rattle.onecall.specs.declared.Setting.{Setting}
+use Rattle.onecall.specs.declared.Setting.the-variants.{Uneven, Accepted, Refused}
 
 -- a station whose records lie in three arrays
 pub placed : (c : Clock) (latitude : ℤ) (ps ms fs : List ℕ) (rows : Rows) (answer : Answer) (left : Clock)
@@ -33,7 +40,7 @@ module _ (file : List ℕ) (latitude : ℤ) (records : List Record) (year month 
       → NewPost c₀ → CardsPost c₀ file a₁ c₁ → StationPost c₁ latitude records a₂ c₂ → DatePost c₂ year month a₃ c₃
       → answerReturned later ≡ firstRefusal (answerReturned a₂) (answerReturned a₃)
       → answerReturned answer ≡ firstRefusal (answerReturned a₁) (answerReturned later)
-      → ReadyPost file latitude records year month answer c₃
+      → SetPost file latitude records year month answer c₃
   unfolding stateAfter setReturns
   ready c₀ c₁ c₂ c₃ a₁ a₂ a₃ later answer fresh carded stationed dated second first =
       record {
@@ -47,3 +54,31 @@ module _ (file : List ℕ) (latitude : ℤ) (records : List Record) (year month 
 
       after-station : view c₂ ≡ stationLeaves (cardsLeaves nothing file) latitude records
       after-station = stationed .leaves ∙ ap (λ (k : State). stationLeaves k latitude records) after-cards
+
+-- ---- with the records in three arrays
+
+module _ (file : List ℕ) (latitude : ℤ) (ps ms fs : List ℕ) (year month : ℕ) where
+  abbrev Even : Bool → Type 0
+  Even b = oneLength (length ps) (length ms) (length fs) ≡ b
+
+  abbrev Promised : Setting → Clock → Type 0
+  Promised s c = ReadyPost file latitude ps ms fs year month (record { setting = s; clock = c })
+
+  pub ready-uneven : (c : Clock) → NewPost c → Even false → (place : ℕ) → place ≡ lacking (length ps) (length ms) (length fs) → Promised (Uneven place) c
+  unfolding setOnce
+  ready-uneven c fresh e place is =
+      record { made = fresh .made; returns = rw (e, is); leaves = λ no. let z : _≡_ {A = ℕ} 0 1 = cc in absurd (omega arith) }
+
+  module _ (e : Even true) (answer : Answer) (c : Clock) (p : SetPost file latitude (recordsIn ps ms fs) year month answer c) where
+    pub ready-accepted : answer ≡ answers.Accepted → Promised Accepted c
+    unfolding setOnce
+    ready-accepted is = record { made = p .made; returns = rw e (sym (ap answerReturned is) ∙ p .returns); leaves = λ yes. p .leaves }
+
+    pub ready-refused : (r : Refusal) (place : ℕ) → answer ≡ answers.Refused r place → Promised (Refused r place) c
+    unfolding setOnce
+    ready-refused r place is =
+        record {
+          made = p .made;
+          returns = rw e (sym (ap answerReturned is) ∙ p .returns);
+          leaves = λ no. let z : _≡_ {A = ℕ} 0 1 = cc in absurd (omega arith);
+        }

@@ -10,7 +10,7 @@ use lib.ListN.{length, getD}
 use Rattle.station.specs.declared.Record.{Record}
 use Rattle.station.specs.declared.Rows.{Rows}
 use Rattle.station.specs.Rows.{blank, recordFrom, recordsFrom, rowsUpto, putRow}
-use Rattle.cuvalimodo_c.specs.OneCall.{recordsIn}
+use Rattle.onecall.specs.Setting.{recordsIn}
 
 record-at : (ps ms fs : List ℕ) (k n i : ℕ) → i < n → getD (recordsFrom ps ms fs k n) i blank ≡ recordFrom ps ms fs (k + i)
 unfolding recordsFrom
