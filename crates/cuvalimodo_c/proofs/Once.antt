@@ -42,7 +42,7 @@ module _ (file : List ℕ) (latitude : ℤ) (ps ms fs : List ℕ) (year month : 
     series-asked is answer after q v says =
         let yes : setOnce file latitude ps ms fs year month ≡ accepted = sym (p .returns) ∙ is in
         let gives : record { returned = answerReturned answer; heights = after } ≡ seriesGives left start step heights =
-            q .gives ∙ ap (λ (k : State). seriesGives k start step heights) (p .leaves is) in
+        q .gives ∙ ap (λ (k : State). seriesGives k start step heights) (p .leaves is) in
         record {
           says = says ∙ ap (λ (g : SeriesGiven). verdictOf (g .returned)) gives ∙ rw yes;
           writes = ap (λ (g : SeriesGiven). g .heights) gives ∙ rw yes;
@@ -67,7 +67,7 @@ module _ (file : List ℕ) (latitude : ℤ) (ps ms fs : List ℕ) (year month : 
     turns-asked is answer minutesAfter heightsAfter q t says =
         let yes : setOnce file latitude ps ms fs year month ≡ accepted = sym (p .returns) ∙ is in
         let gives : record { returned = turnsReturned answer; minutes = minutesAfter; heights = heightsAfter } ≡ turnsGives left first last minutes heights =
-            q .gives ∙ ap (λ (k : State). turnsGives k first last minutes heights) (p .leaves is) in
+        q .gives ∙ ap (λ (k : State). turnsGives k first last minutes heights) (p .leaves is) in
         record {
           says = says ∙ ap (λ (g : TurnsGiven). turningsOf (g .returned)) gives ∙ rw yes;
           writesMinutes = ap (λ (g : TurnsGiven). g .minutes) gives ∙ rw yes;

@@ -90,10 +90,7 @@ fn unset(setting: Setting) -> Verdict
             number: refusals::number_of(refusal),
             place,
         },
-        Setting::Uneven(place) => Verdict {
-            number: 100,
-            place,
-        },
+        Setting::Uneven(place) => Verdict { number: 100, place },
     }
 }
 
