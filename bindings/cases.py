@@ -15,6 +15,7 @@ lends them filled with MINUTE - i and HEIGHT - i at place i.
 
 import os
 import random
+import subprocess
 import sys
 
 ROOT = os.path.join(os.path.dirname(os.path.abspath(__file__)), "..")
@@ -206,6 +207,16 @@ def extreme(deck, station):
     put_turns(deck, empty, 1976, 7, 0, 44_640, 2, 2)
 
 
+def deepest(station):
+    """The card file that takes the most stack, in each call."""
+    deck = subprocess.run([sys.executable, os.path.join(ROOT, "tools", "deepest_cards.py")], stdout=subprocess.PIPE, check=True).stdout
+    latitude, _, amplitudes, phases = station
+    first = latitude, list(range(len(amplitudes))), amplitudes, phases
+    put_deck(deck)
+    put_series(deck, first, 1976, 7, 0, 60, 2)
+    put_turns(deck, first, 1976, 7, 0, 44_640, 300, 300)
+
+
 def main():
     from example import LATITUDE, VICTORIA
 
@@ -227,6 +238,7 @@ def main():
             put_deck(deck)
             put_series(deck, station, 1976, 7, 0, 60, 2)
             put_turns(deck, station, 1976, 7, 0, 44_640, 2, 3)
+    deepest(station)
     for index in range(60):
         generated(index, standard)
     for index in range(120):

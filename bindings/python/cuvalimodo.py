@@ -103,8 +103,15 @@ _library = _load()
 
 
 def _lent(numbers):
-    """A ctypes array of the type's numbers as the two arguments that an array crosses as; its pointer is never NULL."""
+    """A ctypes array as the two arguments that an array crosses as; its pointer is never NULL."""
     return ctypes.addressof(numbers), len(numbers)
+
+
+def _buffer(ctype, numbers):
+    """The same of a buffer that is written: TypeError where it is no ctypes array of that type, which a call would write past."""
+    if not isinstance(numbers, ctypes.Array) or numbers._type_ is not ctype:
+        raise TypeError("a ctypes array of %s is asked for" % ctype.__name__)
+    return _lent(numbers)
 
 
 def _bytes(data):
@@ -152,17 +159,18 @@ def series_into(heights, cards, latitude, places, amplitudes, phases, year, mont
     _scalars(latitude, year, month, start, step)
     file, row = _bytes(cards), _station(places, amplitudes, phases)
     lent = [word for numbers in row for word in _lent(numbers)]
-    result = _library.cuvalimodo_series(*_lent(file), latitude, *lent, year, month, start, step, *_lent(heights))
+    result = _library.cuvalimodo_series(*_lent(file), latitude, *lent, year, month, start, step, *_buffer(ctypes.c_int64, heights))
     if result.number:
         raise Refused(result.number, result.place)
 
 
 def turns_into(minutes, heights, cards, latitude, places, amplitudes, phases, year, month, first, last):
-    """Writes the turns from first to last to the fronts of two ctypes arrays, c_uint32 and c_int64; how many, and whether the first is high."""
+    """Writes the turns from first to last to the fronts of two ctypes arrays, c_uint32 and c_int64, that lie apart; how many, and whether the first
+    is high. They are as they were where this raises."""
     _scalars(latitude, year, month, first, last)
     file, row = _bytes(cards), _station(places, amplitudes, phases)
     lent = [word for numbers in row for word in _lent(numbers)]
-    result = _library.cuvalimodo_turns(*_lent(file), latitude, *lent, year, month, first, last, *_lent(minutes), *_lent(heights))
+    result = _library.cuvalimodo_turns(*_lent(file), latitude, *lent, year, month, first, last, *_buffer(ctypes.c_uint32, minutes), *_buffer(ctypes.c_int64, heights))
     if result.number:
         raise Refused(result.number, result.place)
     return result.count, result.high

@@ -93,12 +93,25 @@ def turns_case(case, deck):
     assert heights.left() == wanted_heights
 
 
-def overflows(call, *arguments):
+def raises(error, call, *arguments):
     try:
         call(*arguments)
-    except OverflowError:
+    except error:
         return
-    raise AssertionError("a number that does not fit was taken")
+    raise AssertionError("taken: %r" % (arguments[1:],))
+
+
+def overflows(call, *arguments):
+    raises(OverflowError, call, *arguments)
+
+
+def check_buffers(deck):
+    """Buffers of another type, which a call would write past."""
+    rest = deck, 0, [0], [1], [2], 1976, 7, 0, 60
+    for wrong in ((ctypes.c_int32 * 4)(), (ctypes.c_double * 4)(), [0] * 4, bytearray(32)):
+        raises(TypeError, cuvalimodo.series_into, wrong, *rest)
+        raises(TypeError, cuvalimodo.turns_into, wrong, (ctypes.c_int64 * 4)(), *rest)
+        raises(TypeError, cuvalimodo.turns_into, (ctypes.c_uint32 * 4)(), wrong, *rest)
 
 
 def check_overflows(deck):
@@ -133,6 +146,7 @@ def main():
                 raise
             counts[kind] += 1
     check_overflows(deck)
+    check_buffers(deck)
     print("Python: %(check)d card files, %(series)d series and %(turns)d searches for turns as the second code has them" % counts)
     sys.exit(0 if all(counts.values()) else 1)
 

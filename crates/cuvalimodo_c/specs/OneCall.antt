@@ -20,7 +20,7 @@ unlessRefused (heightIs h) refusal next = next
 unlessRefused (turnsAre count high) refusal next = next
 unlessRefused (refused number place) refusal next = refusal (refused number place)
 
--- "a refusal writes nothing": the buffers as they were
+-- refused, the lent buffers are as they were
 abbrev pub noSeries : List ℤ → Returned → SeriesGiven
 noSeries heights returned = record { returned = returned; heights = heights }
 
