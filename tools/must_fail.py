@@ -1,20 +1,23 @@
-"""Tries the must-fail edits of one crate, without those of the crates below it.
+#!/usr/bin/env python3
+"""Tries the wrong answers of one crate, each on a copy, without those of the crates below it.
 
-Usage: python3 tools/must_fail.py CRATE [LABEL ...]
-It tries crates/CRATE/must-fail, which the gate tries too, and crates/CRATE/extra-edits, which the gate leaves out for its time.
-Each edit is applied in place, `rt dev CRATE` must refuse it, and the file is put back. It prints each edit's first error, to be looked at:
-a good edit is refused at a fact that no longer holds.
+    tools/must_fail.py CRATE [LABEL ...]
+
+The crates below CRATE must be proved (`rt check CRATE`). For each edit of crates/CRATE/must-fail it prints the place and text of the first
+error, to be looked at: a good wrong answer is refused at a fact that no longer holds.
 """
 
-import glob
-import os
-import re
+import pathlib
+import shutil
 import subprocess
 import sys
+import tempfile
 import time
 
+import kit
 
-def pairs(text):
+
+def replacements(text):
     """The replacements of an edit: file, old, new."""
     name = old = None
     for line in text.split("\n"):
@@ -27,38 +30,32 @@ def pairs(text):
 
 
 def tried(crate, edit):
-    saved = {}
-    for name, old, new in pairs(open(edit).read()):
-        path = os.path.join("crates", crate, name)
-        text = open(path).read()
-        saved.setdefault(path, text)
-        if text.count(old) != 1:
-            restore(saved)
-            return "BAD EDIT: its text stands %d times in %s" % (text.count(old), name)
-        open(path, "w").write(text.replace(old, new))
-    began = time.time()
-    try:
-        run = subprocess.run(["rt", "dev", crate], capture_output=True, text=True, env=dict(os.environ, RT_CUT="0"))
-    finally:
-        restore(saved)
-    output = run.stdout + run.stderr
-    errors = [line for line in output.split("\n") if re.search(r": error", line)]
-    verdict = "NOT REFUSED" if run.returncode == 0 else "refused"
-    return "%s in %d s: %s" % (verdict, time.time() - began, errors[0][:240] if errors else output[-240:])
-
-
-def restore(saved):
-    for path, text in saved.items():
-        open(path, "w").write(text)
+    """What the prover says of a copy of the crate with the edit."""
+    with tempfile.TemporaryDirectory() as room:
+        copy = pathlib.Path(room)
+        for part in kit.PARTS:
+            if (kit.ROOT / "crates" / crate / part).exists():
+                shutil.copytree(kit.ROOT / "crates" / crate / part, copy / part)
+        for name, old, new in replacements(edit.read_text()):
+            text = (copy / name).read_text()
+            if text.count(old) != 1:
+                return f"BAD EDIT: its text stands {text.count(old)} times in {name}"
+            (copy / name).write_text(text.replace(old, new))
+        began = time.time()
+        run = subprocess.run(kit.check(crate, copy), capture_output=True, text=True)
+        said = (run.stdout + run.stderr).replace(room + "/", "")
+    errors = [line for line in said.split("\n") if ": error" in line]
+    verdict = "refused" if run.returncode == 1 and "\nlogic=not-proved" in said else "NOT REFUSED"
+    return f"{verdict} in {time.time() - began:.0f} s: {errors[0][:240] if errors else said[-240:]}"
 
 
 def main():
+    if len(sys.argv) < 2 or sys.argv[1] not in kit.crates():
+        sys.exit(__doc__)
     crate, labels = sys.argv[1], sys.argv[2:]
-    edits = glob.glob("crates/%s/must-fail/*.edit" % crate) + glob.glob("crates/%s/extra-edits/*.edit" % crate)
-    for edit in sorted(edits):
-        label = os.path.basename(edit)[:-5]
-        if not labels or label in labels:
-            print("%s/%s: %s" % (crate, label, tried(crate, edit)), flush=True)
+    for edit in sorted((kit.ROOT / "crates" / crate).glob("*/*.edit")):
+        if not labels or edit.stem in labels:
+            print(f"{crate}/{edit.stem}: {tried(crate, edit)}", flush=True)
 
 
 if __name__ == "__main__":

@@ -11,7 +11,7 @@ use Rattle.cosine.specs.Fixed.{one, entry, fixedBase, fixedCosine}
 use Rattle.calendar.specs.Calendar.{isFourth, monthDays, monthsDays, yearsDays, dayCount}
 use Rattle.arguments.specs.Longitudes.{longitude, longitudesOn}
 use Rattle.arguments.specs.Arguments.{times, argument}
-use Rattle.nodal.specs.Satellites.{sumOver, mainPair}
+use Rattle.satellites.specs.Satellites.{sumOver, mainPair}
 use Rattle.month.specs.Month.{constituent}
 use Rattle.heights.specs.Height.{heightAt}
 use Rattle.cases.specs.Starred.{starred, Z0, AllHold}

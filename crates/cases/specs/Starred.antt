@@ -12,11 +12,11 @@ use Rattle.calendar.specs.Calendar.{dayCount}
 use Rattle.arguments.specs.Longitudes.{Longitudes, longitudesOn}
 use Rattle.arguments.specs.Arguments.{argument}
 use Rattle.prepared.specs.Prepared.{Constituent}
-use Rattle.nodal.specs.Latitude.{factorsAt}
-use Rattle.nodal.specs.Satellites.{mainPair}
+use Rattle.latitude.specs.Latitude.{factorsAt}
+use Rattle.satellites.specs.Satellites.{mainPair}
 use Rattle.month.specs.Month.{nodal, constituent}
 use Rattle.heights.specs.Height.{angle, heightAt}
-use Rattle.turns.specs.Stride.{strideBy}
+use Rattle.strides.specs.Stride.{strideBy}
 
 pub data Case : Type 0 where
   _gives_ : ℤ → ℤ → Case

@@ -11,8 +11,8 @@ use denote.Ref.{now}
 use lib.IntN.{ℤ}
 use Rattle.cards.specs.Cards as cards
 use Rattle.cards.specs.Cards.{readCards}
-use Rattle.station.specs.declared.Record.{Record}
-use Rattle.station.specs.Posts.{recordsOf}
+use Rattle.records.specs.declared.Record.{Record}
+use Rattle.records.specs.Rows.{recordsOf}
 use Rattle.clock.specs.declared.Clock.{Clock}
 use Rattle.clock.specs.State as state
 use Rattle.clock.specs.State.{State, some, none}

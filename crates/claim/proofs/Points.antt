@@ -15,15 +15,16 @@ use Rattle.prepared.specs.Prepared.{Constituent}
 use Rattle.heights.specs.Exact.{Near}
 use Rattle.heights.specs.Height.{heightAt, seriesFrom, seriesOf}
 use Rattle.heights.proofs.Distance.{height-is-near}
-use Rattle.turns.specs.Slope.{slopeAt}
-use Rattle.turns.specs.Search.{Turn, turnsOf}
+use Rattle.slopes.specs.Slope.{slopeAt}
+use Rattle.search.specs.Search.{Turn, turnsOf}
 use Rattle.strides.specs.Strides.{stationStride}
 use Rattle.turns.specs.Written as written
-use Rattle.turns.specs.Written.{minutesOf}
+use Rattle.search.specs.Search.{firstHigh, minutesOf}
 use Rattle.clock.specs.State as state
 use Rattle.clock.specs.State.{Maybe, State}
 use Rattle.clock.specs.Returned.{Returned, accepted, heightIs, turnsAre, refused}
-use Rattle.clock.specs.Calls.{heightReturns, stepOutside, lastMinute, SeriesGiven, seriesRefused, seriesGives, TurnsGiven, turnsRefused, turnsGives, searched}
+use Rattle.clock.specs.Calls.{heightReturns, SeriesGiven, seriesRefused, seriesGives, TurnsGiven, turnsRefused, turnsGives, searched}
+use Rattle.asked.specs.Asked.{stepOutside, lastMinute}
 use Rattle.claim.specs.Document.{Request, Cards, Station, Date, Height, Series, Turns, Gave, told, wrote, found, Last, workedOut, after, gives, givesAll, Point, heightPoints, pointsFrom, seriesPoints, pointsOf, turnsPoints, points, constituentsIn, constituentsOf, AllNear, nil, cons, EachNear, end, next}
 
 -- ---- a height
@@ -92,7 +93,7 @@ turns-near first last minutes heights (state.some t) (state.some s) (state.some 
     given : Bool → List Turn → TurnsGiven
     given short ts =
         searched (cond short (record { returned = written.refused 10; minutes = minutes; heights = heights })
-        (record { returned = written.found (length ts) (written.firstHigh ts); minutes = written.inFront (minutesOf ts) minutes; heights = written.inFront (map (heightAt cs) (minutesOf ts)) heights }))
+        (record { returned = written.found (length ts) (firstHigh ts); minutes = written.inFront (minutesOf ts) minutes; heights = written.inFront (map (heightAt cs) (minutesOf ts)) heights }))
 
     room : (short : Bool) (ts : List Turn) → AllNear cs (turnsPoints (given short ts .returned) (given short ts .minutes) (given short ts .heights))
     room true ts = nil

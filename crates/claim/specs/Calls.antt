@@ -8,7 +8,7 @@ use contract.Lifetimes.{Lfts}
 use denote.Ref.{now}
 use denote.Triple.Clauses.{AtExit}
 use borrow.Fn.World.{World, ArgsD, ResD}
-use Rattle.station.specs.Posts.{recordsOf}
+use Rattle.records.specs.Rows.{recordsOf}
 use Rattle.clock.specs.declared.Clock.{Clock}
 use Rattle.clock.specs.Returned.{answerReturned, heightReturned, turnsReturned}
 use Rattle.claim.specs.Document.{Request, Cards, Station, Date, Height, Series, Turns, Gave, told, wrote, found}

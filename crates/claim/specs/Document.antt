@@ -9,7 +9,7 @@ use lib.IntN.{ℤ}
 use Rattle.table.specs.Table.{Table}
 use Rattle.cards.specs.Cards as cards
 use Rattle.cards.specs.Cards.{readCards}
-use Rattle.station.specs.declared.Record.{Record}
+use Rattle.records.specs.declared.Record.{Record}
 use Rattle.station.specs.Station as station
 use Rattle.prepared.specs.Prepared.{Constituent}
 use Rattle.heights.specs.Exact.{Near}

@@ -15,11 +15,11 @@ use Rattle.refusals.specs.Outcome.{Outcome, refuseIf}
 use Rattle.refusals.specs.declared.Answer.{Answer}
 use Rattle.table.specs.Table.{Table}
 use Rattle.station.specs.Station.{stationOutcome}
-use Rattle.station.specs.Rows.{rowsUpto}
-use Rattle.station.specs.Posts.{recordsOf}
-use Rattle.station.specs.declared.Record.{Record}
-use Rattle.station.specs.declared.Rows.{Rows}
-use Rattle.station.proofs.Copies.{records-length, lent-is}
+use Rattle.records.specs.Rows.{rowsUpto}
+use Rattle.records.specs.Rows.{recordsOf}
+use Rattle.records.specs.declared.Record.{Record}
+use Rattle.records.specs.declared.Rows.{Rows}
+use Rattle.records.proofs.Copies.{records-length, lent-is}
 use Rattle.clock.specs.declared.Clock.{Clock}
 use Rattle.clock.specs.State.{Maybe, none, some, State}
 use Rattle.clock.specs.Returned.{refused, told, onAccepted}

@@ -3,7 +3,5 @@ pub mod CardsCase
 pub mod Months
 pub mod Dates
 pub mod Stations
-pub mod Heights
-pub mod SeriesCase
-pub mod TurnsCase
 pub mod Lent
+pub mod Asked

@@ -22,7 +22,7 @@ use Rattle.month.specs.View.{preparedOf}
 use Rattle.month.specs.declared.Prepared.{Prepared}
 use Rattle.month.specs.declared.Preparation.the-variants as preparation
 use Rattle.month.proofs.Ranges.{prepared-in-range}
-use Rattle.turns.specs.Slope.{InRange}
+use Rattle.slopes.specs.Slope.{InRange}
 use Rattle.clock.specs.declared.Clock.{Clock}
 use Rattle.clock.specs.View.{view, Made}
 use Rattle.clock.specs.Posts.{PreparedPost}

@@ -13,8 +13,8 @@ use Rattle.refusals.specs.declared.Answer.the-variants.{Accepted, Refused}
 use Rattle.table.specs.View.{tableOf}
 use Rattle.station.specs.Station.{stationOutcome}
 use Rattle.station.specs.Posts as station
-use Rattle.station.specs.Posts.{recordsOf}
-use Rattle.station.specs.declared.Rows.{Rows}
+use Rattle.records.specs.Rows.{recordsOf}
+use Rattle.records.specs.declared.Rows.{Rows}
 use Rattle.station.specs.declared.Taken.{Taken}
 use Rattle.clock.specs.declared.Clock.{Clock}
 use Rattle.clock.specs.Calls.{stationReturns, stationLeaves}

@@ -14,7 +14,7 @@ use Rattle.table.specs.Table.{Frequency, noCards}
 use Rattle.table.specs.View.{tableOf, listed, frequencyOf}
 use Rattle.table.specs.declared.Table.{Table}
 use Rattle.table.proofs.Rows.{listed-length, listed-at}
-use Rattle.turns.specs.Slope.{InRange}
+use Rattle.slopes.specs.Slope.{InRange}
 
 -- as many frequencies as the struct counts
 pub frequencies-count : (t : Table) → length (tableOf t .frequencies) ≡ t .frequencies

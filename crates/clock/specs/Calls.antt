@@ -9,15 +9,16 @@ use lib.IntN.{ℤ}
 use Rattle.table.specs.Table.{Table}
 use Rattle.cards.specs.Cards as cards
 use Rattle.cards.specs.Cards.{readCards}
-use Rattle.station.specs.declared.Record.{Record}
+use Rattle.records.specs.declared.Record.{Record}
 use Rattle.station.specs.Station.{Station, stationOutcome}
 use Rattle.calendar.specs.Calendar.{inRange, monthMinutes}
 use Rattle.month.specs.Month.{Prepared, tooLarge, prepared, monthOf}
 use Rattle.heights.specs.Height.{heightAt, seriesOf}
-use Rattle.turns.specs.Slope.{slopeAt}
-use Rattle.turns.specs.Search.{turnsOf}
+use Rattle.slopes.specs.Slope.{slopeAt}
+use Rattle.search.specs.Search.{turnsOf}
 use Rattle.turns.specs.Written as written
 use Rattle.strides.specs.Strides.{stationStride}
+use Rattle.asked.specs.Asked.{lastMinute, stepOutside}
 use Rattle.clock.specs.State.{Maybe, none, some, Month, State}
 use Rattle.clock.specs.Returned.{Returned, accepted, heightIs, turnsAre, refused, told, onAccepted}
 
@@ -105,14 +106,6 @@ heightReturns k minute =
 pub record SeriesGiven : Type 0 where
   pub returned : Returned
   pub heights : List ℤ
-
--- the minute of the last of n places: "height n, from 0, at start + n × step". "The start is checked even with no place lent."
-abbrev pub lastMinute : ℕ → ℕ → ℕ → ℕ
-lastMinute start step places = start + (places - 1) * step
-
--- "a step of 1 to 1,440 minutes"
-abbrev pub stepOutside : ℕ → Bool
-stepOutside step = ltb step 1 || ltb 1_440 step
 
 -- "Heights, series, turns and every refused call leave [..]": refused, the places are as they were
 abbrev pub seriesRefused : List ℤ → ℕ → SeriesGiven

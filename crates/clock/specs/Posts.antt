@@ -5,7 +5,7 @@ use mathlib.Core.List.{List}
 use mathlib.Core.Path.{_≡_}
 use lib.IntN.{ℤ}
 use Rattle.refusals.specs.declared.Answer.{Answer}
-use Rattle.station.specs.declared.Record.{Record}
+use Rattle.records.specs.declared.Record.{Record}
 use Rattle.clock.specs.State.{State, nothing}
 use Rattle.clock.specs.Returned.{onAccepted, answerReturned, heightReturned, turnsReturned}
 use Rattle.table.specs.View.{tableOf}

@@ -8,7 +8,7 @@ use Rattle.table.specs.View.{tableOf}
 use Rattle.station.specs.Rows.{stationOf}
 use Rattle.prepared.specs.Prepared.{Constituent}
 use Rattle.prepared.specs.View.{constituentsFrom}
-use Rattle.turns.specs.Slope.{InRange}
+use Rattle.slopes.specs.Slope.{InRange}
 use Rattle.clock.specs.State.{Maybe, none, some, Month, State}
 use Rattle.clock.specs.declared.Clock.{Clock}
 

@@ -3,21 +3,18 @@
 // A call takes the clock and, where it can change it, gives it back. A refused call leaves the clock and the lent buffers as they were.
 // No call asks anything of its caller but a clock that `new` or another call made.
 ghost use mathlib.Core.Path.{_≡_};
-ghost use Prim.Native.Nat.{_≤_, _<_};
-ghost use lib.Dec.{ltb};
-ghost use Rattle.clock.specs.Calls.{lastMinute};
 ghost use mathlib.Core.Bool.{true};
 ghost use Rattle.calendar.specs.Calendar.{inRange};
 ghost use Rattle.clock.specs.View.{Made};
 ghost use Rattle.clock.specs.Posts.{NewPost, CardsPost, StationPost, DatePost, HeightPost, SeriesPost, TurnsPost, PreparedPost};
-ghost use Rattle.station.specs.Posts.{recordsOf};
+ghost use Rattle.records.specs.Rows.{recordsOf};
 ghost use Rattle.clock.specs.Parts.{withTable, withStation, withMonth};
 use month::Preparation;
 use prepared::Month;
+use records::Record;
+use records::Rows;
 use refusals::Answer;
 use refusals::Refusal;
-use station::Record;
-use station::Rows;
 use station::Station;
 use table::Table;
 use turns::Searched;
@@ -176,7 +173,7 @@ pub fn set_station(clock: Clock, latitude: i32, records: &[Record]) -> After
     ensures { λ r. ⌜ StationPost clock latitude (now (records .entry)) (r .answer) (r .clock) ⌝ }
 {
     let n = records.len();
-    let rows = station::rows_of(records);
+    let rows = records::rows_of(records);
     place_station(clock, latitude, n, rows)
 }
 
@@ -237,39 +234,26 @@ pub fn height(clock: Clock, minute: u32) -> HeightAnswer
     requires { ⌜ Made clock ⌝ }
     ensures { λ r. ⌜ HeightPost clock minute r ⌝ }
 {
-    if !clock.tabled {
-        return HeightAnswer::Refused(Refusal::NoTable, 0);
-    }
-    if !clock.stationed {
-        return HeightAnswer::Refused(Refusal::NoStation, 0);
-    }
-    if !clock.dated {
-        return HeightAnswer::Refused(Refusal::NoMonth, 0);
-    }
-    if clock.last < minute as u64 {
-        return HeightAnswer::Refused(Refusal::BadMinutes, 0);
-    }
-    HeightAnswer::Height(heights::height(
-        &clock.cosines,
-        &clock.arguments,
-        &clock.lags,
-        &clock.frequencies,
-        &clock.ps,
-        &clock.qs,
-        clock.count,
+    let asked = asked::height_answer(
+        clock.tabled,
+        clock.stationed,
+        clock.dated,
+        clock.last,
         minute as u64,
-    ))
-}
-
-// Whether the last of so many heights, from a start in the month on, is past the month's last minute.
-fn past_last(last: u64, start: u64, step: u64, places: usize) -> bool
-    requires { ⌜ (start ≤ last) × (0 < step) ⌝ }
-    ensures { λ r. ⌜ r ≡ ltb last (lastMinute start step places) ⌝ }
-{
-    if places == 0 {
-        return false;
+    );
+    match asked {
+        Answer::Accepted => HeightAnswer::Height(heights::height(
+            &clock.cosines,
+            &clock.arguments,
+            &clock.lags,
+            &clock.frequencies,
+            &clock.ps,
+            &clock.qs,
+            clock.count,
+            minute as u64,
+        )),
+        Answer::Refused(refusal, _) => HeightAnswer::Refused(refusal, 0),
     }
-    (last - start) / step < places as u64 - 1
 }
 
 // One height for each lent place, at start, start + step, start + 2 × step and so on; or a refusal.
@@ -277,40 +261,33 @@ pub fn series(clock: Clock, start: u32, step: u32, heights: &mut [i64]) -> Answe
     requires { ⌜ Made clock ⌝ }
     ensures { λ r. ⌜ SeriesPost clock start step (now (heights .entry)) (now (heights .exit)) r ⌝ }
 {
-    if !clock.tabled {
-        return Answer::Refused(Refusal::NoTable, 0);
-    }
-    if !clock.stationed {
-        return Answer::Refused(Refusal::NoStation, 0);
-    }
-    if !clock.dated {
-        return Answer::Refused(Refusal::NoMonth, 0);
-    }
-    if clock.last < start as u64 {
-        return Answer::Refused(Refusal::BadMinutes, 0);
-    }
-    if step < 1 {
-        return Answer::Refused(Refusal::BadMinutes, 0);
-    }
-    if 1_440 < step {
-        return Answer::Refused(Refusal::BadMinutes, 0);
-    }
-    if past_last(clock.last, start as u64, step as u64, heights.len()) {
-        return Answer::Refused(Refusal::BadMinutes, 0);
-    }
-    heights::series(
-        &clock.cosines,
-        &clock.arguments,
-        &clock.lags,
-        &clock.frequencies,
-        &clock.ps,
-        &clock.qs,
-        clock.count,
+    let asked = asked::series_answer(
+        clock.tabled,
+        clock.stationed,
+        clock.dated,
+        clock.last,
         start as u64,
         step as u64,
-        heights,
+        heights.len(),
     );
-    Answer::Accepted
+    match asked {
+        Answer::Accepted => {
+            heights::series(
+                &clock.cosines,
+                &clock.arguments,
+                &clock.lags,
+                &clock.frequencies,
+                &clock.ps,
+                &clock.qs,
+                clock.count,
+                start as u64,
+                step as u64,
+                heights,
+            );
+            Answer::Accepted
+        }
+        Answer::Refused(refusal, _) => Answer::Refused(refusal, 0),
+    }
 }
 
 // The high and low waters from the first minute to the last, into the lent buffers from their front; or a refusal.
@@ -324,40 +301,38 @@ pub fn turns(
     requires { ⌜ Made clock ⌝ }
     ensures { λ r. ⌜ TurnsPost clock first last (now (minutes .entry)) (now (minutes .exit)) (now (heights .entry)) (now (heights .exit)) r ⌝ }
 {
-    if !clock.tabled {
-        return TurnsAnswer::Refused(Refusal::NoTable, 0);
-    }
-    if !clock.stationed {
-        return TurnsAnswer::Refused(Refusal::NoStation, 0);
-    }
-    if !clock.dated {
-        return TurnsAnswer::Refused(Refusal::NoMonth, 0);
-    }
-    if clock.last < last as u64 {
-        return TurnsAnswer::Refused(Refusal::BadMinutes, 0);
-    }
-    if last < first {
-        return TurnsAnswer::Refused(Refusal::BadMinutes, 0);
-    }
-    let table = clock.table;
-    let station = clock.station;
-    let stride = strides::station_stride(table, station);
-    let found = turns::turns(
-        &clock.cosines,
-        &clock.arguments,
-        &clock.lags,
-        &clock.frequencies,
-        &clock.ps,
-        &clock.qs,
-        clock.count,
-        stride,
+    let asked = asked::turns_answer(
+        clock.tabled,
+        clock.stationed,
+        clock.dated,
+        clock.last,
         first as u64,
         last as u64,
-        minutes,
-        heights,
     );
-    match found {
-        Searched::Found(s) => TurnsAnswer::Turns(s.count, s.high),
-        Searched::TooMany => TurnsAnswer::Refused(Refusal::TooManyTurns, 0),
+    match asked {
+        Answer::Accepted => {
+            let table = clock.table;
+            let station = clock.station;
+            let stride = strides::station_stride(table, station);
+            let found = turns::turns(
+                &clock.cosines,
+                &clock.arguments,
+                &clock.lags,
+                &clock.frequencies,
+                &clock.ps,
+                &clock.qs,
+                clock.count,
+                stride,
+                first as u64,
+                last as u64,
+                minutes,
+                heights,
+            );
+            match found {
+                Searched::Found(s) => TurnsAnswer::Turns(s.count, s.high),
+                Searched::TooMany => TurnsAnswer::Refused(Refusal::TooManyTurns, 0),
+            }
+        }
+        Answer::Refused(refusal, _) => TurnsAnswer::Refused(refusal, 0),
     }
 }

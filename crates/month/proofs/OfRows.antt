@@ -10,11 +10,11 @@ use Rattle.table.specs.View.{listed, mainOf, shallowOf}
 use Rattle.arguments.specs.Longitudes.{Longitudes}
 use Rattle.arguments.specs.View.{rowArgument, shallowRowArgument}
 use Rattle.arguments.proofs.Views.{listed-map, main-row, shallow-row}
-use Rattle.nodal.specs.Latitude.{Factors}
+use Rattle.latitude.specs.Latitude.{Factors}
 use Rattle.nodal.specs.Ranges.{Small}
 use Rattle.nodal.specs.Shallow.{Corrected, pair, one, mainCorrected, shallowCorrected, timesParts}
 use Rattle.nodal.specs.View.{correctedOf, rowSatellites, rowCorrected, shallowRowCorrected}
-use Rattle.nodal.specs.declared.shallow.Corrected as code
+use Rattle.nodal.specs.declared.Corrected as code
 use Rattle.nodal.proofs.OfTable.{main-of-row}
 use Rattle.month.specs.Month.{Definition, main, shallow, undefined, firstWith, definitionAt, nodal, argumentOf, correctionOf}
 use Rattle.month.specs.View.{mainsOf, shallowsOf, placeIn, firstRow, IsWorked}

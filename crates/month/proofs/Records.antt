@@ -8,16 +8,18 @@ use native.Mathlib.Nat.{sub-zero}
 use lib.ListN.{getD}
 use Rattle.table.specs.Table.{Main, Shallow}
 use Rattle.prepared.specs.Prepared.{Constituent}
-use Rattle.station.specs.Rows.{recordFrom, recordsFrom}
+use Rattle.records.specs.Rows.{recordFrom, recordsFrom}
 use Rattle.arguments.specs.Longitudes.{Longitudes}
-use Rattle.nodal.specs.Latitude.{Factors}
-use Rattle.nodal.specs.Satellites.{Pair}
+use Rattle.latitude.specs.Latitude.{Factors}
+use Rattle.satellites.specs.Satellites.{Pair}
 use Rattle.nodal.specs.Shallow as pairs
 use Rattle.nodal.specs.Shallow.{pair}
-use Rattle.nodal.specs.Ranges.{Small, Sized}
-use Rattle.nodal.specs.View.{pairOf, correctedOf}
-use Rattle.nodal.specs.declared.satellites.Pair as code
-use Rattle.nodal.specs.declared.shallow.Corrected.the-variants.{TooLarge, Within}
+use Rattle.nodal.specs.Ranges.{Small}
+use Rattle.satellites.specs.Ranges.{Sized}
+use Rattle.satellites.specs.View.{pairOf}
+use Rattle.nodal.specs.View.{correctedOf}
+use Rattle.satellites.specs.declared.Pair as code
+use Rattle.nodal.specs.declared.Corrected.the-variants.{TooLarge, Within}
 use Rattle.month.specs.Month.{Prepared, tooLarge, prepared, before, recordThen, recordsPrepared, definitionAt, argumentOf, correctionOf, weight, constituent}
 use Rattle.month.specs.View.{IsWorked}
 use Rattle.month.specs.declared.Worked.{Worked}

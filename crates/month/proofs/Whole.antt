@@ -13,7 +13,7 @@ use Rattle.arguments.specs.View.{longitudesOf}
 use Rattle.arguments.specs.declared.Longitudes as code
 use Rattle.arguments.proofs.Reduced.{longitude-below}
 use Rattle.arguments.proofs.Views.{listed-map}
-use Rattle.nodal.specs.Latitude.{factorsAt}
+use Rattle.latitude.specs.Latitude.{factorsAt}
 use Rattle.month.specs.Month.{monthDay, monthOf}
 use Rattle.month.specs.View.{rowsPrepared, Reduced}
 

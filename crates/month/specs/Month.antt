@@ -11,11 +11,11 @@ use Rattle.calendar.specs.Calendar.{dayCount}
 use Rattle.table.specs.Table.{Main, Shallow, Table}
 use Rattle.prepared.specs.Prepared.{Constituent}
 use Rattle.station.specs.Station.{Station}
-use Rattle.station.specs.declared.Record.{Record}
+use Rattle.records.specs.declared.Record.{Record}
 use Rattle.arguments.specs.Longitudes.{Longitudes, longitudesOn}
 use Rattle.arguments.specs.Arguments.{mainArgument, shallowArgument}
-use Rattle.nodal.specs.Latitude.{Factors, factorsAt}
-use Rattle.nodal.specs.Satellites.{Pair}
+use Rattle.latitude.specs.Latitude.{Factors, factorsAt}
+use Rattle.satellites.specs.Satellites.{Pair}
 use Rattle.nodal.specs.Shallow as pairs
 use Rattle.nodal.specs.Shallow.{Corrected, pair, mainCorrected, shallowCorrected}
 

@@ -13,10 +13,10 @@ use Rattle.prepared.specs.declared.Month.{Month}
 use Rattle.table.specs.Table.{Main, Shallow}
 use Rattle.table.specs.View.{listed, naturals, mainOf, shallowOf}
 use Rattle.table.specs.declared.Table as table
-use Rattle.station.specs.declared.Record.{Record}
+use Rattle.records.specs.declared.Record.{Record}
 use Rattle.arguments.specs.declared.Longitudes as longitudes
 use Rattle.arguments.specs.Longitudes.{Longitudes}
-use Rattle.nodal.specs.Latitude.{Factors}
+use Rattle.latitude.specs.Latitude.{Factors}
 use Rattle.nodal.specs.Ranges.{Small}
 use Rattle.nodal.specs.View.{correctedOf}
 use Rattle.month.specs.Month.{Prepared, tooLarge, prepared, definitionAt, argumentOf, correctionOf, recordsPrepared}

@@ -7,7 +7,7 @@ use native.Mathlib.Omega.{arith}
 use Rattle.table.specs.Table.{Part}
 use Rattle.table.specs.View.{listed}
 use Rattle.table.proofs.Rows.{listed-next, listed-end}
-use Rattle.nodal.specs.Satellites.{Pair}
+use Rattle.satellites.specs.Satellites.{Pair}
 use Rattle.nodal.specs.Shallow.{Corrected, pair, andThen, checked, timesPair, timesOften, timesPart, timesParts}
 
 -- so many times by one pair

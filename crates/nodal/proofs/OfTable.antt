@@ -6,7 +6,7 @@ use Prim.Native.Nat.{ℕ, zero, suc}
 use lib.IntN.{ℤ}
 use Rattle.table.specs.View.{listed, mainOf, shallowOf, tableOf}
 use Rattle.table.specs.declared.Table.{Table}
-use Rattle.nodal.specs.Latitude.{Factors}
+use Rattle.latitude.specs.Latitude.{Factors}
 use Rattle.nodal.specs.Shallow.{mainCorrected, one, timesParts, shallowCorrected}
 use Rattle.nodal.specs.View.{rowSatellites, rowCorrected, shallowRowCorrected}
 

@@ -1,15 +1,15 @@
 -- 01, "Satellites and weights": a shallow-water constituent's pair, and refusal 11.
 -- Assumes nothing.
 use Prim.Native.Nat.{ℕ, zero, suc, _^_}
-use mathlib.Core.Bool.{Bool, true, false, cond}
+use mathlib.Core.Bool.{cond}
 use mathlib.Core.List.{List, [], _∷_, map}
 use lib.Dec.{ltb}
 use lib.IntN.{ℤ, pos, negsuc, negℤ, natAbs, _+ℤ_, _-ℤ_, _*ℤ_}
 use lib.ListN.{getD}
 use Rattle.angles.specs.Floor.{floorDiv}
 use Rattle.table.specs.Table.{Main, Part, Shallow}
-use Rattle.nodal.specs.Latitude.{Factors}
-use Rattle.nodal.specs.Satellites.{Pair, mainPair}
+use Rattle.latitude.specs.Latitude.{Factors}
+use Rattle.satellites.specs.Satellites.{Pair, mainPair}
 
 -- A constituent's pair, or none, by refusal 11.
 pub data Corrected : Type 0 where

@@ -1,33 +1,17 @@
--- What the code's structs stand for, and the pairs of rows of the code's table.
+-- What the code's answer stands for, and the pairs of rows of the code's table.
 -- Assumes nothing.
 use Prim.Native.Nat.{ℕ}
-use mathlib.Core.List.{List, [], _∷_}
+use mathlib.Core.List.{List}
 use lib.IntN.{ℤ}
 use lib.ListN.{getD}
-use Rattle.table.specs.Table.{markOf, Satellite}
+use Rattle.table.specs.Table.{Satellite}
 use Rattle.table.specs.View.{listed, naturals, satelliteOf, shallowOf}
-use Rattle.nodal.specs.Latitude.{Factors}
-use Rattle.nodal.specs.Satellites.{Pair, mainPair}
+use Rattle.latitude.specs.Latitude.{Factors}
+use Rattle.satellites.specs.Satellites.{mainPair}
+use Rattle.satellites.specs.View.{pairOf}
 use Rattle.nodal.specs.Shallow.{Corrected, tooLarge, pair, checked, one, timesParts}
-use Rattle.nodal.specs.declared.latitude.Factors as factors
-use Rattle.nodal.specs.declared.satellites.Nodal as nodal
-use Rattle.nodal.specs.declared.satellites.Satellite as satellite
-use Rattle.nodal.specs.declared.satellites.Pair as two
-use Rattle.nodal.specs.declared.shallow.Corrected as answer
-use Rattle.nodal.specs.declared.shallow.Corrected.the-variants.{TooLarge, Within}
-
-abbrev pub factorsOf : factors.Factors → Factors
-factorsOf g = record { diurnal = g .diurnal; semidiurnal = g .semidiurnal }
-
--- (p, N', p')
-abbrev pub longitudesOf : nodal.Nodal → List ℕ
-longitudesOf l = l .perigee ∷ l .node ∷ l .solar ∷ []
-
-abbrev pub theSatellite : satellite.Satellite → Satellite
-theSatellite s = record { differences = s .first ∷ s .second ∷ s .third ∷ []; phase = s .phase; ratio = s .ratio; mark = markOf (s .mark) }
-
-abbrev pub pairOf : two.Pair → Pair
-pairOf p = record { x = p .x; y = p .y }
+use Rattle.nodal.specs.declared.Corrected as answer
+use Rattle.nodal.specs.declared.Corrected.the-variants.{TooLarge, Within}
 
 abbrev pub correctedOf : answer.Corrected → Corrected
 correctedOf TooLarge = tooLarge

@@ -4,9 +4,9 @@ ghost use lib.ListN.{length};
 ghost use Rattle.input.specs.Window.{Within};
 ghost use Rattle.reading.specs.Posts.{FilePost};
 use input::Window;
+use records::Rows;
 use script::Call;
 use script::Entry;
-use station::Rows;
 use std::num::wrapping_add_u64;
 
 // The call of a line, the number of that line, and the window behind it.

@@ -2,11 +2,16 @@
 ghost use mathlib.Core.Path.{_≡_};
 ghost use mathlib.Core.List.{_∷_};
 ghost use Prim.Native.Nat.{_+_, _-_, _≤_, _^_};
-ghost use lib.ListN.{length, drop};
+ghost use lib.ListN.{length};
 ghost use lib.IntN.{pos, negℤ};
-ghost use Rattle.script.specs.Script as script;
-ghost use Rattle.script.specs.Script.{callOf, callOfWords, recordOf, reading, lastNumber, same, hasMinus, stationAt, stationOf, cardsOf, dateOf, heightOf, seriesOf, turnsOf};
-ghost use Rattle.script.specs.Left.{wordsFrom, wordLength, readingAt};
+ghost use Rattle.script.specs.Script.{callOf, callOfWords, recordOf, same, hasMinus, stationAt, stationOf, cardsOf, dateOf, heightOf, seriesOf, turnsOf};
+ghost use Rattle.words.specs.Left.{wordsFrom};
+use words::Field;
+use words::LARGEST;
+use words::Number;
+use words::field_at;
+use words::last_at;
+use words::word_end;
 
 // A line's call: its word and its numbers.
 pub enum Call {
@@ -27,101 +32,6 @@ pub enum Entry {
         phase: u32,
     },
     Bad,
-}
-
-// A word that is a number, or is not.
-pub enum Number {
-    Value(u32),
-    NoNumber,
-}
-
-// A number in a line, and where the next word begins; past the line's end where there is none.
-pub enum Field {
-    Read(u32, usize),
-    NoField,
-}
-
-const LARGEST: u32 = 4_294_967_295;
-
-// The digit's value.
-fn digit(byte: u8) -> u64
-    requires { ⌜ 48 ≤ byte ⌝ }
-    ensures { λ r. ⌜ r ≡ byte - 48 ⌝ }
-    ensures { λ r. ⌜ r ≤ 255 ⌝ }
-{
-    (byte - 48) as u64
-}
-
-// A word as a decimal number of at most `most`.
-fn number_of(word: &[u8], most: u32) -> Number
-    ensures { λ r. ⌜ r ≡ script.number most (now (word .entry)) ⌝ }
-{
-    if word.len() == 0 {
-        return Number::NoNumber;
-    }
-    let mut value: u64 = 0;
-    let mut i = 0;
-    while i < word.len() {
-        let byte = word[i];
-        if byte < 48 {
-            return Number::NoNumber;
-        }
-        if 57 < byte {
-            return Number::NoNumber;
-        }
-        let next = 10 * value + digit(byte);
-        if (most as u64) < next {
-            return Number::NoNumber;
-        }
-        value = next;
-        i += 1;
-    }
-    Number::Value(value as u32)
-}
-
-// Where the word ends that begins at a byte of a line.
-fn word_end(line: &[u8], at: usize) -> usize
-    requires { ⌜ at ≤ length (now line) ⌝ }
-    ensures { λ r. ⌜ r ≡ at + wordLength (drop at (now (line .entry))) ⌝ }
-    ensures { λ r. ⌜ r ≤ length (now (line .entry)) ⌝ }
-{
-    let mut i = at;
-    while i < line.len() {
-        if line[i] == 32 {
-            return i;
-        }
-        i += 1;
-    }
-    i
-}
-
-// The number that stands at a byte of a line, of at most `most`.
-fn field_at(line: &[u8], at: usize, most: u32) -> Field
-    ensures { λ r. ⌜ readingAt (now (line .entry)) r ≡ reading most (wordsFrom (now (line .entry)) at) ⌝ }
-{
-    if line.len() < at {
-        return Field::NoField;
-    }
-    let end = word_end(line, at);
-    let number = number_of(&line[at..end], most);
-    match number {
-        Number::Value(value) => Field::Read(value, end + 1),
-        Number::NoNumber => Field::NoField,
-    }
-}
-
-// The number that stands at a byte of a line, with nothing behind it.
-fn last_at(line: &[u8], at: usize) -> Number
-    ensures { λ r. ⌜ r ≡ lastNumber (wordsFrom (now (line .entry)) at) ⌝ }
-{
-    let field = field_at(line, at, LARGEST);
-    let Field::Read(value, next) = field else {
-        return Number::NoNumber;
-    };
-    if next <= line.len() {
-        return Number::NoNumber;
-    }
-    Number::Value(value)
 }
 
 // cards BYTES

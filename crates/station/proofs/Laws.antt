@@ -1,8 +1,8 @@
 -- Laws of the station's definitions that the loops cite: what one more record adds.
 -- Assumes nothing.
-use mathlib.Core.Path.{_≡_, refl, sym, ap, _∙_}
+use mathlib.Core.Path.{_≡_, refl, ap}
 use Prim.Native.Nat.{ℕ, zero, suc, _+_, _-_, _%_, _≤_, _<_}
-use mathlib.Core.List.{List, [], _∷_}
+use mathlib.Core.List.{List, []}
 use mathlib.Core.Bool.{Bool, true, false, cond}
 use native.Mathlib.Nat.{not-suc-le-zero, mod-eq-of-lt}
 use native.Mathlib.Numerals.{sub-one, add-one}
@@ -12,13 +12,14 @@ use lib.Dec.{eqb, leb, ltb}
 use borrow.Author.Tests.{ltb-false}
 use Rattle.refusals.specs.Outcome.{Outcome, accepted, refused, refuseIf, andThen, numberOf, outcomeOf}
 use Rattle.refusals.specs.declared.Answer.{Answer}
-use Rattle.refusals.specs.declared.Answer.the-variants.{Accepted, Refused}
+use Rattle.refusals.specs.declared.Answer.the-variants.{Refused}
 use Rattle.refusals.specs.declared.Refusal.{Refusal}
-use Rattle.station.specs.declared.Record.{Record}
-use Rattle.station.specs.declared.Rows.{Rows}
+use Rattle.records.specs.declared.Record.{Record}
+use Rattle.records.specs.declared.Rows.{Rows}
 use Rattle.station.specs.declared.Station as code
 use Rattle.station.specs.Station.{repeated, recordOutcome, recordsOutcome}
-use Rattle.station.specs.Rows.{placesBefore, recordAt, recordFrom, recordsFrom, stationUpto, putRecord}
+use Rattle.station.specs.Rows.{placesBefore, stationUpto, putRecord}
+use Rattle.records.specs.Rows.{recordAt, recordsFrom}
 
 -- a place among the first k is the last of them, or among those before it
 pub repeated-more : (place : ℕ) (places : List ℕ) (k : ℕ) → 0 < k

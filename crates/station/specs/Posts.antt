@@ -1,20 +1,16 @@
 -- What the station's functions promise.
 -- Assumes nothing.
 use Prim.Native.Nat.{ℕ}
-use mathlib.Core.List.{List, []}
+use mathlib.Core.List.{[]}
 use mathlib.Core.Path.{_≡_}
 use lib.IntN.{ℤ}
 use Rattle.refusals.specs.Outcome.{accepted, outcomeOf}
-use Rattle.station.specs.declared.Record.{Record}
-use Rattle.station.specs.declared.Rows.{Rows}
+use Rattle.records.specs.declared.Rows.{Rows}
+use Rattle.records.specs.Rows.{recordsOf}
 use Rattle.station.specs.declared.Station as code
 use Rattle.station.specs.declared.Taken.{Taken}
-use Rattle.station.specs.Station.{Station, recordsOutcome, stationOutcome}
-use Rattle.station.specs.Rows.{recordsFrom, stationOf, stationUpto}
-
--- the n records of the rows
-abbrev pub recordsOf : Rows → ℕ → List Record
-recordsOf rows n = recordsFrom (rows .places) (rows .amplitudes) (rows .phases) 0 n
+use Rattle.station.specs.Station.{recordsOutcome, stationOutcome}
+use Rattle.station.specs.Rows.{stationOf, stationUpto}
 
 pub record RecordsPost (frequencies : ℕ) (empty : code.Station) (n : ℕ) (rows : Rows) (r : Taken) : Type 0 where
   pub says : outcomeOf (r .answer) ≡ recordsOutcome frequencies [] 1 (recordsOf rows n)

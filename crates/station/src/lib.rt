@@ -1,28 +1,14 @@
 // A station: a latitude and its constituents' records, accepted whole or refused at the first record that is at fault.
 ghost use mathlib.Core.Path.{_≡_};
-ghost use mathlib.Core.List.{[]};
-ghost use Prim.Native.Nat.{_+_, _%_, _<_, _≤_, min};
-ghost use lib.ListN.{length, getD};
+ghost use Prim.Native.Nat.{_+_, _%_, _<_, _≤_};
 ghost use Rattle.refusals.specs.Outcome.{outcomeOf};
 ghost use Rattle.station.specs.Station.{repeated, recordOutcome};
-ghost use Rattle.station.specs.Rows.{noRows, putRow, rowsUpto, placesBefore, recordAt, noStation, putRecord};
+ghost use Rattle.station.specs.Rows.{placesBefore, noStation, putRecord};
 ghost use Rattle.station.specs.Posts.{RecordsPost, StationPost};
+ghost use Rattle.records.specs.Rows.{recordAt};
+use records::Rows;
 use refusals::Answer;
 use refusals::Refusal;
-
-// One of a station's constituents, as it is lent: its place in the table, its amplitude and its phase lag.
-pub struct Record {
-    pub place: u8,
-    pub amplitude: u32,
-    pub phase: u32,
-}
-
-// The records taken apart: an array for each field.
-pub struct Rows {
-    pub places: [u8; 146],
-    pub amplitudes: [u32; 146],
-    pub phases: [u32; 146],
-}
 
 // An accepted station: amplitudes in tenths of a millimetre, phase lags in hundredths of a degree.
 pub struct Station {
@@ -86,51 +72,6 @@ fn record_answer(frequencies: usize, rows: Rows, k: usize) -> Answer
         return Answer::Refused(Refusal::OutOfRange, k + 1);
     }
     Answer::Accepted
-}
-
-// Rows with one more record.
-fn put(rows: Rows, k: usize, place: u8, amplitude: u32, phase: u32) -> Rows
-    requires { ⌜ k < 146 ⌝ }
-    ensures { λ r. ⌜ r ≡ putRow rows k place amplitude phase ⌝ }
-{
-    let mut out = rows;
-    out.places[k] = place;
-    out.amplitudes[k] = amplitude;
-    out.phases[k] = phase;
-    out
-}
-
-// No rows yet.
-fn none() -> Rows
-    ensures { λ r. ⌜ r ≡ noRows ⌝ }
-{
-    Rows {
-        places: [0u8; 146],
-        amplitudes: [0u32; 146],
-        phases: [0u32; 146],
-    }
-}
-
-// Past 146 nothing is taken: a longer row is refused by its count.
-fn at_most(n: usize) -> usize
-    ensures { λ r. ⌜ r ≡ min n 146 ⌝ }
-{
-    if n < 146 { n } else { 146 }
-}
-
-// The records taken apart, the first 146 of them: the thin function over the lent slice of structs. Its proof is a walk by hand.
-pub fn rows_of(rs: &[Record]) -> Rows
-    ensures { λ r. ⌜ r ≡ rowsUpto (now (rs .entry)) (min (length (now (rs .entry))) 146) ⌝ }
-{
-    let m = at_most(rs.len());
-    let mut rows = none();
-    let mut i: usize = 0;
-    while i < m {
-        let r = rs[i];
-        rows = put(rows, i, r.place, r.amplitude, r.phase);
-        i += 1;
-    }
-    rows
 }
 
 // The station with record k kept.

@@ -1,1 +1,2 @@
+pub mod Stride
 pub mod Strides

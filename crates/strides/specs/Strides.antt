@@ -8,9 +8,9 @@ use Rattle.columns.specs.Names.{placeOf}
 use Rattle.columns.specs.declared.Found.{Found}
 use Rattle.columns.specs.declared.Found.the-variants.{At, Nothing}
 use Rattle.table.specs.Table.{Table, Frequency}
-use Rattle.station.specs.declared.Record.{Record}
+use Rattle.records.specs.declared.Record.{Record}
 use Rattle.station.specs.Station.{Station}
-use Rattle.turns.specs.Stride.{strideOf}
+use Rattle.strides.specs.Stride.{strideOf}
 
 -- the amplitude of the record with a place, 0 where there is none
 unfoldable pub amplitudeAt : List Record → ℕ → ℕ

@@ -4,19 +4,15 @@ use mathlib.Core.Path.{_≡_, _∙_}
 use mathlib.Core.Bool.{Bool}
 use mathlib.Core.List.{List, map}
 use Prim.Native.Nat.{ℕ, _+_, _≤_, _<_}
-use native.Mathlib.Nat.{zero-add}
 use native.Mathlib.Numerals.{add-one}
 use native.Mathlib.Omega.{arith}
 use lib.IntN.{ℤ}
 use lib.ListN.{length, getD, set, take, drop, length-map, drop-of-length-le}
 use lib.Seq.{sets, sets-eq, drop-cons, length-take-le, getD-take}
 use borrow.Author.Tests.{lt-ltb, le-ltb}
-use Rattle.turns.specs.Search.{Turn}
-use Rattle.turns.specs.Written.{found, refused, inFront, firstHigh, minutesOf, given}
-
--- all of a list stored from the front
-pub stored-all : {A : Type 0} (vs l : List A) → length vs ≤ length l → sets l 0 vs ≡ inFront vs l
-stored-all vs l h = let e = zero-add (length vs) in sets-eq vs l 0 (omega arith) ∙ rw e
+use Rattle.search.specs.Search.{Turn, firstHigh, minutesOf}
+use Rattle.search.proofs.Stored.{stored-all}
+use Rattle.turns.specs.Written.{found, refused, inFront, given}
 
 -- the first n of a list, each by a rule
 module _ {A : Type 0} (f : ℕ → A) (n : ℕ) (ks : List ℕ) (fit : n ≤ length ks) (l : List A) where

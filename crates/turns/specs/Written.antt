@@ -6,7 +6,9 @@ use mathlib.Core.List.{List, [], _∷_, _++_, map}
 use lib.Dec.{ltb}
 use lib.IntN.{ℤ}
 use lib.ListN.{length, drop}
-use Rattle.turns.specs.Search.{Turn}
+use Rattle.prepared.specs.View.{constituentsFrom}
+use Rattle.heights.specs.Height.{heightAt}
+use Rattle.search.specs.Search.{Turn, firstHigh, minutesOf}
 use Rattle.turns.specs.declared.Searched.{Searched}
 use Rattle.turns.specs.declared.Searched.the-variants.{Found, TooMany}
 
@@ -28,18 +30,13 @@ pub record Given : Type 0 where
 abbrev pub givenOf : Searched → List ℕ → List ℤ → Given
 givenOf r minutes heights = record { returned = returnedOf r; minutes = minutes; heights = heights }
 
--- "whether the first is high .. (false if none)"
-abbrev pub firstHigh : List Turn → Bool
-firstHigh [] = false
-firstHigh (t ∷ ts) = t .high
-
 -- "from the front, the rest unchanged"
 abbrev pub inFront : {A : Type 0} → List A → List A → List A
 inFront new old = new ++ drop (length new) old
 
--- the minutes of turns
-abbrev pub minutesOf : List Turn → List ℕ
-minutesOf turns = map (λ (t : Turn). t .minute) turns
+-- the height of the constituents that five lists hold
+abbrev pub heightOf : List ℕ → List ℕ → List ℕ → List ℤ → List ℤ → ℕ → ℕ → ℤ
+heightOf arguments lags frequencies ps qs count = heightAt (constituentsFrom arguments lags frequencies ps qs count)
 
 -- "Written: minutes, heights" (of each turn's minute), "from the front"; refused: "more turns than either lent buffer holds"
 unfoldable pub given : (ℕ → ℤ) → List Turn → List ℕ → List ℤ → Given

@@ -9,10 +9,10 @@ ghost use Rattle.input.specs.Window.{Within};
 use input::Window;
 use month::Preparation;
 use prepared::Month;
+use records::Rows;
 use refusals::Answer;
 use refusals::Refusal;
 use script::Call;
-use station::Rows;
 use station::Station;
 use table::Table;
 

@@ -1,69 +1,55 @@
+-- `clock::series` meets its contract: refused by what is asked first, or the month's heights (`Asked`). Assumes nothing.
 use borrow.Author.Needs.{needs}
 use Rattle.clock.proofs.series.Statement.{statement}
 use Rattle.clock.proofs.series.Tie as tie
-use Rattle.clock.proofs.series.Reads as reads
-use Rattle.clock.proofs.series.Lts as lts
-use Rattle.clock.proofs.past_last.Reads as past-last-reads
-use Rattle.heights.proofs.series.Reads as series-reads
-use borrow.Author.Tests.{not-true, not-false, lt-ltb, le-ltb}
-use Rattle.clock.proofs.SeriesCase.{series-21, series-22, series-23, series-9, series-given}
+use native.Mathlib.Omega.{arith}
+use Prim.Native.Nat.{_≤_}
+use mathlib.Core.Path.{sym, ap, _∙_}
+use Rattle.refusals.specs.Outcome.{outcomeOf}
+use Rattle.asked.proofs.Passed.{series-within}
+use Rattle.clock.proofs.Asked.{series-refused, series-given}
 
--- src/lib.rt:266:9
-returns : tie.Need-returns
-returns c = let s = c .before in series-21 (s .args .t1) (s .args .start) (s .args .step) _ (not-true (s .args .t1 .tabled) (c .if1 .taken))
+series-answer-requires : tie.Need-series-answer-requires
+series-answer-requires c κs = search needs
 
--- src/lib.rt:269:9
-returns-2 : tie.Need-returns-2
-returns-2 c = let s = c .before .before in series-22 (s .args .t1) (s .args .start) (s .args .step) _ (not-false (s .args .t1 .tabled) (c .before .if1 .left)) (not-true (s .args .t1 .stationed) (c .if2 .taken))
+enum-told : tie.Need-enum-told
+enum-told c = search needs
 
--- src/lib.rt:272:9
-returns-3 : tie.Need-returns-3
-returns-3 c = let s = c .before .before .before in series-23 (s .args .t1) (s .args .start) (s .args .step) _ (not-false (s .args .t1 .tabled) (c .before .before .if1 .left)) (not-false (s .args .t1 .stationed) (c .before .if2 .left)) (not-true (s .args .t1 .dated) (c .if3 .taken))
-
--- src/lib.rt:275:9
-returns-4 : tie.Need-returns-4
-returns-4 c = let s = c .before .before .before .before in series-9 (s .args .t1) (s .args .start) (s .args .step) _ (not-false (s .args .t1 .tabled) (c .before .before .before .if1 .left)) (not-false (s .args .t1 .stationed) (c .before .before .if2 .left)) (not-false (s .args .t1 .dated) (c .before .if3 .left)) (simp (lt-ltb _ _ (c .if4 .taken)))
-
--- src/lib.rt:278:9
-returns-5 : tie.Need-returns-5
-returns-5 c = let s = c .before .before .before .before .before in series-9 (s .args .t1) (s .args .start) (s .args .step) _ (not-false (s .args .t1 .tabled) (c .before .before .before .before .if1 .left)) (not-false (s .args .t1 .stationed) (c .before .before .before .if2 .left)) (not-false (s .args .t1 .dated) (c .before .before .if3 .left)) (simp (le-ltb _ _ (c .before .if4 .left), lt-ltb _ _ (c .if5 .taken)))
-
--- src/lib.rt:281:9
-returns-6 : tie.Need-returns-6
-returns-6 c = let s = c .before .before .before .before .before .before in series-9 (s .args .t1) (s .args .start) (s .args .step) _ (not-false (s .args .t1 .tabled) (c .before .before .before .before .before .if1 .left)) (not-false (s .args .t1 .stationed) (c .before .before .before .before .if2 .left)) (not-false (s .args .t1 .dated) (c .before .before .before .if3 .left)) (simp (le-ltb _ _ (c .before .before .if4 .left), le-ltb _ _ (c .before .if5 .left), lt-ltb _ _ (c .if6 .taken)))
-
--- src/lib.rt:283:8
-past-last-requires : tie.Need-past-last-requires
-past-last-requires c κs = search needs
-
--- src/lib.rt:284:9
-returns-7 : tie.Need-returns-7
-returns-7 c = let s = c .before .before .before .before .before .before .before .before in series-9 (s .args .t1) (s .args .start) (s .args .step) _ (not-false (s .args .t1 .tabled) (c .before .before .before .before .before .before .before .if1 .left)) (not-false (s .args .t1 .stationed) (c .before .before .before .before .before .before .if2 .left)) (not-false (s .args .t1 .dated) (c .before .before .before .before .before .if3 .left)) (simp (le-ltb _ _ (c .before .before .before .before .if4 .left), le-ltb _ _ (c .before .before .before .if5 .left), le-ltb _ _ (c .before .before .if6 .left), ← c .before .past-last .ensures, c .if7 .taken))
-
--- src/lib.rt:286:5
 series-requires : tie.Need-series-requires
-series-requires c κs = search needs
+series-requires c κs =
+    let s = c .before .before .before .before .before .before .before .before .before .before .before in
+    let k = s .args .t1 in
+    let a = c .before .before .before .before .before .before .before .before .before .before .series-answer in
+    let w = series-within (k .tabled) (k .stationed) (k .dated) (k .last) (s .args .start) (s .args .step) _ (sym (a .ensures) ∙ ap outcomeOf (c .before .before .before .before .before .before .before .before .enum-told .given .1)) in
+    let within : s .args .start ≤ 44_640 = omega (arith, w .0, s .pre .last) in
+    (s .pre .cosines, (s .pre .count, (within, w .1)))
 
--- src/lib.rt:261:1
+enum-known-asked : tie.Need-enum-known-asked
+enum-known-asked c = search needs
+
 same-length : tie.Need-same-length
 same-length c = search needs
 
--- src/lib.rt:261:1
-returns-8 : tie.Need-returns-8
-returns-8 c = let s = c .before .before .before .before .before .before .before .before .before .before .before .before .before .before .before .before .before .before in rw (c .before .series .ensures) (series-given (s .args .t1) (s .args .start) (s .args .step) _ (not-false (s .args .t1 .tabled) (c .before .before .before .before .before .before .before .before .before .before .before .before .before .before .before .before .before .if1 .left)) (not-false (s .args .t1 .stationed) (c .before .before .before .before .before .before .before .before .before .before .before .before .before .before .before .before .if2 .left)) (not-false (s .args .t1 .dated) (c .before .before .before .before .before .before .before .before .before .before .before .before .before .before .before .if3 .left)) (simp (le-ltb _ _ (c .before .before .before .before .before .before .before .before .before .before .before .before .before .before .if4 .left), le-ltb _ _ (c .before .before .before .before .before .before .before .before .before .before .before .before .before .if5 .left), le-ltb _ _ (c .before .before .before .before .before .before .before .before .before .before .before .before .if6 .left), ← c .before .before .before .before .before .before .before .before .before .before .before .past-last .ensures, c .before .before .before .before .before .before .before .before .before .before .if7 .left)))
+returns : tie.Need-returns
+returns c =
+    let s = c .before .before .before .before .before .before .before .before .before .before .before .before .before in
+    let a = c .before .before .before .before .before .before .before .before .before .before .before .before .series-answer in
+    rw (c .before .series .ensures) (series-given (s .args .t1) (s .args .start) (s .args .step) _ (a .result) (a .ensures) (c .before .before .before .before .before .before .before .before .before .before .enum-told .given .1))
+
+returns-2 : tie.Need-returns-2
+returns-2 c =
+    let s = c .before .before .before .before in
+    let a = c .before .before .before .series-answer in
+    series-refused (s .args .t1) (s .args .start) (s .args .step) _ (a .result) (a .ensures) _ _ (c .before .asked .given .1)
 
 pub series-spec : {M : Type 1} → statement M
 series-spec =
     tie.close
     (tie.spec
-    returns
-    returns-2
-    returns-3
-    returns-4
-    returns-5
-    returns-6
-    past-last-requires
-    returns-7
+    series-answer-requires
+    enum-told
     series-requires
+    enum-known-asked
     same-length
-    returns-8)
+    returns
+    returns-2)

@@ -39,17 +39,17 @@ use denote.Triple.Call.{calls-at}
 use denote.Triple.Clauses.{ensured, lasts}
 use denote.Triple.Table.{entered, cited}
 use denote.Triple.Walked.{says, needs, Stays, stay-none, stay-dropped, stay-none-slice, walkOf, Walks, ends-at, walked, goes-none, goes-dropped, goes-none-slice, walk-meets}
-use Rattle.station.specs.declared.Record.{Record}
-use Rattle.station.specs.declared.Rows.{Rows}
-use Rattle.station.specs.Rows.{rowsUpto}
-use Rattle.station.specs.Posts.{recordsOf}
-use Rattle.station.proofs.Record as T
-use Rattle.station.proofs.Rows as R
-use Rattle.station.proofs.Rows.Laws as R′
-use Rattle.station.proofs.rows_of as rows
-use Rattle.station.proofs.rows_of.Symbol as rows-def
-use Rattle.station.proofs.rows_of.Symbol.{name as #station·rows-of}
-use Rattle.station.proofs.rows_of.Met as rows-thm
+use Rattle.records.specs.declared.Record.{Record}
+use Rattle.records.specs.declared.Rows.{Rows}
+use Rattle.records.specs.Rows.{rowsUpto}
+use Rattle.records.specs.Rows.{recordsOf}
+use Rattle.records.proofs.Record as T
+use Rattle.records.proofs.Rows as R
+use Rattle.records.proofs.Rows.Laws as R′
+use Rattle.records.proofs.rows_of as rows
+use Rattle.records.proofs.rows_of.Symbol as rows-def
+use Rattle.records.proofs.rows_of.Symbol.{name as #records·rows-of}
+use Rattle.records.proofs.rows_of.Met as rows-thm
 use Rattle.clock.specs.declared.Clock.{Clock}
 use Rattle.clock.specs.declared.After.{After}
 use Rattle.clock.specs.View.{Made}
@@ -137,7 +137,7 @@ module _ {M : Type 1} (𝓤 : URA M) (H : Heap 𝓤) (A : Atoms 𝓤) (W : Given
   place-said : (r : Rows) (s : After) → ent 𝓤 (ensured 𝓤 H A place.ended (place.clauses 𝓤 H A mem run) tt (c, (z, (n, (r, tt)))) tt s) (fact 𝓤 (Placed r s))
   place-said r s = exE 𝓤 _ (λ ws. snd∗ 𝓤 (sem 𝓤 H A (lasts place.ended tt (c, (z, (n, (r, tt)))) ws)) (fact 𝓤 (Placed r s)))
 
-  module _ (𝓒 : Calls 𝓤 H) (Λ : Loops 𝓤 H) (fm : FmC 𝓤 H (W .laws) 𝓒) (known-rows : Triple 𝓤 (𝓒 #station·rows-of) (RowsOf 𝓤 H A mem run)) (known-place : Triple 𝓤 (𝓒 #clock·place-station) (Place 𝓤 H A mem run)) where
+  module _ (𝓒 : Calls 𝓤 H) (Λ : Loops 𝓤 H) (fm : FmC 𝓤 H (W .laws) 𝓒) (known-rows : Triple 𝓤 (𝓒 #records·rows-of) (RowsOf 𝓤 H A mem run)) (known-place : Triple 𝓤 (𝓒 #clock·place-station) (Place 𝓤 H A mem run)) where
     walk : Made c → Holds (hasTy C′.mir cv) × WT cv → Is i32 z (zv ∷ []) → Room T.the-row n → ent 𝓤 (onEntry 𝓤 H A it.signature (κ, tt) (q, tt) (c, (z, (rs, tt))) at) (WpFn 𝓤 H 𝓒 Λ code.function (cv ∷ zv ∷ sv ∷ []) Post)
     walk h wt gz gn =
         qed W ((‵ (flft κ q) ⊛ ‵ ftrue) ∷ ‵ (owns (C.the-row ∷ i32 ∷ ShrSlice (named 0) κ T.the-row ∷ []) (c, (z, (rs, tt))) at) ∷ []) ∵ enter ! 𝓒 Λ code.function (cv ∷ zv ∷ sv ∷ []) _ $
@@ -166,7 +166,7 @@ module _ {M : Type 1} (𝓤 : URA M) (H : Heap 𝓤) (A : Atoms 𝓤) (W : Given
         move ! (15 ∷ 16 ∷ []) $ free1 ! $ move ! (13 ∷ 14 ∷ []) $ free1 ! $ move ! (11 ∷ 12 ∷ []) $ free1 ! $ move ! (9 ∷ 10 ∷ []) $ free1 ! $ move ! (7 ∷ 8 ∷ []) $ free1 ! $ move ! (5 ∷ 6 ∷ []) $ free1 ! $ free0 ! $
         keep ! (0 ∷ 1 ∷ 2 ∷ 4 ∷ []) $ by ! (exits s u (lent-post c z ys (s .answer) (s .clock) r e p))))))))))))))))
 
-module _ {M : Type 1} (𝓤 : URA M) (H : Heap 𝓤) (A : Atoms 𝓤) (W : Given 𝓤 H A) (mem : Memory → SProp 𝓤) (run : Routine → Fun 𝓤) (𝓣 : Tables 𝓤 H) (known-rows : Triple 𝓤 (𝓣 .C #station·rows-of) (RowsOf 𝓤 H A mem run)) (known-place : Triple 𝓤 (𝓣 .C #clock·place-station) (Place 𝓤 H A mem run)) where
+module _ {M : Type 1} (𝓤 : URA M) (H : Heap 𝓤) (A : Atoms 𝓤) (W : Given 𝓤 H A) (mem : Memory → SProp 𝓤) (run : Routine → Fun 𝓤) (𝓣 : Tables 𝓤 H) (known-rows : Triple 𝓤 (𝓣 .C #records·rows-of) (RowsOf 𝓤 H A mem run)) (known-place : Triple 𝓤 (𝓣 .C #clock·place-station) (Place 𝓤 H A mem run)) where
   it-walks : Walks 𝓤 H A it.ended stayed (WpFn 𝓤 H (𝓣 .C) (𝓣 .Λ) code.function) (it.clauses 𝓤 H A mem run)
   it-walks = walked 𝓤 H A it.ended stayed (it.clauses 𝓤 H A mem run) (WpFn 𝓤 H (𝓣 .C) (𝓣 .Λ) code.function)
       (λ κs. (LL.vals C.the-type C′.the-laws, (sint-vals w32, (slice-vals, tt)))) (λ κs. (LL.tells C.the-type C′.the-laws, (sint-tells w32, (shr-slice-tells (named 0) (κs .0) T.the-row, tt))))
@@ -185,5 +185,5 @@ set-station-spec 𝓤 H 𝓜 𝓖 𝓡 =
     entered 𝓤 H (tripleOf 𝓤 H (𝓖 .A) it.signature (it.spec 𝓤 H (𝓖 .A) (𝓜 .mem) (𝓡 .run)))
     (tables 𝓤 H 𝓜 𝓡 code.env .C) (tables 𝓤 H 𝓜 𝓡 code.env .Λ) #clock·set-station code.function (code.unfolded 𝓤 H 𝓜 𝓡)
     (it-meets 𝓤 H (𝓖 .A) (givenOf 𝓤 H 𝓜 𝓖) (𝓜 .mem) (𝓡 .run) (tablesOf 𝓤 H 𝓜 (tables 𝓤 H 𝓜 𝓡 code.env))
-    (cited 𝓤 H (RowsOf 𝓤 H (𝓖 .A) (𝓜 .mem) (𝓡 .run)) 𝓜 𝓡 code.env #station·rows-of rows-def.routine code.calls-station·rows-of (rows-thm.met 𝓤 H 𝓜 𝓖 𝓡))
+    (cited 𝓤 H (RowsOf 𝓤 H (𝓖 .A) (𝓜 .mem) (𝓡 .run)) 𝓜 𝓡 code.env #records·rows-of rows-def.routine code.calls-records·rows-of (rows-thm.met 𝓤 H 𝓜 𝓖 𝓡))
     (cited 𝓤 H (Place 𝓤 H (𝓖 .A) (𝓜 .mem) (𝓡 .run)) 𝓜 𝓡 code.env #clock·place-station place-def.routine code.calls-clock·place-station (place-thm.met 𝓤 H 𝓜 𝓖 𝓡)))

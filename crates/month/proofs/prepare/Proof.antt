@@ -11,8 +11,8 @@ use mir.ValLaws.{toZ-ofZ}
 use Rattle.calendar.proofs.Days.{count-small}
 use Rattle.arguments.specs.Longitudes.{longitudesOn}
 use Rattle.arguments.specs.View.{longitudesOf}
-use Rattle.nodal.specs.Latitude.{factorsAt}
-use Rattle.nodal.specs.View.{factorsOf}
+use Rattle.latitude.specs.Latitude.{factorsAt}
+use Rattle.latitude.specs.Ranges.{factorsOf}
 use Rattle.station.specs.Rows.{stationOf}
 use Rattle.month.specs.Month.{monthDay}
 use Rattle.month.proofs.Whole.{rows-are-month, are-reduced}

@@ -7,16 +7,16 @@ use mathlib.Core.Path.{_≡_, sym, ap, _∙_}
 use Prim.Native.Nat.{ℕ, _+_, _-_, _≤_}
 use native.Mathlib.Omega.{arith}
 use Rattle.arguments.specs.View.{longitudesOf}
-use Rattle.nodal.specs.View.{factorsOf}
+use Rattle.latitude.specs.Ranges.{factorsOf}
 use Rattle.month.specs.Month.{before, Prepared, prepared}
 use Rattle.month.specs.View.{heldUpto, frequenciesOf, mainsOf, shallowsOf, rowsPrepared}
-use Rattle.station.specs.Rows.{recordsFrom}
+use Rattle.records.specs.Rows.{recordsFrom}
 use Rattle.month.proofs.Records.{left, all-done, none-done, refused-at, small-at, accepted-at}
 use Rattle.table.specs.declared.Table.{Table}
 use Rattle.prepared.specs.View.{constituentsAfter}
 use mathlib.Core.List.{List}
 use Rattle.arguments.specs.Longitudes.{Longitudes}
-use Rattle.nodal.specs.Latitude.{Factors}
+use Rattle.latitude.specs.Latitude.{Factors}
 use Rattle.table.specs.Table.{Main, Shallow}
 
 -- the table's lists

@@ -4,7 +4,7 @@ use Rattle.month.proofs.work_out.Statement.{statement}
 use Rattle.month.proofs.work_out.Tie as tie
 use mathlib.Core.Path.{refl}
 use Rattle.arguments.specs.View.{longitudesOf}
-use Rattle.nodal.specs.View.{factorsOf}
+use Rattle.latitude.specs.Ranges.{factorsOf}
 use Rattle.month.proofs.OfRows.{main-worked, shallow-worked, none-worked}
 use lib.Dec.{lit≤}
 

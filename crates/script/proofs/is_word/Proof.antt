@@ -1,6 +1,6 @@
 -- `script::is_word` meets its contract: lists that `check::same` calls the same are the same byte by byte. Assumes nothing.
 use borrow.Author.Needs.{needs}
-use Rattle.script.proofs.Words.{same-is}
+use Rattle.script.proofs.Same.{same-is}
 use Rattle.script.proofs.is_word.Statement.{statement}
 use Rattle.script.proofs.is_word.Tie as tie
 

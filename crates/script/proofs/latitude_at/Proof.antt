@@ -6,7 +6,7 @@ use mir.Val.{SFits}
 use mir.ValLaws.{toZ-ofZ}
 use borrow.Author.Needs.{needs}
 use Rattle.script.specs.Script.{stationOf}
-use Rattle.script.proofs.Words.{field-most}
+use Rattle.words.proofs.Words.{field-most}
 use Rattle.script.proofs.Latitudes.{behind-is}
 use Rattle.script.proofs.latitude_at.Statement.{statement}
 use Rattle.script.proofs.latitude_at.Tie as tie

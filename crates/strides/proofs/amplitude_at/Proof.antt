@@ -10,7 +10,8 @@ use mathlib.Core.Path.{_≡_, refl, sym, _∙_}
 use Prim.Native.Nat.{_-_, _≤_, min}
 use lib.ListN.{getD}
 use borrow.Author.Tests.{eq-eqb, ne-eqb}
-use Rattle.station.specs.Rows.{recordsFrom, stationOf}
+use Rattle.records.specs.Rows.{recordsFrom}
+use Rattle.station.specs.Rows.{stationOf}
 use Rattle.strides.specs.Strides.{amplitudeAt}
 use Rattle.strides.proofs.Amplitudes.{amplitude-more, amplitude-none}
 

@@ -4,7 +4,7 @@ use Rattle.strides.proofs.station_stride.Tie as tie
 use Rattle.strides.proofs.station_stride.Reads as reads
 use Rattle.strides.proofs.station_stride.Lts as lts
 use Rattle.strides.proofs.amplitude_of.Reads as amplitude-of-reads
-use Rattle.turns.proofs.stride.Reads as stride-reads
+use Rattle.strides.proofs.stride.Reads as stride-reads
 use Rattle.strides.specs.Strides.{stationStride}
 use mathlib.Core.Path.{_≡_, _∙_}
 use mathlib.Core.List.{[], _∷_}

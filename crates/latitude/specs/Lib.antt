@@ -1,0 +1,2 @@
+pub mod Latitude
+pub mod Ranges

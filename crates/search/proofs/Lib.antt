@@ -1,0 +1,6 @@
+pub mod Cuts
+pub mod Strides
+pub mod Onward
+pub mod Stored
+pub mod Kept
+pub mod Examples

@@ -1,0 +1,42 @@
+-- What the functions of the search promise.
+-- Assumes nothing.
+use Prim.Native.Nat.{ℕ, _+_, _≤_, _<_}
+use mathlib.Core.Path.{_≡_}
+use mathlib.Core.Bool.{cond}
+use mathlib.Core.List.{List, [], _∷_}
+use lib.IntN.{ℤ}
+use lib.ListN.{length, getD, take}
+use Rattle.search.specs.Search.{Turn, earlierEnd, turnsOf, firstHigh, minutesOf}
+use Rattle.search.specs.declared.Bracket.{Bracket}
+use Rattle.search.specs.declared.Next.{Next}
+use Rattle.search.specs.declared.Summary.{Summary}
+
+-- the bracket that halving ends in, with the slopes at its ends
+pub record BracketPost (slope : ℕ → ℤ) (start length : ℕ) (r : Bracket) : Type 0 where
+  pub minute : r .minute ≡ earlierEnd slope start length
+  pub early : r .early ≡ slope (r .minute)
+  pub late : r .late ≡ slope (r .minute + 1)
+
+-- the turns from a minute on: the one found and those from where the search resumes, or none
+abbrev pub onwards : (ℕ → ℤ) → ℕ → ℕ → Next → List Turn
+onwards slope stride last r =
+    cond (r .found) (record { minute = r .turn; high = r .high } ∷ turnsOf slope stride (r .later) last) []
+
+-- the next turn from a minute on
+pub record NextPost (slope : ℕ → ℤ) (stride last minute : ℕ) (r : Next) : Type 0 where
+  pub turns : turnsOf slope stride minute last ≡ onwards slope stride last r
+  pub high : r .high ≡ firstHigh (turnsOf slope stride minute last)
+  pub turn : r .turn ≤ last
+  pub later : r .later ≤ last
+  pub there : r .slope ≡ slope (r .later)
+
+-- the first n minutes kept are minutes of a month
+abbrev pub Kept : ℕ → List ℕ → Type 0
+Kept n kept = (length kept ≡ 44_640) × ((n ≤ 44_640) × ((k : ℕ) → k < n → getD kept k 0 ≤ 44_640))
+
+-- all turns: how many, whether the first is high, and their minutes kept
+pub record FoundPost (turns : List Turn) (kept : List ℕ) (r : Summary) : Type 0 where
+  pub count : r .count ≡ length turns
+  pub high : r .high ≡ firstHigh turns
+  pub minutes : take (r .count) kept ≡ minutesOf turns
+  pub within : Kept (r .count) kept

@@ -1,0 +1,245 @@
+// The search for turns of the water: strides, brackets and their halves, in a prepared month. The table of cosines and the arrays are lent.
+ghost use mathlib.Core.Path.{_≡_};
+ghost use mathlib.Core.Bool.{cond};
+ghost use Prim.Native.Nat.{_+_, _≤_, _<_};
+ghost use lib.Dec.{ltb};
+ghost use lib.IntN.{natAbs};
+ghost use lib.ListN.{length};
+ghost use Rattle.cosine.specs.Fixed.{IsTable};
+ghost use Rattle.slopes.specs.Slope.{InRange, slopeOf};
+ghost use Rattle.search.specs.Search.{differ, turnsOf};
+ghost use Rattle.search.specs.Posts.{BracketPost, NextPost, FoundPost};
+use cosine::ENTRIES;
+use slopes::rises;
+use slopes::slope;
+
+// How many turns were found, and whether the first is high.
+pub struct Summary {
+    pub count: usize,
+    pub high: bool,
+}
+
+// Two minutes one apart, by the earlier, with their slopes.
+struct Bracket {
+    minute: u64,
+    early: i64,
+    late: i64,
+}
+
+// A turn, whether it is high, the minute from which the search resumes and the slope there.
+struct Next {
+    found: bool,
+    turn: u64,
+    high: bool,
+    later: u64,
+    slope: i64,
+}
+
+// Whether two slopes differ in sense.
+fn differs(a: i64, b: i64) -> bool
+    ensures { λ r. ⌜ r ≡ differ a b ⌝ }
+{
+    if rises(a) { !rises(b) } else { rises(b) }
+}
+
+// Halves a bracket whose ends' slopes are given until its ends are one minute apart.
+fn bisect<'a>(
+    table: &'a [u32; ENTRIES],
+    arguments: &'a [u64; 146],
+    lags: &'a [u16; 146],
+    frequencies: &'a [u64; 146],
+    ps: &'a [i32; 146],
+    qs: &'a [i32; 146],
+    count: usize,
+    start: u64,
+    length: u64,
+    early: i64,
+    late: i64,
+) -> Bracket
+    requires { ⌜ IsTable (now table) × ((count ≤ 146) × InRange count (now frequencies)) ⌝ }
+    requires { ⌜ (0 < length) × (start + length ≤ 44_640) ⌝ }
+    requires { ⌜ (early ≡ slopeOf (now arguments) (now lags) (now frequencies) (now ps) (now qs) count start) × (late ≡ slopeOf (now arguments) (now lags) (now frequencies) (now ps) (now qs) count (start + length)) ⌝ }
+    ensures { λ r. ⌜ BracketPost (slopeOf (now (arguments .entry)) (now (lags .entry)) (now (frequencies .entry)) (now (ps .entry)) (now (qs .entry)) count) start length r ⌝ }
+{
+    if length <= 1 {
+        return Bracket {
+            minute: start,
+            early: early,
+            late: late,
+        };
+    }
+    let half = length / 2;
+    let middle = slope(
+        table,
+        arguments,
+        lags,
+        frequencies,
+        ps,
+        qs,
+        count,
+        start + half,
+    );
+    if differs(early, middle) {
+        return bisect(
+            table,
+            arguments,
+            lags,
+            frequencies,
+            ps,
+            qs,
+            count,
+            start,
+            half,
+            early,
+            middle,
+        );
+    }
+    bisect(
+        table,
+        arguments,
+        lags,
+        frequencies,
+        ps,
+        qs,
+        count,
+        start + half,
+        length - half,
+        middle,
+        late,
+    )
+}
+
+// The end with the smaller slope size, the earlier if equal.
+fn turn_of(b: Bracket) -> u64
+    requires { ⌜ b .minute < 44_640 ⌝ }
+    ensures { λ r. ⌜ r ≡ cond (ltb (natAbs (b .late)) (natAbs (b .early))) (b .minute + 1) (b .minute) ⌝ }
+{
+    if angles::size(b.late) < angles::size(b.early) {
+        return b.minute + 1;
+    }
+    b.minute
+}
+
+// Strides from a minute until the ends' slopes differ in sense, and finds the turn between them.
+fn next_turn<'a>(
+    table: &'a [u32; ENTRIES],
+    arguments: &'a [u64; 146],
+    lags: &'a [u16; 146],
+    frequencies: &'a [u64; 146],
+    ps: &'a [i32; 146],
+    qs: &'a [i32; 146],
+    count: usize,
+    stride: u64,
+    last: u64,
+    minute: u64,
+    here: i64,
+) -> Next
+    requires { ⌜ IsTable (now table) × ((count ≤ 146) × InRange count (now frequencies)) ⌝ }
+    requires { ⌜ (0 < stride) × ((stride ≤ 720) × ((minute ≤ last) × (last ≤ 44_640))) ⌝ }
+    requires { ⌜ here ≡ slopeOf (now arguments) (now lags) (now frequencies) (now ps) (now qs) count minute ⌝ }
+    ensures { λ r. ⌜ NextPost (slopeOf (now (arguments .entry)) (now (lags .entry)) (now (frequencies .entry)) (now (ps .entry)) (now (qs .entry)) count) stride last minute r ⌝ }
+{
+    let mut from = minute;
+    let mut behind = here;
+    while from + stride <= last {
+        let ahead = slope(
+            table,
+            arguments,
+            lags,
+            frequencies,
+            ps,
+            qs,
+            count,
+            from + stride,
+        );
+        if differs(behind, ahead) {
+            let b = bisect(
+                table,
+                arguments,
+                lags,
+                frequencies,
+                ps,
+                qs,
+                count,
+                from,
+                stride,
+                behind,
+                ahead,
+            );
+            return Next {
+                found: true,
+                turn: turn_of(b),
+                high: rises(behind),
+                later: b.minute + 1,
+                slope: b.late,
+            };
+        }
+        from = from + stride;
+        behind = ahead;
+    }
+    Next {
+        found: false,
+        turn: last,
+        high: false,
+        later: from,
+        slope: behind,
+    }
+}
+
+// Finds every turn, and keeps the minutes.
+pub fn find_turns<'a>(
+    table: &'a [u32; ENTRIES],
+    arguments: &'a [u64; 146],
+    lags: &'a [u16; 146],
+    frequencies: &'a [u64; 146],
+    ps: &'a [i32; 146],
+    qs: &'a [i32; 146],
+    count: usize,
+    stride: u64,
+    first: u64,
+    last: u64,
+    kept: &mut [u16; 44640],
+) -> Summary
+    requires { ⌜ IsTable (now table) × ((count ≤ 146) × InRange count (now frequencies)) ⌝ }
+    requires { ⌜ (0 < stride) × ((stride ≤ 720) × ((first ≤ last) × (last ≤ 44_640))) ⌝ }
+    requires { ⌜ length (now kept) ≡ 44_640 ⌝ }
+    ensures { λ r. ⌜ FoundPost (turnsOf (slopeOf (now (arguments .entry)) (now (lags .entry)) (now (frequencies .entry)) (now (ps .entry)) (now (qs .entry)) count) stride first last) (now (kept .exit)) r ⌝ }
+{
+    let here = slope(table, arguments, lags, frequencies, ps, qs, count, first);
+    let mut next = next_turn(
+        table,
+        arguments,
+        lags,
+        frequencies,
+        ps,
+        qs,
+        count,
+        stride,
+        last,
+        first,
+        here,
+    );
+    let high = next.high;
+    let mut found: usize = 0;
+    while next.found {
+        kept[found] = next.turn as u16;
+        found = found + 1;
+        next = next_turn(
+            table,
+            arguments,
+            lags,
+            frequencies,
+            ps,
+            qs,
+            count,
+            stride,
+            last,
+            next.later,
+            next.slope,
+        );
+    }
+    Summary {
+        count: found,
+        high: high,
+    }
+}

@@ -1,0 +1,69 @@
+#!/usr/bin/env python3
+"""What each crate's check costs: seconds and memory, and how many wrong answers the gate tries on it.
+
+    tools/crate_costs.py                 a table of every crate, dearest first, as docs/COSTS.md has it
+    tools/crate_costs.py --proofs CRATE  what each proof file of a crate costs, dearest first
+
+Needs the crates proved (`rt check`). A crate's time is that of one check over the built crates below it, on one core.
+A proof's time is that of a second check in which only that file is new, less that of one in which none is.
+"""
+import os
+import pathlib
+import re
+import shutil
+import subprocess
+import sys
+import tempfile
+
+import kit
+
+
+def run(command):
+    """Seconds of processor time, the peak in MiB and the functions proved of a check, which must succeed."""
+    log = tempfile.TemporaryFile()
+    child = subprocess.Popen(command, stdout=log, stderr=subprocess.STDOUT)
+    _, status, usage = os.wait4(child.pid, 0)
+    log.seek(0)
+    said = log.read().decode(errors="replace")
+    if status != 0:
+        sys.exit(f"{' '.join(command[:4])} .. failed:\n{said[-2000:]}")
+    return usage.ru_utime + usage.ru_stime, usage.ru_maxrss / 1024, int(re.search(r"logic=proved functions=(\d+)", said).group(1))
+
+
+def table():
+    rows = []
+    for name in kit.crates():
+        folder = kit.ROOT / "crates" / name
+        seconds, peak, functions = run(kit.check(name, folder))
+        rows.append((seconds, name, functions, peak, len(list((folder / "must-fail").glob("*.edit")))))
+    print("| crate | functions | check, s | memory, MiB | wrong answers in the gate | theirs, about, s |")
+    print("|---|---|---|---|---|---|")
+    for seconds, name, functions, peak, edits in sorted(rows, reverse=True):
+        print(f"| `{name}` | {functions} | {seconds:.1f} | {peak:.0f} | {edits} | {edits * seconds:.0f} |")
+    print(f"| all {len(rows)} | {sum(r[2] for r in rows)} | {sum(r[0] for r in rows):.0f} | | {sum(r[4] for r in rows)} | {sum(r[0] * r[4] for r in rows):.0f} |")
+
+
+def proofs(name):
+    with tempfile.TemporaryDirectory() as room:
+        folder = pathlib.Path(room) / name
+        for part in kit.PARTS:
+            if (kit.ROOT / "crates" / name / part).exists():
+                shutil.copytree(kit.ROOT / "crates" / name / part, folder / part)
+        command = kit.check(name, folder) + ["--incremental", str(pathlib.Path(room) / "incremental")]
+        run(command)
+        base = min(run(command)[0] for _ in range(2))
+        rows = []
+        for file in sorted((folder / "proofs").rglob("*.antt")):
+            file.write_text(file.read_text() + "\n-- read again\n")
+            rows.append((run(command)[0] - base, file.relative_to(folder)))
+        for seconds, file in sorted(rows, reverse=True):
+            print(f"{seconds:7.1f} s  {name}/{file}")
+
+
+if __name__ == "__main__":
+    if sys.argv[1:2] == ["--proofs"] and len(sys.argv) == 3 and sys.argv[2] in kit.crates():
+        proofs(sys.argv[2])
+    elif len(sys.argv) == 1:
+        table()
+    else:
+        sys.exit(__doc__)
