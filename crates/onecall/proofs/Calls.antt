@@ -10,11 +10,11 @@ use lib.IntN.{ℤ}
 use Rattle.refusals.specs.declared.Refusal.{Refusal}
 use Rattle.refusals.specs.declared.Answer.{Answer}
 use Rattle.refusals.specs.declared.Answer.the-variants as answers
-use Rattle.station.specs.declared.Record.{Record}
-use Rattle.station.specs.declared.Rows.{Rows}
-use Rattle.station.specs.Rows.{recordsFrom, rowsUpto}
-use Rattle.station.specs.Posts.{recordsOf}
-use Rattle.station.proofs.Copies.{records-length}
+use Rattle.records.specs.declared.Record.{Record}
+use Rattle.records.specs.declared.Rows.{Rows}
+use Rattle.records.specs.Rows.{recordsFrom, rowsUpto}
+use Rattle.records.specs.Rows.{recordsOf}
+use Rattle.records.proofs.Copies.{records-length}
 use Rattle.clock.specs.declared.Clock.{Clock}
 use Rattle.clock.specs.State.{State, nothing}
 use Rattle.clock.specs.Returned.{Returned, answerReturned}

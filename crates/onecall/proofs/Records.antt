@@ -7,9 +7,9 @@ use native.Mathlib.Omega.{arith}
 use native.Mathlib.Nat.{add-zero, zero-add}
 use native.Mathlib.Numerals.{add-one}
 use lib.ListN.{length, getD}
-use Rattle.station.specs.declared.Record.{Record}
-use Rattle.station.specs.declared.Rows.{Rows}
-use Rattle.station.specs.Rows.{blank, recordFrom, recordsFrom, rowsUpto, putRow}
+use Rattle.records.specs.declared.Record.{Record}
+use Rattle.records.specs.declared.Rows.{Rows}
+use Rattle.records.specs.Rows.{blank, recordFrom, recordsFrom, rowsUpto, putRow}
 use Rattle.onecall.specs.Setting.{recordsIn}
 
 record-at : (ps ms fs : List ℕ) (k n i : ℕ) → i < n → getD (recordsFrom ps ms fs k n) i blank ≡ recordFrom ps ms fs (k + i)

@@ -5,7 +5,7 @@ use mathlib.Core.List.{List}
 use mathlib.Core.Path.{_≡_}
 use lib.IntN.{ℤ}
 use Rattle.refusals.specs.declared.Answer.{Answer}
-use Rattle.station.specs.declared.Record.{Record}
+use Rattle.records.specs.declared.Record.{Record}
 use Rattle.clock.specs.Returned.{accepted, answerReturned}
 use Rattle.clock.specs.View.{view, Made}
 use Rattle.clock.specs.declared.Clock.{Clock}

@@ -8,8 +8,8 @@ use lib.ListN.{length}
 use lib.Dec.{eqb}
 use lib.IntN.{ℤ}
 use Rattle.refusals.specs.Outcome.{numberOf}
-use Rattle.station.specs.declared.Record.{Record}
-use Rattle.station.specs.Rows.{recordsFrom}
+use Rattle.records.specs.declared.Record.{Record}
+use Rattle.records.specs.Rows.{recordsFrom}
 use Rattle.clock.specs.State.{State, nothing}
 use Rattle.clock.specs.Returned.{Returned, accepted, heightIs, turnsAre, refused}
 use Rattle.clock.specs.Calls.{cardsReturns, cardsLeaves, stationReturns, stationLeaves, dateReturns, dateLeaves}

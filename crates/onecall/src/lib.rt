@@ -4,7 +4,7 @@ ghost use mathlib.Core.Bool.{false};
 ghost use Prim.Native.Nat.{_≤_, _<_, min};
 ghost use lib.ListN.{length};
 ghost use Rattle.table.specs.View.{tableOf};
-ghost use Rattle.station.specs.Rows.{rowsUpto, putRow, noRows};
+ghost use Rattle.records.specs.Rows.{rowsUpto, putRow, noRows};
 ghost use Rattle.clock.specs.Returned.{answerReturned};
 ghost use Rattle.onecall.specs.Satellites.{satellitesIn};
 ghost use Rattle.onecall.specs.Setting.{oneLength, lacking, recordsIn, firstRefusal};
@@ -13,7 +13,7 @@ use clock::After;
 use clock::Clock;
 use refusals::Answer;
 use refusals::Refusal;
-use station::Rows;
+use records::Rows;
 use table::Table;
 
 // Whether a clock could be set: the three arrays differ in length, and which record is the first that one of them lacks; or what the calls say.

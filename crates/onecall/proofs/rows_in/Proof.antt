@@ -1,7 +1,7 @@
 use Rattle.onecall.proofs.Records.{rows-more}
 use Rattle.onecall.specs.Setting.{recordsIn}
-use Rattle.station.specs.Rows.{rowsUpto, putRow}
-use Rattle.station.specs.declared.Rows.{Rows}
+use Rattle.records.specs.Rows.{rowsUpto, putRow}
+use Rattle.records.specs.declared.Rows.{Rows}
 use borrow.Author.Needs.{needs}
 use lib.ListN.{length}
 use native.Mathlib.Omega.{arith}
