@@ -1,0 +1,3 @@
+pub mod Satellites
+pub mod Setting
+pub mod Posts

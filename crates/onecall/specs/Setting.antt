@@ -1,0 +1,66 @@
+-- A card file, a station and a date in one call: 01's three calls, in this order, of a clock with no table, station or month.
+-- The first refusal is the answer.
+-- Assumes nothing.
+use Prim.Native.Nat.{ℕ, _+_, min}
+use mathlib.Core.Bool.{Bool, cond, _&&_}
+use mathlib.Core.List.{List}
+use lib.ListN.{length}
+use lib.Dec.{eqb}
+use lib.IntN.{ℤ}
+use Rattle.refusals.specs.Outcome.{numberOf}
+use Rattle.records.specs.declared.Record.{Record}
+use Rattle.records.specs.Rows.{recordsFrom}
+use Rattle.clock.specs.State.{State, nothing}
+use Rattle.clock.specs.Returned.{Returned, accepted, heightIs, turnsAre, refused}
+use Rattle.clock.specs.Calls.{cardsReturns, cardsLeaves, stationReturns, stationLeaves, dateReturns, dateLeaves}
+use Rattle.onecall.specs.declared.Setting.{Setting}
+use Rattle.onecall.specs.declared.Setting.the-variants.{Uneven, Accepted, Refused}
+
+-- ---- the station's records, lent as three arrays
+
+-- "lent as one row of records: place, amplitude, phase": record k has place, amplitude and phase number k
+abbrev pub recordsIn : List ℕ → List ℕ → List ℕ → List Record
+recordsIn places amplitudes phases = recordsFrom places amplitudes phases 0 (length places)
+
+-- one row: the three arrays are as long as each other
+abbrev pub oneLength : ℕ → ℕ → ℕ → Bool
+oneLength places amplitudes phases = eqb places amplitudes && eqb places phases
+
+-- the first record, from 1, that one of the arrays lacks
+abbrev pub lacking : ℕ → ℕ → ℕ → ℕ
+lacking places amplitudes phases = min places (min amplitudes phases) + 1
+
+-- ---- cards, station and date
+
+-- "A call is accepted when nothing [..] fits it": of two calls, the first that is refused
+abbrev pub firstRefusal : Returned → Returned → Returned
+firstRefusal accepted next = next
+firstRefusal (heightIs h) next = next
+firstRefusal (turnsAre count high) next = next
+firstRefusal (refused number place) next = refused number place
+
+-- the state that a card file, a station and a date leave, one after another
+unfoldable pub stateAfter : List ℕ → ℤ → List Record → ℕ → ℕ → State
+stateAfter file latitude records year month = dateLeaves (stationLeaves (cardsLeaves nothing file) latitude records) year month
+
+-- what the three return: the first refusal
+unfoldable pub setReturns : List ℕ → ℤ → List Record → ℕ → ℕ → Returned
+setReturns file latitude records year month =
+    firstRefusal (cardsReturns file)
+    (firstRefusal (stationReturns (cardsLeaves nothing file) latitude records)
+    (dateReturns (stationLeaves (cardsLeaves nothing file) latitude records) year month))
+
+-- ---- with the records in three arrays
+
+-- This interface's own number 100, which is in neither of 01's tables: the three arrays differ in length. It comes before all else.
+unfoldable pub setOnce : List ℕ → ℤ → List ℕ → List ℕ → List ℕ → ℕ → ℕ → Returned
+setOnce file latitude places amplitudes phases year month =
+    cond (oneLength (length places) (length amplitudes) (length phases))
+    (setReturns file latitude (recordsIn places amplitudes phases) year month)
+    (refused 100 (lacking (length places) (length amplitudes) (length phases)))
+
+-- what the code's answer says in 01's numbers, and 100
+abbrev pub settingReturned : Setting → Returned
+settingReturned (Uneven place) = refused 100 place
+settingReturned Accepted = accepted
+settingReturned (Refused r place) = refused (numberOf r) place
