@@ -3,17 +3,17 @@
 use Prim.Native.Nat.{ℕ, _+_, _/_, _%_}
 
 -- The size of a height in thousandths of the unit, from tenths of thousandths: rounded, a half goes away from zero
-unfoldable pub thousandths : ℕ → ℕ
+abbrev pub thousandths : ℕ → ℕ
 thousandths size = (size + 5) / 10
 
 -- The ASCII character of a number's last decimal digit
-unfoldable pub lastDigit : ℕ → ℕ
+abbrev pub lastDigit : ℕ → ℕ
 lastDigit number = 48 + number % 10
 
 -- 01, Heights and turns: "Minutes run from 0 to days × 1,440 inclusive". The day in which a minute lies, the month's first day being 1
-unfoldable pub dayOf : ℕ → ℕ
+abbrev pub dayOf : ℕ → ℕ
 dayOf minute = minute / 1_440 + 1
 
 -- The hour of its day
-unfoldable pub hourOf : ℕ → ℕ
+abbrev pub hourOf : ℕ → ℕ
 hourOf minute = minute % 1_440 / 60

@@ -221,11 +221,18 @@ pub fn put_hex8(page: &mut [u8], at: usize, sum: u32) -> usize {
     output::put_bytes(page, at, &text[..n])
 }
 
+// The same number in 64 bits.
+fn wide(a: i32) -> i64
+    ensures { λ r. ⌜ r ≡ a ⌝ }
+{
+    a as i64
+}
+
 // Puts a latitude, as 48 deg 25' N.
 pub fn put_latitude(page: &mut [u8], at: usize, latitude: i32) -> usize
     ensures { λ r. ⌜ r ≤ length (now (page .entry)) ⌝ }
 {
-    let size = angles::size(latitude as i64);
+    let size = angles::size(wide(latitude));
     let a = output::put_number(page, at, size / 60);
     let b = output::put_bytes(page, a, b" deg ");
     let c = put_two(page, b, size % 60);
@@ -248,17 +255,21 @@ pub fn put_face(page: &mut [u8], at: usize, face: Face) -> usize {
     put_hex8(page, g, face.station)
 }
 
-// The text without the blanks at its end.
-pub fn trimmed(text: &[u8]) -> &[u8] {
+// How long a text is without the blanks at its end.
+fn trimmed_length(text: &[u8]) -> usize {
     let mut n = text.len();
     while 0 < n {
-        if text[n - 1] == 32 {
-            n -= 1;
-        } else {
-            return &text[..n];
+        if columns::column(text, n - 1) != 32 {
+            return n;
         }
+        n -= 1;
     }
-    &text[..n]
+    0
+}
+
+// The text without the blanks at its end, as a part of it.
+pub fn trimmed(text: &[u8]) -> &[u8] {
+    columns::part(text, 0, trimmed_length(text))
 }
 
 // Whether a zone, without the blanks at its end, is Greenwich's: blank, UT, GMT or UTC.
