@@ -2,8 +2,9 @@
 //
 // A function that puts text takes a lent page and a place on it, as those of `output` do, and gives the place behind the text.
 ghost use mathlib.Core.Path.{_≡_};
-ghost use Prim.Native.Nat.{_%_, _≤_};
-ghost use lib.ListN.{length};
+ghost use Prim.Native.Nat.{_≤_};
+ghost use lib.ListN.{length, getD};
+ghost use lib.IntN.{pos};
 ghost use Rattle.face.specs.Figures.{thousandths, lastDigit, dayOf, hourOf};
 
 // What a sheet stands on: the station's latitude in minutes, north positive, how many constituents it has, and the CRC-32 of the card
@@ -42,6 +43,20 @@ pub fn hour_of(minute: u32) -> u32
     ensures { λ r. ⌜ r ≡ hourOf minute ⌝ }
 {
     minute % 1_440 / 60
+}
+
+// The minute at a place of a row; 0 past its end.
+pub fn minute_at(minutes: &[u32], i: usize) -> u32
+    ensures { λ r. ⌜ r ≡ getD (now (minutes .entry)) i 0 ⌝ }
+{
+    if i < minutes.len() { minutes[i] } else { 0 }
+}
+
+// The height at a place of a row; 0 past its end.
+pub fn height_at(heights: &[i64], i: usize) -> i64
+    ensures { λ r. ⌜ r ≡ getD (now (heights .entry)) i (pos 0) ⌝ }
+{
+    if i < heights.len() { heights[i] } else { 0 }
 }
 
 // Puts the last two digits of a number.
@@ -294,6 +309,20 @@ pub fn same<'a>(a: &'a [u8], b: &'a [u8]) -> bool {
         i += 1;
     }
     true
+}
+
+// Puts a station's name and a comma, behind which a view puts its month or day.
+pub fn put_name(page: &mut [u8], at: usize, name: &[u8]) -> usize {
+    let next = output::put_bytes(page, at, trimmed(name));
+    output::put_bytes(page, next, b", ")
+}
+
+// Puts the unit of the heights and the zone of the times, on one line with no line end.
+pub fn put_scales<'a>(page: &mut [u8], at: usize, zone: &'a [u8], unit: &'a [u8]) -> usize {
+    let a = output::put_bytes(page, at, b"heights in ");
+    let b = output::put_bytes(page, a, unit);
+    let c = output::put_bytes(page, b, b", times ");
+    put_zone(page, c, zone)
 }
 
 // Puts what the times are: GMT, or the station file's own zone.
