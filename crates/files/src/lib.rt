@@ -1,7 +1,4 @@
 // Files read whole into a lent buffer, by name or from where the program itself lies.
-ghost use mathlib.Core.Path.{_≡_};
-ghost use Prim.Native.Nat.{_≤_};
-ghost use lib.ListN.{length};
 ghost use Rattle.io.specs.Counts.{Counts};
 
 // How a reading ended.
@@ -53,15 +50,21 @@ fn behind_slash(path: &[u8], bytes: usize) -> usize {
     0
 }
 
+// Writes a byte into a path, where there is room; gives the place behind it.
+fn put_byte(path: &mut [u8], at: usize, byte: u8) -> usize {
+    if at < path.len() {
+        path[at] = byte;
+        return at + 1;
+    }
+    at
+}
+
 // Writes text into a path from a place on, as much as there is room for; gives the place behind it.
 fn put_text(path: &mut [u8], at: usize, text: &[u8]) -> usize {
     let mut next = at;
     let mut i = 0;
     while i < text.len() {
-        if next < path.len() {
-            path[next] = text[i];
-            next += 1;
-        }
+        next = put_byte(path, next, text[i]);
         i += 1;
     }
     next
