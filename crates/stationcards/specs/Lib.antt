@@ -1,3 +1,2 @@
-pub mod Formats
 pub mod Station
 pub mod Answers

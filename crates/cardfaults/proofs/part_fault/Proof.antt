@@ -1,64 +1,50 @@
+-- `cardfaults::part_fault` is safe and ends: the parts left fall at each turn. Assumes nothing.
+use borrow.Author.Needs.{needs}
+use Prim.Native.Nat.{_-_}
 use Rattle.cardfaults.proofs.part_fault.Statement.{statement}
 use Rattle.cardfaults.proofs.part_fault.Tie as tie
-use Rattle.cardfaults.proofs.part_fault.Reads as reads
-use Rattle.cardfaults.proofs.part_fault.Lts as lts
-use Rattle.cardfaults.proofs.is_defined.Reads as is-defined-reads
-use Rattle.columns.proofs.name_part.Reads as name-part-reads
-use Rattle.faults.proofs.no_words.Reads as no-words-reads
 
 abbrev Inv-loop : tie.InvT-loop
-Inv-loop file line j₀ j = ?
+Inv-loop file line j₀ j = Unit {0}
 
 abbrev μ-loop : tie.MeasureT-loop
-μ-loop file line j₀ j = ?
+μ-loop file line j₀ j = 4 - j
 
--- src/lib.rt:427:5
 loop-holds : tie.Need-loop-holds Inv-loop μ-loop
-loop-holds c = ?
+loop-holds c = search needs
 
--- src/lib.rt:428:60
 mul-name-part : tie.Need-mul-name-part Inv-loop μ-loop
-mul-name-part c = ?
+mul-name-part c = search needs
 
--- src/lib.rt:428:55
 add-name-part : tie.Need-add-name-part Inv-loop μ-loop
-add-name-part c = ?
+add-name-part c = search needs
 
--- src/lib.rt:428:30
 name-part-requires : tie.Need-name-part-requires Inv-loop μ-loop
-name-part-requires c κs = ?
+name-part-requires c κs = search needs
 
--- src/lib.rt:428:13
 is-defined-requires : tie.Need-is-defined-requires Inv-loop μ-loop
-is-defined-requires c κs = ?
+is-defined-requires c κs = search needs
 
--- src/lib.rt:431:24
 add-t10 : tie.Need-add-t10 Inv-loop μ-loop
-add-t10 c = ?
+add-t10 c = search needs
 
--- src/lib.rt:429:13
 returns : tie.Need-returns Inv-loop μ-loop
-returns c = ?
+returns c = search needs
 
--- src/lib.rt:435:9
 add-j : tie.Need-add-j Inv-loop μ-loop
-add-j c = ?
+add-j c = search needs
 
--- src/lib.rt:427:5
 loop-less : tie.Need-loop-less Inv-loop μ-loop
-loop-less c = ?
+loop-less c = search needs
 
--- src/lib.rt:427:5
 loop-again : tie.Need-loop-again Inv-loop μ-loop
-loop-again c = ?
+loop-again c = search needs
 
--- src/lib.rt:437:5
 no-words-requires : tie.Need-no-words-requires Inv-loop μ-loop
-no-words-requires c κs = ?
+no-words-requires c κs = search needs
 
--- src/lib.rt:425:1
 returns-2 : tie.Need-returns-2 Inv-loop μ-loop
-returns-2 c = ?
+returns-2 c = search needs
 
 pub part-fault-spec : {M : Type 1} → statement M
 part-fault-spec =
