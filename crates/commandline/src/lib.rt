@@ -109,6 +109,9 @@ pub const ARGUMENTS: usize = 54;
 
 // The byte of the default words at a place; 0 behind them.
 pub fn default_byte(k: usize) -> u8 {
+    if ARGUMENTS <= k {
+        return 0;
+    }
     columns::column(
         b"data/standard-cards.txt\0data/victoria.txt\0feet\0metres\0",
         k,

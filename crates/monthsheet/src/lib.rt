@@ -13,14 +13,6 @@ fn put_bar(page: &mut [u8], at: usize, filled: u64) -> usize {
     next
 }
 
-// Puts a turn's time in a day; the month's last minute is 24:00 of its last day.
-fn put_time(page: &mut [u8], at: usize, day: u32, minute: u32) -> usize {
-    if face::day_of(minute) <= day {
-        return face::put_clock(page, at, minute);
-    }
-    output::put_bytes(page, at, b"24:00")
-}
-
 // Puts H or L.
 fn put_mark(page: &mut [u8], at: usize, high: bool) -> usize {
     if high {
@@ -32,8 +24,8 @@ fn put_mark(page: &mut [u8], at: usize, high: bool) -> usize {
 // Puts a turn: H or L, its time and its height.
 fn put_turn(page: &mut [u8], at: usize, day: u32, high: bool, minute: u32, height: i64) -> usize {
     let a = put_mark(page, at, high);
-    let b = put_time(page, a, day, minute);
-    face::put_height(page, b, height, 3)
+    let b = figures::put_time(page, a, day, minute);
+    figures::put_height(page, b, height, 3)
 }
 
 // Puts the turns from one to before another.
@@ -55,8 +47,8 @@ fn put_turns<'a>(
             next,
             day,
             swings::is_high(first, i),
-            face::minute_at(minutes, i),
-            face::height_at(heights, i),
+            figures::minute_at(minutes, i),
+            figures::height_at(heights, i),
         );
         i += 1;
     }
@@ -68,9 +60,9 @@ fn put_swing(page: &mut [u8], at: usize, swing: u64, largest: u64) -> usize
     requires { ⌜ (swing ≤ 2_000_000_000_000) × (largest ≤ 2_000_000_000_000) ⌝ }
 {
     if swing == 0 {
-        return face::put_blanks(page, at, 18);
+        return figures::put_blanks(page, at, 18);
     }
-    let a = face::put_height(page, at, swing as i64, 3);
+    let a = figures::put_height(page, at, swing as i64, 3);
     let b = output::put(page, a, 32);
     put_bar(page, b, swings::bar_length(swing, largest))
 }
@@ -90,7 +82,7 @@ fn put_day<'a>(
 ) -> usize
     requires { ⌜ largest ≤ 2_000_000_000_000 ⌝ }
 {
-    let a = face::put_right(page, at, day as u64, 2);
+    let a = figures::put_right(page, at, day as u64, 2);
     let b = put_swing(page, a, swings::largest_swing(heights, count, from, to), largest);
     let c = put_turns(page, b, day, from, to, first, minutes, heights);
     output::put(page, c, 10)

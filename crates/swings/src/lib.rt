@@ -43,11 +43,11 @@ fn swing(heights: &[i64], count: usize, i: usize) -> u64
         return 0;
     }
     if i < 1 {
-        return apart(face::height_at(heights, 0), face::height_at(heights, 1));
+        return apart(figures::height_at(heights, 0), figures::height_at(heights, 1));
     }
     apart(
-        face::height_at(heights, i - 1),
-        face::height_at(heights, i),
+        figures::height_at(heights, i - 1),
+        figures::height_at(heights, i),
     )
 }
 
@@ -93,7 +93,7 @@ pub fn day_end(minutes: &[u32], from: usize, count: usize, day: u32, days: u32) 
     }
     let mut i = from;
     while i < count {
-        if day < face::day_of(face::minute_at(minutes, i)) {
+        if day < figures::day_of(figures::minute_at(minutes, i)) {
             return i;
         }
         i += 1;

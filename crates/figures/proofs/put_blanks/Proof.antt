@@ -1,9 +1,9 @@
--- `face::put_blanks` is safe and ends: the page keeps its length. Assumes nothing.
+-- `figures::put_blanks` is safe and ends: the page keeps its length. Assumes nothing.
 use borrow.Author.Needs.{needs}
 use mathlib.Core.Path.{_≡_}
 use lib.ListN.{length}
-use Rattle.face.proofs.put_blanks.Statement.{statement}
-use Rattle.face.proofs.put_blanks.Tie as tie
+use Rattle.figures.proofs.put_blanks.Statement.{statement}
+use Rattle.figures.proofs.put_blanks.Tie as tie
 
 abbrev Inv-loop : tie.InvT-loop
 Inv-loop page₀ at blanks next₀ left₀ page next left = length page ≡ length page₀
