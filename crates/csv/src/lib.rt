@@ -63,13 +63,7 @@ fn put_title(page: &mut [u8], at: usize, name: &[u8], year: u32, month: u32) -> 
 }
 
 // Puts the lines before the rows.
-fn put_head<'a>(
-    page: &mut [u8],
-    at: usize,
-    face: Face,
-    zone: &'a [u8],
-    unit: &'a [u8],
-) -> usize {
+fn put_head<'a>(page: &mut [u8], at: usize, face: Face, zone: &'a [u8], unit: &'a [u8]) -> usize {
     let a = output::put_bytes(page, at, b"# ");
     let b = face::put_scales(page, a, zone, unit);
     let c = output::put_bytes(page, b, b"\n# ");

@@ -3,7 +3,6 @@
 // It reads the two files, asks the clock, and writes. Every refusal is the library's, and is said in one line on standard error.
 mod help;
 
-
 ghost use Rattle.clock.specs.View.{Made};
 use clock::After;
 use clock::Clock;
@@ -127,7 +126,16 @@ fn answer<'a>(clock: Clock, face: Face, words: &'a [u8], station: &'a [u8], requ
         }
         Asked::Series(year, month, start, step, count) => {
             views::series(
-                clock, face, station, unit, path, year, month, start, step, count,
+                clock,
+                face,
+                station,
+                unit,
+                path,
+                year,
+                month,
+                start,
+                step,
+                count,
             )
         }
         Asked::MonthDrawing(year, month) => {
@@ -157,7 +165,12 @@ fn with_station<'a>(
     match answer {
         Answer::Refused(refusal, line) => {
             let fault = stationfaults::station_fault(station, line, refusal);
-            messages::refused(commandline::word(words, request.station), line, fault, refusal)
+            messages::refused(
+                commandline::word(words, request.station),
+                line,
+                fault,
+                refusal,
+            )
         }
         Answer::Accepted => {
             let rows = read.rows;
@@ -174,13 +187,7 @@ fn with_station<'a>(
 }
 
 // What a station call says, and then what is asked.
-fn placed<'a>(
-    after: After,
-    face: Face,
-    words: &'a [u8],
-    station: &'a [u8],
-    request: Request,
-)
+fn placed<'a>(after: After, face: Face, words: &'a [u8], station: &'a [u8], request: Request)
     requires { ⌜ Made (after .clock) ⌝ }
 {
     let said = after.answer;
@@ -189,7 +196,12 @@ fn placed<'a>(
         Answer::Refused(refusal, place) => {
             let line = line_of(place);
             let fault = stationfaults::station_fault(station, line, refusal);
-            messages::refused(commandline::word(words, request.station), line, fault, refusal)
+            messages::refused(
+                commandline::word(words, request.station),
+                line,
+                fault,
+                refusal,
+            )
         }
         Answer::Accepted => answer(clock, face, words, station, request),
     }
@@ -208,7 +220,12 @@ fn with_cards<'a>(words: &'a [u8], cards: &'a [u8], station: &'a [u8], request: 
     match said {
         Answer::Refused(refusal, line) => {
             let fault = cardfaults::card_fault(cards, line, refusal);
-            messages::refused(commandline::word(words, request.cards), line, fault, refusal)
+            messages::refused(
+                commandline::word(words, request.cards),
+                line,
+                fault,
+                refusal,
+            )
         }
         Answer::Accepted => with_station(clock, words, cards, station, request),
     }

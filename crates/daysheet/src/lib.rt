@@ -150,7 +150,16 @@ fn put_curve<'a>(
         let minute = hour_minute(start, hour);
         let end = turn_from(minutes, turn, to, minute);
         next = put_turns(
-            page, next, day, turn, end, first, low, high, minutes, heights,
+            page,
+            next,
+            day,
+            turn,
+            end,
+            first,
+            low,
+            high,
+            minutes,
+            heights,
         );
         turn = end;
         let height = figures::height_at(hourly, hour as usize);
@@ -185,7 +194,17 @@ fn put_day_curve<'a>(
     let low = lowest(heights, from, to, lowest(hourly, 1, 25, water));
     let high = highest(heights, from, to, highest(hourly, 1, 25, water));
     put_curve(
-        page, at, start, from, to, first, low, high, hourly, minutes, heights,
+        page,
+        at,
+        start,
+        from,
+        to,
+        first,
+        low,
+        high,
+        hourly,
+        minutes,
+        heights,
     )
 }
 
@@ -214,14 +233,7 @@ fn put_turn_day(page: &mut [u8], at: usize, year: u32, month: u32, next: Next) -
 }
 
 // Puts the line of the next high or low water.
-fn put_next(
-    page: &mut [u8],
-    at: usize,
-    label: &[u8],
-    year: u32,
-    month: u32,
-    next: Next,
-) -> usize {
+fn put_next(page: &mut [u8], at: usize, label: &[u8], year: u32, month: u32, next: Next) -> usize {
     let a = output::put_bytes(page, at, label);
     if !next.found {
         return output::put_bytes(page, a, b"  none\n");

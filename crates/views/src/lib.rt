@@ -72,7 +72,15 @@ fn prepared_month<'a>(
     let answer = clock::turns(clock, 0, last, &mut minutes, &mut heights);
     match answer {
         TurnsAnswer::Turns(count, first) => write_month(
-            face, station, unit, year, month, count, first, &minutes, &heights,
+            face,
+            station,
+            unit,
+            year,
+            month,
+            count,
+            first,
+            &minutes,
+            &heights,
         ),
         TurnsAnswer::Refused(refusal, _) => {
             messages::refused_number(b"month", month as u64, refusal)
@@ -205,8 +213,28 @@ fn write_day<'a>(
 )
     requires { ⌜ Made clock ⌝ }
 {
-    let high = next_turn(clock, true, year, month, minute, count, first, minutes, heights);
-    let low = next_turn(clock, false, year, month, minute, count, first, minutes, heights);
+    let high = next_turn(
+        clock,
+        true,
+        year,
+        month,
+        minute,
+        count,
+        first,
+        minutes,
+        heights,
+    );
+    let low = next_turn(
+        clock,
+        false,
+        year,
+        month,
+        minute,
+        count,
+        first,
+        minutes,
+        heights,
+    );
     let mut page = io::buffer();
     let at = daysheet::put_sheet(
         &mut page,
@@ -250,8 +278,19 @@ fn day_turns<'a>(
     let answer = clock::turns(clock, 0, last, &mut minutes, &mut heights);
     match answer {
         TurnsAnswer::Turns(count, first) => write_day(
-            clock, face, station, unit, year, month, minute, water, count, first, hourly,
-            &minutes, &heights,
+            clock,
+            face,
+            station,
+            unit,
+            year,
+            month,
+            minute,
+            water,
+            count,
+            first,
+            hourly,
+            &minutes,
+            &heights,
         ),
         TurnsAnswer::Refused(refusal, _) => {
             messages::refused_number(b"month", month as u64, refusal)
@@ -276,7 +315,17 @@ fn day_water<'a>(
     let answer = clock::height(clock, minute);
     match answer {
         HeightAnswer::Height(water) => {
-            day_turns(clock, face, station, unit, year, month, minute, water, hourly)
+            day_turns(
+                clock,
+                face,
+                station,
+                unit,
+                year,
+                month,
+                minute,
+                water,
+                hourly,
+            )
         }
         HeightAnswer::Refused(refusal, _) => {
             messages::refused_number(b"day", day as u64, refusal)

@@ -2,8 +2,8 @@
 ghost use mathlib.Core.Path.{_≡_};
 ghost use lib.ListN.{length};
 ghost use Rattle.clock.specs.View.{Made};
-use clock::Clock;
 use crate::say_date;
+use clock::Clock;
 use face::Face;
 use refusals::Answer;
 
@@ -44,7 +44,11 @@ fn write_rows<'a>(
 
 // A count of at most the places.
 fn at_most(count: u32, places: usize) -> usize {
-    if (count as usize) < places { count as usize } else { places }
+    if (count as usize) < places {
+        count as usize
+    } else {
+        places
+    }
 }
 
 // So many heights of the month that a clock has prepared, into lent places.
@@ -96,7 +100,16 @@ pub fn series<'a>(
         Answer::Accepted => {
             let mut places = height_places();
             lent_series(
-                dated, face, station, unit, year, month, start, step, count, &mut places,
+                dated,
+                face,
+                station,
+                unit,
+                year,
+                month,
+                start,
+                step,
+                count,
+                &mut places,
             )
         }
         Answer::Refused(refusal, place) => say_date(path, year, month, refusal, place),
@@ -126,5 +139,16 @@ pub fn heights<'a>(
     requires { ⌜ Made clock ⌝ }
 {
     let count = month_count(year, month, step);
-    series(clock, face, station, unit, path, year, month, 0, step, count)
+    series(
+        clock,
+        face,
+        station,
+        unit,
+        path,
+        year,
+        month,
+        0,
+        step,
+        count,
+    )
 }
