@@ -3,6 +3,7 @@
 Usage: python3 second/test_model.py [folder with the standard cards]
 """
 
+import json
 import os
 import random
 import sys
@@ -14,6 +15,7 @@ from cosine import COSINES, DENOMINATOR, QUARTER, STEP, base_fraction, fixed_cos
 from month import argument, day_count, latitude_factors, longitudes_at
 from refusal import Refusal
 from replay import replay
+from stationfile import read_station_file, station_name, time_zone
 
 FOLDER = sys.argv[1] if len(sys.argv) > 1 else os.path.join(os.path.dirname(os.path.abspath(__file__)), "..", "data")
 PASSED = 0
@@ -225,6 +227,81 @@ def check_card_files():
     check("no constituents at all", refused(read_card_file, b"\n" + lines[146] + b"\n" + lines[147] + b"\n\n\n"), None)
 
 
+def check_station_files():
+    names = [name for name, _ in read_card_file(STANDARD).frequencies]
+    victoria = load("victoria.txt")
+    lines = victoria.split(b"\n")
+    printed = json.loads(load("victoria-1976-07.json"))["prediction"]
+    told = read_station_file(victoria, names)
+    check("Victoria's latitude", told.latitude, printed["station"]["latitude_minutes_signed"])
+    wanted = [(names.index(c["name"].encode().ljust(5)), c["amplitude_e4"], c["phase_e2"]) for c in printed["constituents"]]
+    check("Victoria's records", told.records, wanted)
+    check("Victoria's name", station_name(victoria), b"VICTORIA HARBOUR BC   ")
+    check("Victoria's zone", time_zone(victoria), b"PST")
+    check("name of a short line", station_name(b"     7120 VIC\nx"), b"VIC")
+    check("zone of a short line", time_zone(b"     7120 VIC\nx"), b"")
+
+    def read(data):
+        return read_station_file(data, names)
+
+    def edited(line, start, text):
+        """Victoria's file with text put at a column (from 1) of a line."""
+        old = lines[line - 1].ljust(start - 1 + len(text))
+        new = old[: start - 1] + text + old[start - 1 + len(text) :]
+        return b"\n".join(lines[: line - 1] + [new] + lines[line:])
+
+    def edit(what, line, start, text, wanted):
+        check("station: " + what, refused(read, edited(line, start, text)), wanted)
+
+    for text, latitude in (
+        (b"-48 25", -2_905), (b" 48 25S", -2_905), (b" -8 25", -505), (b" -0 30", -30), (b" 00 30S", -30), (b"- 0 30", -30),
+        (b" 00 30 ", 30), (b" 48 25s", 2_905), (b" 48 25N", 2_905), (b" 99 59", 5_999), (b" 5  7 ", 307),
+    ):
+        check("latitude %r" % text, read(edited(1, 36, text)).latitude, latitude)
+    edit("minutes 60", 1, 36, b" 48 60", (3, 1))
+    edit("minutes -1", 1, 36, b" 48 -1", (3, 1))
+    edit("degrees malformed", 1, 36, b" 4x 60", (2, 1))
+    edit("degrees blank", 1, 36, b"    25", (2, 1))
+    edit("minutes blank", 1, 36, b" 48   ", (2, 1))
+    edit("number and longitude ignored", 1, 6, b"wxyz", None)
+    edit("longitude ignored", 1, 44, b"wxyz  ", None)
+    edit("80 columns", 1, 80, b"x", None)
+    edit("81 columns", 1, 81, b"x", (1, 1))
+    edit("byte 127", 3, 80, b"\x7f", (1, 3))
+    edit("skipped columns", 3, 11, b"x" * 28, None)
+    edit("past the format", 3, 54, b"x" * 27, None)
+    edit("unknown name", 2, 6, b"XX   ", (5, 2))
+    edit("blank name", 2, 6, b"     ", (5, 2))
+    edit("name moved by a column", 2, 5, b"Z0    ", (5, 2))
+    edit("name before its amplitude", 2, 6, b"XX" + b" " * 31 + b"x" * 8, (5, 2))
+    edit("negative amplitude", 3, 39, b" -0.0001", (3, 3))
+    edit("amplitude -0", 3, 39, b" -0.0000", None)
+    edit("amplitude over 32 bits", 3, 39, b"9999999.", (3, 3))
+    edit("amplitude within 32 bits", 3, 39, b"429496.7", None)
+    edit("five decimals", 3, 39, b"  .00001", (2, 3))
+    edit("no point", 3, 39, b"       1", (2, 3))
+    edit("blank amplitude", 3, 39, b" " * 8, (2, 3))
+    edit("negative phase", 3, 47, b"  -0.01", (3, 3))
+    edit("three decimals", 3, 47, b"  1.234", (2, 3))
+    edit("amplitude before phase", 3, 39, b" -0.0001      x", (3, 3))
+    check("phase 360 is the clock's", read(edited(3, 47, b" 360.00")).records[1][2], 36_000)
+    check("empty station file", refused(read, b""), (7, 1))
+    check("blank station card", refused(read, b"\n"), (2, 1))
+    check("station card alone", read(lines[0]).records, [])
+    check("end of the file", read(b"\n".join(lines[:4])).records, wanted[:3])
+    check("blank card", read(b"\n".join(lines[:3] + [b" " * 80, b"\xff" * 99])).records, wanted[:2])
+    check("146 cards", len(read(b"\n".join(lines[:1] + lines[1:2] * 146)).records), 146)
+    check("147 cards", refused(read, b"\n".join(lines[:1] + lines[1:2] * 146 + [b"x"])), (6, 148))
+    check("146 cards and a blank one", refused(read, b"\n".join(lines[:1] + lines[1:2] * 146 + [b"", b"x"])), None)
+    for name in ("semidiurnal", "diurnal"):
+        told = read(load(os.path.join("examples", name + ".txt")))
+        clock = Clock()
+        clock.set_cards(STANDARD)
+        check("example " + name, refused(clock.set_station, told.latitude, told.records), None)
+        wanted_stride = {"semidiurnal": 180, "diurnal": 360}[name]
+        check("stride of " + name, heights.stride_of(clock.table, clock.station), wanted_stride)
+
+
 def check_replay():
     script = b"height 0\ncards %d\n%s\nstation -299 1\n0 5 18000\ndate 1976 2\nheight 41760\n" % (len(STANDARD), STANDARD)
     script += b"series 0 1440 2\nseries 5 5 0\nturns 0 41760 0 0\nheight 41761\n"
@@ -247,6 +324,7 @@ def main():
     check_heights()
     check_stations()
     check_card_files()
+    check_station_files()
     check_replay()
     print("%d passed, %d failed" % (PASSED, FAILED))
     sys.exit(1 if FAILED else 0)

@@ -47,7 +47,7 @@ pub fn put_start(page: &mut [u8], at: usize, width: u32, height: u32) -> usize {
 // Puts the title that a reader of the file sees: the station and when.
 fn put_title(page: &mut [u8], at: usize, name: &[u8], year: u32, month: u32, day: u32) -> usize {
     let a = output::put_bytes(page, at, b"<title>");
-    let b = svg::put_escaped(page, a, name);
+    let b = svg::put_escaped(page, a, face::trimmed(name));
     let c = output::put_bytes(page, b, b", ");
     let d = put_when(page, c, year, month, day);
     output::put_bytes(page, d, b"</title>\n")
@@ -64,7 +64,7 @@ fn put_name(page: &mut [u8], at: usize, left: u32, name: &[u8]) -> usize {
         0,
         0,
     );
-    let b = svg::put_escaped(page, a, name);
+    let b = svg::put_escaped(page, a, face::trimmed(name));
     output::put_bytes(page, b, b"</text>\n")
 }
 

@@ -21,11 +21,6 @@ struct Marked {
     lanes: Lanes,
 }
 
-// The height at a place; 0 past the end.
-fn height_at(heights: &[i64], i: usize) -> i64 {
-    if i < heights.len() { heights[i] } else { 0 }
-}
-
 // A place across, kept so far from the plot's sides that a label there is not cut.
 fn kept_within(plot: Plot, text: u16, x: u32) -> u32 {
     let side = half(text);
@@ -63,7 +58,7 @@ fn label_down(plot: Plot, text: u16, high: bool, lane: u32) -> u64 {
 // Puts a label: the time, and the height under it.
 fn put_label(page: &mut [u8], at: usize, text: u16, x: u32, y: u64, turn: Turn) -> usize {
     let start = svg::put_form(page, at, b"<text x=\"@\" y=\"@\">", x as u64, y, 0, 0);
-    let time = face::put_clock(page, start, turn.minute);
+    let time = figures::put_clock(page, start, turn.minute);
     let second = svg::put_form(
         page,
         time,
@@ -73,7 +68,7 @@ fn put_label(page: &mut [u8], at: usize, text: u16, x: u32, y: u64, turn: Turn) 
         0,
         0,
     );
-    let height = face::put_height(page, second, turn.height, 0);
+    let height = figures::put_height(page, second, turn.height, 0);
     output::put_bytes(page, height, b"</tspan></text>\n")
 }
 
@@ -194,7 +189,7 @@ fn put_kind<'a>(
     let mut high = first_high;
     let mut i = 0;
     while i < minutes.len() {
-        let turn = turn_of(minutes[i], height_at(heights, i), high, first);
+        let turn = turn_of(minutes[i], figures::height_at(heights, i), high, first);
         marked = put_turn(page, marked, plot, text, first, last, kind, turn);
         high = !high;
         i += 1;

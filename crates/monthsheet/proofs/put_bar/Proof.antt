@@ -1,15 +1,16 @@
--- `face::put_blanks` is safe and ends: the page keeps its length. Assumes nothing.
+-- `monthsheet::put_bar` is safe and ends: ten columns are put. Assumes nothing.
 use borrow.Author.Needs.{needs}
+use Prim.Native.Nat.{_≤_, _-_}
 use mathlib.Core.Path.{_≡_}
 use lib.ListN.{length}
-use Rattle.face.proofs.put_blanks.Statement.{statement}
-use Rattle.face.proofs.put_blanks.Tie as tie
+use Rattle.monthsheet.proofs.put_bar.Statement.{statement}
+use Rattle.monthsheet.proofs.put_bar.Tie as tie
 
 abbrev Inv-loop : tie.InvT-loop
-Inv-loop page₀ at blanks next₀ left₀ page next left = length page ≡ length page₀
+Inv-loop page₀ at filled next₀ k₀ page next k = (length page ≡ length page₀) × (k ≤ 10)
 
 abbrev μ-loop : tie.MeasureT-loop
-μ-loop page₀ at blanks next₀ left₀ page next left = left
+μ-loop page₀ at filled next₀ k₀ page next k = 10 - k
 
 loop-holds : tie.Need-loop-holds Inv-loop μ-loop
 loop-holds c = search needs
@@ -17,8 +18,8 @@ loop-holds c = search needs
 put-requires : tie.Need-put-requires Inv-loop μ-loop
 put-requires c κs = search needs
 
-sub-left : tie.Need-sub-left Inv-loop μ-loop
-sub-left c = search needs
+add-k : tie.Need-add-k Inv-loop μ-loop
+add-k c = search needs
 
 loop-less : tie.Need-loop-less Inv-loop μ-loop
 loop-less c = search needs
@@ -32,15 +33,15 @@ same-length c = search needs
 returns : tie.Need-returns Inv-loop μ-loop
 returns c = search needs
 
-pub put-blanks-spec : {M : Type 1} → statement M
-put-blanks-spec =
+pub put-bar-spec : {M : Type 1} → statement M
+put-bar-spec =
     tie.close
     (tie.spec
     Inv-loop
     μ-loop
     loop-holds
     put-requires
-    sub-left
+    add-k
     loop-less
     loop-again
     same-length

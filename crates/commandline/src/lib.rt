@@ -1,0 +1,546 @@
+// What a command line asks.
+//
+// The words are lent in one row, each ended by a byte 0, behind those of `defaults`: the two files and the two units that are meant where
+// nothing else is said. A word is named by where it begins.
+use fields::Field;
+use fields::Format;
+
+// What is asked: a view with its year, month and so on, or what is wrong and the word that is.
+pub enum Asked {
+    Help,
+    Refusals,
+    Month(u32, u32),
+    Day(u32, u32, u32, u32),
+    Heights(u32, u32, u32),
+    Series(u32, u32, u32, u32, u32),
+    MonthDrawing(u32, u32),
+    DayDrawing(u32, u32, u32),
+    Wrong(Wrong, usize),
+}
+
+// What can be wrong with a command line.
+pub enum Wrong {
+    NoCommand,
+    NoOption,
+    NoValue,
+    TooFew,
+    TooMany,
+    NotNumber,
+    NotTime,
+    NotDay,
+}
+
+// What is asked, and where the words begin that name the card file, the station file and the unit.
+pub struct Request {
+    pub asked: Asked,
+    pub cards: usize,
+    pub station: usize,
+    pub unit: usize,
+}
+
+// A number that a word is, or part of it.
+enum Number {
+    Value(u32),
+    NoNumber,
+}
+
+// What a word is.
+enum Kind {
+    Cards,
+    Station,
+    Unit,
+    Help,
+    Unknown,
+    Plain,
+}
+
+// What is read so far: where the next word begins; how many plain words there are, and where the first eight begin, with what each is, as a
+// number (1), as a time (2) or as neither (0), and its value; the options' words, an option that is not known and one that has no value, each
+// 0 where there is none.
+struct Parsed {
+    at: usize,
+    plain: usize,
+    starts: [usize; 8],
+    kinds: [u8; 8],
+    values: [u32; 8],
+    cards: usize,
+    station: usize,
+    unit: usize,
+    help: bool,
+    unknown: usize,
+    missing: usize,
+}
+
+// The commands.
+enum Command {
+    Month,
+    Day,
+    Heights,
+    Series,
+    Svg,
+    Refusals,
+    NoCommand,
+}
+
+// A command's form: the fewest and the most words, its own among them, all numbers but its own and a time at one place (0: no time).
+struct Form {
+    least: usize,
+    most: usize,
+    time: usize,
+}
+
+// How words fit a form.
+enum Fit {
+    Fits,
+    Misfit(Wrong, usize),
+}
+
+// Where the default words begin.
+const CARDS: usize = 0;
+
+const STATION: usize = 24;
+
+const FEET: usize = 42;
+
+const METRES: usize = 47;
+
+// Where the arguments begin, behind the default words.
+pub const ARGUMENTS: usize = 54;
+
+// The byte of the default words at a place; 0 behind them.
+pub fn default_byte(k: usize) -> u8 {
+    if ARGUMENTS <= k {
+        return 0;
+    }
+    columns::column(
+        b"data/standard-cards.txt\0data/victoria.txt\0feet\0metres\0",
+        k,
+    )
+}
+
+// Where the word ends that begins at a byte, or the row where nothing ends it.
+fn word_end(words: &[u8], at: usize) -> usize {
+    let mut i = at;
+    while i < words.len() {
+        if words[i] == 0 {
+            return i;
+        }
+        i += 1;
+    }
+    i
+}
+
+// The word that begins at a byte, as a part of the row.
+pub fn word(words: &[u8], at: usize) -> &[u8] {
+    let end = word_end(words, at);
+    if end < at {
+        return columns::part(words, at, 0);
+    }
+    columns::part(words, at, end - at)
+}
+
+// What a word is.
+fn kind_of(word: &[u8]) -> Kind {
+    if face::same(word, b"--cards") {
+        return Kind::Cards;
+    }
+    if face::same(word, b"--station") {
+        return Kind::Station;
+    }
+    if face::same(word, b"--unit") {
+        return Kind::Unit;
+    }
+    if face::same(word, b"--help") {
+        return Kind::Help;
+    }
+    if face::same(word, b"-h") {
+        return Kind::Help;
+    }
+    if columns::column(word, 0) == b'-' {
+        return Kind::Unknown;
+    }
+    Kind::Plain
+}
+
+// The low 32 bits, which are all of a number that is in range.
+fn narrow(number: u64) -> u32 {
+    (number % 4_294_967_296) as u32
+}
+
+// A whole number of at most `high` in so many columns of a word, as 01's number fields have it.
+fn ranged(word: &[u8], from: usize, width: usize, high: i64) -> Number {
+    let field = fields::ranged_field(word, from, width, Format::Whole, 0, high);
+    match field {
+        Field::Value(value) => Number::Value(narrow(angles::size(value))),
+        Field::Malformed => Number::NoNumber,
+        Field::OutOfRange => Number::NoNumber,
+    }
+}
+
+// The minute of the day that a word HH:MM is.
+fn time_of(word: &[u8]) -> Number {
+    if word.len() != 5 {
+        return Number::NoNumber;
+    }
+    if columns::column(word, 2) != b':' {
+        return Number::NoNumber;
+    }
+    let hours = ranged(word, 0, 2, 23);
+    let Number::Value(hour) = hours else {
+        return Number::NoNumber;
+    };
+    let minutes = ranged(word, 3, 2, 59);
+    let Number::Value(minute) = minutes else {
+        return Number::NoNumber;
+    };
+    Number::Value(hour % 24 * 60 + minute % 60)
+}
+
+// Nothing is read yet.
+fn nothing() -> Parsed {
+    Parsed {
+        at: ARGUMENTS,
+        plain: 0,
+        starts: [0usize; 8],
+        kinds: [0u8; 8],
+        values: [0u32; 8],
+        cards: 0,
+        station: 0,
+        unit: 0,
+        help: false,
+        unknown: 0,
+        missing: 0,
+    }
+}
+
+// With a plain word that is what a kind and a value say.
+fn with_kind(parsed: Parsed, kind: u8, value: u32) -> Parsed {
+    let mut next = parsed;
+    let k = parsed.plain;
+    if k < 8 {
+        next.starts[k] = parsed.at;
+        next.kinds[k] = kind;
+        next.values[k] = value;
+        next.plain = k + 1;
+    }
+    next
+}
+
+// With one more plain word.
+fn with_plain(word: &[u8], parsed: Parsed) -> Parsed {
+    let time = time_of(word);
+    if let Number::Value(minute) = time {
+        return with_kind(parsed, 2, minute);
+    }
+    let number = ranged(word, 0, word.len(), 4_294_967_295);
+    if let Number::Value(value) = number {
+        return with_kind(parsed, 1, value);
+    }
+    with_kind(parsed, 0, 0)
+}
+
+// With the value of an option, the word that begins at a byte.
+fn with_value(parsed: Parsed, kind: Kind, value: usize) -> Parsed {
+    let mut next = parsed;
+    match kind {
+        Kind::Cards => {
+            next.cards = value;
+        }
+        Kind::Station => {
+            next.station = value;
+        }
+        Kind::Unit => {
+            next.unit = value;
+        }
+        Kind::Help => {
+            next.help = true;
+        }
+        Kind::Unknown => {
+            next.unknown = parsed.at;
+        }
+        Kind::Plain => {}
+    }
+    next
+}
+
+// The byte behind the end of the word that begins at a byte; the row's end is behind all.
+fn behind(words: &[u8], at: usize) -> usize {
+    let end = word_end(words, at);
+    if end < words.len() { end + 1 } else { end }
+}
+
+// Whether an option of a kind has a value.
+fn has_value(kind: Kind) -> bool {
+    match kind {
+        Kind::Cards => true,
+        Kind::Station => true,
+        Kind::Unit => true,
+        Kind::Help => false,
+        Kind::Unknown => false,
+        Kind::Plain => false,
+    }
+}
+
+// Whether a word of a kind is plain.
+fn is_plain(kind: Kind) -> bool {
+    match kind {
+        Kind::Cards => false,
+        Kind::Station => false,
+        Kind::Unit => false,
+        Kind::Help => false,
+        Kind::Unknown => false,
+        Kind::Plain => true,
+    }
+}
+
+// The next word, with the value of an option.
+fn step(words: &[u8], parsed: Parsed) -> Parsed {
+    let at = parsed.at;
+    let value = behind(words, at);
+    let kind = kind_of(word(words, at));
+    if is_plain(kind) {
+        let mut next = with_plain(word(words, at), parsed);
+        next.at = value;
+        return next;
+    }
+    let mut next = with_value(parsed, kind, value);
+    next.at = value;
+    if has_value(kind) {
+        next.at = behind(words, value);
+        if words.len() <= value {
+            next.missing = at;
+        }
+    }
+    next
+}
+
+// All words. Each step leaves a word behind it, so that a step for each byte is enough.
+fn all_words(words: &[u8]) -> Parsed {
+    let mut parsed = nothing();
+    let mut steps = words.len();
+    while 0 < steps && parsed.at < words.len() {
+        parsed = step(words, parsed);
+        steps -= 1;
+    }
+    parsed
+}
+
+// The command that a word names.
+fn command_of(word: &[u8]) -> Command {
+    if face::same(word, b"month") {
+        return Command::Month;
+    }
+    if face::same(word, b"day") {
+        return Command::Day;
+    }
+    if face::same(word, b"heights") {
+        return Command::Heights;
+    }
+    if face::same(word, b"series") {
+        return Command::Series;
+    }
+    if face::same(word, b"svg") {
+        return Command::Svg;
+    }
+    if face::same(word, b"refusals") {
+        return Command::Refusals;
+    }
+    Command::NoCommand
+}
+
+// month YEAR MONTH; day YEAR MONTH DAY [HH:MM]; heights YEAR MONTH [STEP]; series YEAR MONTH DAY HH:MM STEP COUNT; svg YEAR MONTH [DAY];
+// refusals
+fn form_of(command: Command) -> Form {
+    match command {
+        Command::Month => Form {
+            least: 3,
+            most: 3,
+            time: 0,
+        },
+        Command::Day => Form {
+            least: 4,
+            most: 5,
+            time: 4,
+        },
+        Command::Heights => Form {
+            least: 3,
+            most: 4,
+            time: 0,
+        },
+        Command::Series => Form {
+            least: 7,
+            most: 7,
+            time: 4,
+        },
+        Command::Svg => Form {
+            least: 3,
+            most: 4,
+            time: 0,
+        },
+        Command::Refusals => Form {
+            least: 1,
+            most: 1,
+            time: 0,
+        },
+        Command::NoCommand => Form {
+            least: 0,
+            most: 8,
+            time: 0,
+        },
+    }
+}
+
+// The kind that a form has at a place.
+fn kind_at(time: usize, k: usize) -> u8 {
+    if k == time { 2 } else { 1 }
+}
+
+// The first plain word behind the first that is not of the form's kind; their number where there is none.
+fn unfit(kinds: [u8; 8], plain: usize, time: usize) -> usize {
+    let mut k = 1;
+    while k < plain && k < 8 {
+        if kinds[k] != kind_at(time, k) {
+            return k;
+        }
+        k += 1;
+    }
+    plain
+}
+
+// What is wrong with the word at a place.
+fn misfit(time: usize, k: usize, start: usize) -> Fit {
+    if k == time {
+        return Fit::Misfit(Wrong::NotTime, start);
+    }
+    Fit::Misfit(Wrong::NotNumber, start)
+}
+
+// Where the plain word at a place begins; 0 past the eighth.
+fn start_at(starts: [usize; 8], k: usize) -> usize {
+    if k < 8 { starts[k] } else { 0 }
+}
+
+// How the plain words fit a form.
+fn fitting(plain: usize, starts: [usize; 8], kinds: [u8; 8], form: Form) -> Fit {
+    if plain < form.least {
+        return Fit::Misfit(Wrong::TooFew, starts[0]);
+    }
+    let most = form.most;
+    if most < plain {
+        return Fit::Misfit(Wrong::TooMany, start_at(starts, most));
+    }
+    let k = unfit(kinds, plain, form.time);
+    if plain <= k {
+        return Fit::Fits;
+    }
+    misfit(form.time, k, start_at(starts, k))
+}
+
+// What a command asks with numbers that fit its form.
+fn with_numbers(command: Command, plain: usize, start: usize, v: [u32; 8]) -> Asked {
+    match command {
+        Command::Month => Asked::Month(v[1], v[2]),
+        Command::Day => Asked::Day(v[1], v[2], v[3], v[4]),
+        Command::Heights => Asked::Heights(v[1], v[2], if plain < 4 { 60 } else { v[3] }),
+        Command::Series => Asked::Series(v[1], v[2], minute_of_month(v[3], v[4]), v[5], v[6]),
+        Command::Svg => {
+            if plain < 4 {
+                return Asked::MonthDrawing(v[1], v[2]);
+            }
+            Asked::DayDrawing(v[1], v[2], v[3])
+        }
+        Command::Refusals => Asked::Refusals,
+        Command::NoCommand => Asked::Wrong(Wrong::NoCommand, start),
+    }
+}
+
+// Whether a command's fourth word is a day.
+fn has_day(command: Command, plain: usize) -> bool {
+    match command {
+        Command::Month => false,
+        Command::Day => true,
+        Command::Heights => false,
+        Command::Series => true,
+        Command::Svg => 3 < plain,
+        Command::Refusals => false,
+        Command::NoCommand => false,
+    }
+}
+
+// What a command asks with the plain words behind it.
+fn with_words(
+    command: Command,
+    plain: usize,
+    starts: [usize; 8],
+    kinds: [u8; 8],
+    values: [u32; 8],
+) -> Asked {
+    let form = form_of(command);
+    let fit = fitting(plain, starts, kinds, form);
+    match fit {
+        Fit::Misfit(wrong, start) => Asked::Wrong(wrong, start),
+        Fit::Fits => {
+            if has_day(command, plain) && values[3] < 1 {
+                return Asked::Wrong(Wrong::NotDay, starts[3]);
+            }
+            with_numbers(command, plain, starts[0], values)
+        }
+    }
+}
+
+// The minute of the month of a minute of one of its days; past every month where it is too large to say, or the day is 0.
+pub fn minute_of_month(day: u32, minute: u32) -> u32 {
+    if 1_000_000 < day {
+        return 4_294_967_295;
+    }
+    if 1_440 < minute {
+        return 4_294_967_295;
+    }
+    if day < 1 {
+        return 4_294_967_295;
+    }
+    (day - 1) * 1_440 + minute
+}
+
+// What the words ask.
+fn asked_by(words: &[u8], parsed: Parsed) -> Asked {
+    if parsed.help {
+        return Asked::Help;
+    }
+    if 0 < parsed.unknown {
+        return Asked::Wrong(Wrong::NoOption, parsed.unknown);
+    }
+    if 0 < parsed.missing {
+        return Asked::Wrong(Wrong::NoValue, parsed.missing);
+    }
+    if parsed.plain < 1 {
+        return Asked::Help;
+    }
+    let starts = parsed.starts;
+    let kinds = parsed.kinds;
+    let values = parsed.values;
+    let first = starts[0];
+    let command = command_of(word(words, first));
+    with_words(command, parsed.plain, starts, kinds, values)
+}
+
+// A place, or another where it is 0.
+fn or(place: usize, other: usize) -> usize {
+    if place == 0 { other } else { place }
+}
+
+// The unit's word where none is given: the sample's is feet, any other station's metres.
+fn default_unit(station: usize) -> usize {
+    if station == 0 { FEET } else { METRES }
+}
+
+// What the words ask, and their files and unit. With no word it is the help.
+pub fn parse(words: &[u8]) -> Request {
+    let parsed = all_words(words);
+    Request {
+        asked: asked_by(words, parsed),
+        cards: or(parsed.cards, CARDS),
+        station: or(parsed.station, STATION),
+        unit: or(parsed.unit, default_unit(parsed.station)),
+    }
+}

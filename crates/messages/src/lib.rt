@@ -1,0 +1,120 @@
+// What the program says of a refusal or of a command line that it cannot follow: one line on standard error each.
+mod words;
+
+use commandline::Wrong;
+use faults::Fault;
+use faults::Trouble;
+use libc::STDERR_FILENO;
+use libc::STDOUT_FILENO;
+use refusals::Refusal;
+
+// Says a piece of text.
+fn say(text: &[u8]) {
+    io::write_all(STDERR_FILENO, text);
+}
+
+// Says a number.
+fn say_number(number: u64) {
+    io::print_decimal(STDERR_FILENO, number);
+}
+
+// Says the end of a line on a refusal: its number.
+fn say_refusal(refusal: Refusal) {
+    say(b" (refusal ");
+    say_number(refusals::number_of(refusal) as u64);
+    say(b")\n");
+}
+
+// Says which of several, where there are several.
+fn say_which(which: usize) {
+    if 0 < which {
+        say(b" ");
+        say_number(which as u64);
+    }
+}
+
+// Says what is wrong on a line.
+fn say_fault(fault: Fault, refusal: Refusal) {
+    let trouble = fault.trouble;
+    let what = fault.what;
+    if let Trouble::General = trouble {
+        words::write_general(STDERR_FILENO, refusal);
+        return;
+    }
+    words::write_what(STDERR_FILENO, what);
+    say_which(fault.which);
+    words::write_trouble(STDERR_FILENO, trouble);
+}
+
+// FILE line N: words (refusal n)
+pub fn refused(file: &[u8], line: usize, fault: Fault, refusal: Refusal) {
+    say(file);
+    say(b" line ");
+    say_number(line as u64);
+    say(b": ");
+    say_fault(fault, refusal);
+    say_refusal(refusal);
+}
+
+// SUBJECT NUMBER: words (refusal n), for what was asked with a number.
+pub fn refused_number(subject: &[u8], number: u64, refusal: Refusal) {
+    say(subject);
+    say(b" ");
+    say_number(number);
+    say(b": ");
+    words::write_general(STDERR_FILENO, refusal);
+    say_refusal(refusal);
+}
+
+// FILE: it is too large.
+pub fn too_large(file: &[u8]) {
+    say(file);
+    say(b": larger than 65536 bytes\n");
+}
+
+// The command line is longer than the program can take.
+pub fn too_long() {
+    say(b"the command line is too long, try --help\n");
+}
+
+// WORD: what is wrong with it, try --help
+pub fn wrong_word(word: &[u8], wrong: Wrong) {
+    say(word);
+    match wrong {
+        Wrong::NoCommand => say(b": no such command"),
+        Wrong::NoOption => say(b": no such option"),
+        Wrong::NoValue => say(b": its value is missing"),
+        Wrong::TooFew => say(b": more words are wanted"),
+        Wrong::TooMany => say(b": one word too many"),
+        Wrong::NotNumber => say(b": not a whole number"),
+        Wrong::NotTime => say(b": not a time HH:MM"),
+        Wrong::NotDay => say(b": not a day of a month"),
+    }
+    say(b", try --help\n");
+}
+
+// One line of the list of refusals: number and words.
+fn list_one(refusal: Refusal) {
+    io::print_decimal(STDOUT_FILENO, refusals::number_of(refusal) as u64);
+    io::write_all(STDOUT_FILENO, b" ");
+    words::write_general(STDOUT_FILENO, refusal);
+    io::write_all(STDOUT_FILENO, b"\n");
+}
+
+// The list of all refusals, on standard output.
+pub fn list_refusals() {
+    list_one(Refusal::BadLine);
+    list_one(Refusal::Malformed);
+    list_one(Refusal::OutOfRange);
+    list_one(Refusal::BadName);
+    list_one(Refusal::Missing);
+    list_one(Refusal::TooMany);
+    list_one(Refusal::Ended);
+    list_one(Refusal::BadDate);
+    list_one(Refusal::BadMinutes);
+    list_one(Refusal::TooManyTurns);
+    list_one(Refusal::TooLarge);
+    list_one(Refusal::NoTable);
+    list_one(Refusal::NoStation);
+    list_one(Refusal::NoMonth);
+}
