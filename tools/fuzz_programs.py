@@ -44,8 +44,8 @@ STATIONS = [data("victoria.txt"), data("examples/semidiurnal.txt"), data("exampl
 with open(os.path.join(ROOT, "crates", "replay", "stdin"), "rb") as script:
     SCRIPT = script.read()
 
-# the script's calls behind its card file
-CALLS = SCRIPT[SCRIPT.index(b"date 1976 7"):]
+# the calls behind its card file, without the last, which is not of the format
+CALLS = SCRIPT[SCRIPT.index(b"date 1976 7"):SCRIPT.rindex(b"height -1")]
 
 
 # ---- damage to a file
