@@ -56,7 +56,11 @@ fn unless_blank(line: &[u8], kind: Kind, next: Kind) -> Kind {
 
 // The kind of the card behind a main constituent's.
 fn behind_main(due: usize) -> Kind {
-    if due == 0 { Kind::Main } else { Kind::Satellites }
+    if due == 0 {
+        Kind::Main
+    } else {
+        Kind::Satellites
+    }
 }
 
 // The kind of the card behind a card of a kind; `due` satellites are due behind it.

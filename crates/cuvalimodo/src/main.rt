@@ -126,7 +126,16 @@ fn answer<'a>(clock: Clock, face: Face, words: &'a [u8], station: &'a [u8], requ
         }
         Asked::Series(year, month, start, step, count) => {
             views::series(
-                clock, face, station, unit, path, year, month, start, step, count,
+                clock,
+                face,
+                station,
+                unit,
+                path,
+                year,
+                month,
+                start,
+                step,
+                count,
             )
         }
         Asked::MonthDrawing(year, month) => {
@@ -156,7 +165,12 @@ fn with_station<'a>(
     match answer {
         Answer::Refused(refusal, line) => {
             let fault = stationfaults::station_fault(station, line, refusal);
-            messages::refused(commandline::word(words, request.station), line, fault, refusal)
+            messages::refused(
+                commandline::word(words, request.station),
+                line,
+                fault,
+                refusal,
+            )
         }
         Answer::Accepted => {
             let rows = read.rows;

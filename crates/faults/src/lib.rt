@@ -126,14 +126,7 @@ pub fn bad_name(line: &[u8], from: usize) -> Fault {
 // The field of a place on a line.
 pub fn field_of(line: &[u8], place: Place) -> Field {
     let format = place.format;
-    fields::ranged_field(
-        line,
-        place.from,
-        place.width,
-        format,
-        place.low,
-        place.high,
-    )
+    fields::ranged_field(line, place.from, place.width, format, place.low, place.high)
 }
 
 // The fault of a field: General where it has none.
@@ -179,7 +172,11 @@ fn line_end(file: &[u8], at: usize) -> usize {
 // Where the line behind it begins; the file's end where there is none.
 pub fn line_behind(file: &[u8], at: usize) -> usize {
     let end = line_end(file, at);
-    if end < file.len() { end + 1 } else { file.len() }
+    if end < file.len() {
+        end + 1
+    } else {
+        file.len()
+    }
 }
 
 // The line that begins at a byte of a file.

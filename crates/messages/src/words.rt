@@ -26,7 +26,8 @@ pub fn write_what(fd: i32, what: What) {
         What::Latitude => io::write_all(fd, b"latitude"),
         What::Amplitude => io::write_all(fd, b"amplitude"),
         What::PhaseLag => io::write_all(fd, b"phase lag"),
-    };
+    }
+    ;
 }
 
 // What is wrong with it.
@@ -56,7 +57,8 @@ pub fn write_trouble(fd: i32, trouble: Trouble) {
             io::write_all(fd, b" ends inside the shallow-water constituents")
         }
         Trouble::NoStationCard => io::write_all(fd, b" has no station card"),
-    };
+    }
+    ;
 }
 
 // The general words of a refusal, which are 01's.
@@ -71,12 +73,16 @@ pub fn write_general(fd: i32, refusal: Refusal) {
         Refusal::Ended => io::write_all(fd, b"file ends inside a part"),
         Refusal::BadDate => io::write_all(fd, b"year or month out of range"),
         Refusal::BadMinutes => {
-            io::write_all(fd, b"minutes outside the month or reversed, or step out of range")
+            io::write_all(
+                fd,
+                b"minutes outside the month or reversed, or step out of range",
+            )
         }
         Refusal::TooManyTurns => io::write_all(fd, b"more turns than the lent buffers hold"),
         Refusal::TooLarge => io::write_all(fd, b"size of X or Y over 2^22"),
         Refusal::NoTable => io::write_all(fd, b"no table"),
         Refusal::NoStation => io::write_all(fd, b"no station"),
         Refusal::NoMonth => io::write_all(fd, b"no month"),
-    };
+    }
+    ;
 }

@@ -83,7 +83,12 @@ fn put_day<'a>(
     requires { ⌜ largest ≤ 2_000_000_000_000 ⌝ }
 {
     let a = figures::put_right(page, at, day as u64, 2);
-    let b = put_swing(page, a, swings::largest_swing(heights, count, from, to), largest);
+    let b = put_swing(
+        page,
+        a,
+        swings::largest_swing(heights, count, from, to),
+        largest,
+    );
     let c = put_turns(page, b, day, from, to, first, minutes, heights);
     output::put(page, c, 10)
 }
@@ -106,7 +111,16 @@ fn put_days<'a>(
         let day = days - left + 1;
         let to = swings::day_end(minutes, from, count, day, days);
         next = put_day(
-            page, next, day, from, to, count, first, largest, minutes, heights,
+            page,
+            next,
+            day,
+            from,
+            to,
+            count,
+            first,
+            largest,
+            minutes,
+            heights,
         );
         from = to;
         left -= 1;
@@ -124,13 +138,7 @@ fn put_title(page: &mut [u8], at: usize, name: &[u8], year: u32, month: u32) -> 
 }
 
 // Puts the scales, what the sheet stands on, and the columns.
-fn put_scales<'a>(
-    page: &mut [u8],
-    at: usize,
-    face: Face,
-    zone: &'a [u8],
-    unit: &'a [u8],
-) -> usize {
+fn put_scales<'a>(page: &mut [u8], at: usize, face: Face, zone: &'a [u8], unit: &'a [u8]) -> usize {
     let a = face::put_scales(page, at, zone, unit);
     let b = output::put(page, a, 10);
     let c = face::put_face(page, b, face);

@@ -7,7 +7,11 @@ fn size_of(height: i64) -> u64
     ensures { λ r. ⌜ r ≤ 1_000_000_000_000 ⌝ }
 {
     let size = angles::size(height);
-    if size < 1_000_000_000_000 { size } else { 1_000_000_000_000 }
+    if size < 1_000_000_000_000 {
+        size
+    } else {
+        1_000_000_000_000
+    }
 }
 
 // How far two sizes lie apart.
@@ -43,7 +47,10 @@ fn swing(heights: &[i64], count: usize, i: usize) -> u64
         return 0;
     }
     if i < 1 {
-        return apart(figures::height_at(heights, 0), figures::height_at(heights, 1));
+        return apart(
+            figures::height_at(heights, 0),
+            figures::height_at(heights, 1),
+        );
     }
     apart(
         figures::height_at(heights, i - 1),
@@ -100,4 +107,3 @@ pub fn day_end(minutes: &[u32], from: usize, count: usize, day: u32, days: u32) 
     }
     i
 }
-
