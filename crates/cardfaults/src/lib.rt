@@ -149,7 +149,7 @@ fn is_kind(kind: Kind, frequencies: bool) -> bool {
 // Whether the name on the frequency or main card at a line is this one.
 fn is_named<'a>(name: &'a [u8], line: &'a [u8], frequencies: bool) -> bool {
     let from = if frequencies { 4 } else { 6 };
-    columns::is_name(name, columns::name_part(line, from), 0)
+    names::is_name(name, names::name_part(line, from), 0)
 }
 
 // Whether a frequency, or a main constituent, has this name, padded.
@@ -429,7 +429,7 @@ fn number_fault(line: &[u8], kind: Kind, due: usize) -> Fault {
 fn part_fault<'a>(file: &'a [u8], line: &'a [u8]) -> Fault {
     let mut j: usize = 0;
     while j < 4 {
-        if !is_defined(file, columns::name_part(line, 19 + 15 * j), false) {
+        if !is_defined(file, names::name_part(line, 19 + 15 * j), false) {
             return Fault {
                 what: What::PartName,
                 which: j + 1,
@@ -450,7 +450,7 @@ fn missing_fault<'a>(file: &'a [u8], line: &'a [u8], kind: Kind) -> Fault {
         Kind::Main => of_name(Trouble::NoFrequency),
         Kind::Satellites => no_words(),
         Kind::Shallow => {
-            if !is_defined(file, columns::name_part(line, 6), true) {
+            if !is_defined(file, names::name_part(line, 6), true) {
                 return of_name(Trouble::NoFrequency);
             }
             part_fault(file, line)

@@ -117,7 +117,7 @@ pub fn bad_line(line: &[u8]) -> Fault {
 
 // A constituent's own name that is refused by 4: blank, or there before.
 pub fn bad_name(line: &[u8], from: usize) -> Fault {
-    if columns::name_blank(columns::name_part(line, from)) {
+    if names::name_blank(names::name_part(line, from)) {
         return of_name(Trouble::Blank);
     }
     of_name(Trouble::Twice)
