@@ -11,9 +11,9 @@ ghost use Rattle.onecall.specs.Setting.{oneLength, lacking, recordsIn, f
 ghost use Rattle.onecall.specs.Posts.{SetPost, ReadyPost};
 use clock::After;
 use clock::Clock;
+use records::Rows;
 use refusals::Answer;
 use refusals::Refusal;
-use records::Rows;
 use table::Table;
 
 // Whether a clock could be set: the three arrays differ in length, and which record is the first that one of them lacks; or what the calls say.
