@@ -157,10 +157,10 @@ static void set(const char *file, size_t length, int count) {
 void print_times(const char *file, size_t length) {
     printf("\nTimes in microseconds, the best of %d interleaved rounds; their ratio, ours to the peer's; the median of the rounds' ratios\n\n", ROUNDS);
     printf("| %-36s | %-25s | %10s | %10s | %5s | %5s | target |\n|---|---|---|---|---|---|---|\n", "work", "peer", "ours", "peer", "ratio", "med.");
-    static const int counts[] = {11, 37, 145};
+    static const int sizes[] = {11, 37, 145};
     for (int i = 0; i < 3; i++) {
-        set(file, length, counts[i]);
-        time_series(counts[i]);
+        set(file, length, sizes[i]);
+        time_series(sizes[i]);
     }
     set(file, length, 11);
     time_two("a single height, 11 constituents", our_heights, peer_heights, 20000, 2);
@@ -178,28 +178,36 @@ static size_t grown;
 
 static void grown_series(uint32_t n) { timed_series(OURS(&w), w.month, n, heights, grown); }
 
-static double best_growth(uint32_t repeats) {
-    struct round r[ROUNDS];
-    for (int i = 0; i < ROUNDS; i++) r[i] = one_round(grown_series, repeats);
-    return best(r, ROUNDS, repeats);
+static const int counts[] = {0, 11, 37, 73, 145};
+static const size_t days[] = {1, 7, 31};
+
+static uint32_t growth_repeats(int c, int i) { return (uint32_t)((counts[c] ? 60 : 6000) / (days[i] * (1 + (size_t)counts[c] / 10)) + 1); }
+
+// One round of every number of constituents and days.
+static void growth_round(const char *file, size_t length, int at, struct round r[5][3][ROUNDS]) {
+    for (int c = 0; c < 5; c++) {
+        set(file, length, counts[c]);
+        for (int i = 0; i < 3; i++) {
+            grown = 1440 * days[i];
+            r[c][i][at] = one_round(grown_series, growth_repeats(c, i));
+        }
+    }
 }
 
 void print_growth(const char *file, size_t length) {
-    static const int counts[] = {0, 11, 37, 73, 145};
-    static const size_t days[] = {1, 7, 31};
-    printf("\nHow a series of one-minute steps grows, ours: microseconds, and nanoseconds for each constituent and height\n\n");
+    static struct round r[5][3][ROUNDS];
+    for (int at = 0; at < ROUNDS; at++) growth_round(file, length, at, r);
+    printf("\nHow a series of one-minute steps grows, ours: microseconds, and for a month nanoseconds for each constituent and height\n\n");
     printf("| constituents | a day | a week | a month | ns |\n|---|---|---|---|---|\n");
     for (int c = 0; c < 5; c++) {
-        set(file, length, counts[c]);
-        printf("| %d |", counts[c]);
         double t = 0;
+        printf("| %d |", counts[c]);
         for (int i = 0; i < 3; i++) {
-            grown = 1440 * days[i];
-            t = best_growth((uint32_t)(60 / (days[i] * (1 + (size_t)counts[c] / 10)) + 1));
+            t = best(r[c][i], ROUNDS, growth_repeats(c, i));
             printf(" %.1f |", t / 1000);
         }
         if (counts[c])
-            printf(" %.2f |\n", t / (double)grown / counts[c]);
+            printf(" %.2f |\n", t / MONTH / counts[c]);
         else
             printf(" - |\n");
     }

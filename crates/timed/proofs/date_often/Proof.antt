@@ -1,17 +1,13 @@
+-- `timed::date_often` meets its contract: before each turn the clock is what the turns so far leave. The measure is the turns left. Assumes nothing.
 use native.Mathlib.Omega.{arith}
-use mathlib.Core.Path.{_∙_}
-use mathlib.Core.Path.{ap}
+use mathlib.Core.Path.{_∙_, ap, _≡_}
 use Rattle.timed.proofs.Turns.{dated-none, dated-more}
-use mathlib.Core.Path.{_≡_, refl}
 use Prim.Native.Nat.{_-_, _≤_}
 use borrow.Author.Needs.{needs}
 use Rattle.clock.specs.View.{view, Made}
 use Rattle.timed.specs.Often.{datedOften}
 use Rattle.timed.proofs.date_often.Statement.{statement}
 use Rattle.timed.proofs.date_often.Tie as tie
-use Rattle.timed.proofs.date_often.Reads as reads
-use Rattle.timed.proofs.date_often.Lts as lts
-use Rattle.clock.proofs.set_date.Reads as set-date-reads
 
 abbrev Inv-loop : tie.InvT-loop
 Inv-loop year repeats next₀ turn₀ next turn = (turn ≤ repeats) × (Made next × (view next ≡ datedOften (view next₀) year turn))
@@ -19,27 +15,21 @@ Inv-loop year repeats next₀ turn₀ next turn = (turn ≤ repeats) × (Made ne
 abbrev μ-loop : tie.MeasureT-loop
 μ-loop year repeats next₀ turn₀ next turn = repeats - turn
 
--- src/lib.rt:83:5
 loop-holds : tie.Need-loop-holds Inv-loop μ-loop
 loop-holds c = (omega arith, (search needs, dated-none _ _))
 
--- src/lib.rt:84:49
 add-set-date : tie.Need-add-set-date Inv-loop μ-loop
 add-set-date c = search needs
 
--- src/lib.rt:84:13
 set-date-requires : tie.Need-set-date-requires Inv-loop μ-loop
 set-date-requires c κs = search needs
 
--- src/lib.rt:86:9
 add-turn : tie.Need-add-turn Inv-loop μ-loop
 add-turn c = search needs
 
--- src/lib.rt:83:5
 loop-less : tie.Need-loop-less Inv-loop μ-loop
 loop-less c = search needs
 
--- src/lib.rt:83:5
 loop-again : tie.Need-loop-again Inv-loop μ-loop
 loop-again c =
     let s = c .before .before .before .loop in
@@ -47,7 +37,6 @@ loop-again c =
     let e = c .before .set-date .ensures in
     (omega arith, (e .made, e .leaves ∙ dated-more (view (a .clock)) (a .year) (s .turn) (view (s .next)) (s .inv .1 .1)))
 
--- src/lib.rt:76:1
 returns : tie.Need-returns Inv-loop μ-loop
 returns c =
     let s = c .before .loop in

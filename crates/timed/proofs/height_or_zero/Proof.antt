@@ -1,3 +1,4 @@
+-- `timed::height_or_zero` meets its contract, case by case. Assumes nothing.
 use mathlib.Core.Path.{_∙_, sym, ap}
 use mir.Syntax.{w64}
 use mir.Val.{SFits}
@@ -8,25 +9,19 @@ use Rattle.timed.specs.Often.{heightOrZero}
 use borrow.Author.Needs.{needs}
 use Rattle.timed.proofs.height_or_zero.Statement.{statement}
 use Rattle.timed.proofs.height_or_zero.Tie as tie
-use Rattle.timed.proofs.height_or_zero.Reads as reads
-use Rattle.timed.proofs.height_or_zero.Lts as lts
 
--- src/lib.rt:129:30
 enum-known-answer : tie.Need-enum-known-answer
 enum-known-answer c = search needs
 
--- src/lib.rt:130:40
 enum-told : tie.Need-enum-told
 enum-told c = search needs
 
--- src/lib.rt:125:1
 returns : tie.Need-returns
 returns c =
     let g = c .before .answer .given in
     let fits : SFits w64 (g .0 .0) = search needs in
     toZ-ofZ w64 (g .0 .0) fits ∙ ap (λ (x : HeightAnswer). heightOrZero (heightReturned x)) (sym (g .1))
 
--- src/lib.rt:125:1
 returns-2 : tie.Need-returns-2
 returns-2 c =
     ap (λ (x : HeightAnswer). heightOrZero (heightReturned x)) (sym (c .enum-told .given .1))

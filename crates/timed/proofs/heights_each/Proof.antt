@@ -1,24 +1,18 @@
+-- `timed::heights_each` meets its contract: before place i the first i heights stand. The measure is the places left. Assumes nothing.
 use Rattle.clock.specs.Returned.{heightReturned}
-use Prim.Native.Nat.{min}
-use lib.ListN.{set}
+use Prim.Native.Nat.{min, ℕ, _-_, _≤_}
+use lib.ListN.{set, length}
 use mir.Syntax.{w64}
 use mir.Val.{SFits}
 use mir.ValLaws.{toZ-ofZ}
 use mathlib.Core.Path.{_≡_, refl, _∙_, ap}
-use Prim.Native.Nat.{ℕ, _-_, _≤_}
 use borrow.Author.Needs.{needs}
 use native.Mathlib.Omega.{arith}
-use lib.ListN.{length}
 use Rattle.clock.specs.View.{view}
 use Rattle.timed.specs.Often.{heightsAt}
 use Rattle.timed.proofs.Turns.{places-none, places-more}
 use Rattle.timed.proofs.heights_each.Statement.{statement}
 use Rattle.timed.proofs.heights_each.Tie as tie
-use Rattle.timed.proofs.heights_each.Reads as reads
-use Rattle.timed.proofs.heights_each.Lts as lts
-use Rattle.clock.proofs.height.Reads as height-reads
-use Rattle.timed.proofs.height_or_zero.Reads as height-or-zero-reads
-use Rattle.timed.proofs.lesser.Reads as lesser-reads
 
 abbrev Inv-loop : tie.InvT-loop
 Inv-loop clock minutes heights₀ n i₀ heights i = (i ≤ n) × ((n ≤ length minutes) × ((n ≤ length heights₀) × ((length heights ≡ length heights₀) × (heights ≡ heightsAt (view clock) minutes i heights₀))))
@@ -26,47 +20,36 @@ Inv-loop clock minutes heights₀ n i₀ heights i = (i ≤ n) × ((n ≤ length
 abbrev μ-loop : tie.MeasureT-loop
 μ-loop clock minutes heights₀ n i₀ heights i = n - i
 
--- src/lib.rt:139:9
 lesser-requires : tie.Need-lesser-requires Inv-loop μ-loop
 lesser-requires c κs = search needs
 
--- src/lib.rt:141:5
 loop-holds : tie.Need-loop-holds Inv-loop μ-loop
 loop-holds c = (omega arith, (search needs, (search needs, (refl, places-none _ _ _))))
 
--- src/lib.rt:142:43
 mul-height : tie.Need-mul-height Inv-loop μ-loop
 mul-height c = search needs
 
--- src/lib.rt:142:43
 shared-slice-read-height : tie.Need-shared-slice-read-height Inv-loop μ-loop
 shared-slice-read-height c = search needs
 
--- src/lib.rt:142:13
 height-requires : tie.Need-height-requires Inv-loop μ-loop
 height-requires c κs = search needs
 
--- src/lib.rt:143:22
 height-or-zero-requires : tie.Need-height-or-zero-requires Inv-loop μ-loop
 height-or-zero-requires c κs = search needs
 
--- src/lib.rt:143:9
 mul-height-2 : tie.Need-mul-height-2 Inv-loop μ-loop
 mul-height-2 c = search needs
 
--- src/lib.rt:143:9
 slice-set-from-height : tie.Need-slice-set-from-height Inv-loop μ-loop
 slice-set-from-height c = search needs
 
--- src/lib.rt:144:9
 add-i : tie.Need-add-i Inv-loop μ-loop
 add-i c = search needs
 
--- src/lib.rt:141:5
 loop-less : tie.Need-loop-less Inv-loop μ-loop
 loop-less c = search needs
 
--- src/lib.rt:141:5
 loop-again : tie.Need-loop-again Inv-loop μ-loop
 loop-again c =
     let s = c .before .before .before .before .loop in
@@ -78,11 +61,9 @@ loop-again c =
     let more = places-more (view (a .clock)) (a .minutes .now) (a .heights .now) (s .i) (heightReturned (h .result)) (s .heights) (h .ensures .returns) (s .inv .1 .1 .1 .1) in
     (omega arith, (search needs, (search needs, (search needs, ap (set (s .heights) (s .i)) (toZ-ofZ w64 (o .result) fits ∙ o .ensures) ∙ more))))
 
--- src/lib.rt:135:1
 same-length : tie.Need-same-length Inv-loop μ-loop
 same-length c = search needs
 
--- src/lib.rt:135:1
 returns : tie.Need-returns Inv-loop μ-loop
 returns c =
     let s = c .before .loop in

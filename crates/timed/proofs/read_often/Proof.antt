@@ -1,17 +1,13 @@
+-- `timed::read_often` meets its contract: before each turn the clock is what the turns so far leave. The measure is the turns left. Assumes nothing.
 use native.Mathlib.Omega.{arith}
-use mathlib.Core.Path.{_∙_}
-use mathlib.Core.Path.{ap}
+use mathlib.Core.Path.{_∙_, ap, _≡_}
 use Rattle.timed.proofs.Turns.{read-none, read-more}
-use mathlib.Core.Path.{_≡_, refl}
 use Prim.Native.Nat.{_-_, _≤_}
 use borrow.Author.Needs.{needs}
 use Rattle.clock.specs.View.{view, Made}
 use Rattle.timed.specs.Often.{readOften}
 use Rattle.timed.proofs.read_often.Statement.{statement}
 use Rattle.timed.proofs.read_often.Tie as tie
-use Rattle.timed.proofs.read_often.Reads as reads
-use Rattle.timed.proofs.read_often.Lts as lts
-use Rattle.clock.proofs.load_cards.Reads as load-cards-reads
 
 abbrev Inv-loop : tie.InvT-loop
 Inv-loop file repeats next₀ turn₀ next turn = (turn ≤ repeats) × (Made next × (view next ≡ readOften (view next₀) file turn))
@@ -19,23 +15,18 @@ Inv-loop file repeats next₀ turn₀ next turn = (turn ≤ repeats) × (Made ne
 abbrev μ-loop : tie.MeasureT-loop
 μ-loop file repeats next₀ turn₀ next turn = repeats - turn
 
--- src/lib.rt:67:5
 loop-holds : tie.Need-loop-holds Inv-loop μ-loop
 loop-holds c = (omega arith, (search needs, read-none _ _))
 
--- src/lib.rt:68:13
 load-cards-requires : tie.Need-load-cards-requires Inv-loop μ-loop
 load-cards-requires c κs = search needs
 
--- src/lib.rt:70:9
 add-turn : tie.Need-add-turn Inv-loop μ-loop
 add-turn c = search needs
 
--- src/lib.rt:67:5
 loop-less : tie.Need-loop-less Inv-loop μ-loop
 loop-less c = search needs
 
--- src/lib.rt:67:5
 loop-again : tie.Need-loop-again Inv-loop μ-loop
 loop-again c =
     let s = c .before .before .before .loop in
@@ -43,7 +34,6 @@ loop-again c =
     let e = c .before .load-cards .ensures in
     (omega arith, (e .made, e .leaves ∙ read-more (view (a .clock)) (a .file .now) (s .turn) (view (s .next)) (s .inv .1 .1)))
 
--- src/lib.rt:60:1
 returns : tie.Need-returns Inv-loop μ-loop
 returns c =
     let s = c .before .loop in

@@ -1,4 +1,5 @@
-use mathlib.Core.Path.{_∙_, sym, ap}
+-- `timed::timed_cards` meets its contract: what each call leaves, one after the other. Assumes nothing.
+use mathlib.Core.Path.{_∙_, ap}
 use mir.Syntax.{w32}
 use mir.ValLaws.{toZ-ofZ}
 use Rattle.clock.specs.State.{State}
@@ -7,44 +8,28 @@ use Rattle.timed.specs.Often.{recordsIn, readOften}
 use borrow.Author.Needs.{needs}
 use Rattle.timed.proofs.timed_cards.Statement.{statement}
 use Rattle.timed.proofs.timed_cards.Tie as tie
-use Rattle.timed.proofs.timed_cards.Reads as reads
-use Rattle.timed.proofs.timed_cards.Lts as lts
-use Rattle.clock.proofs.new.Reads as new-reads
-use Rattle.clock.proofs.place_station.Reads as place-station-reads
-use Rattle.clock.proofs.series.Reads as series-reads
-use Rattle.clock.proofs.set_date.Reads as set-date-reads
-use Rattle.timed.proofs.read_often.Reads as read-often-reads
-use Rattle.timed.proofs.rows_from.Reads as rows-from-reads
 
--- src/lib.rt:150:9
 rows-from-requires : tie.Need-rows-from-requires
-rows-from-requires c κs = search needs
+rows-from-requires c κs = tt
 
--- src/lib.rt:151:29
 new-requires : tie.Need-new-requires
-new-requires c κs = search needs
+new-requires c κs = tt
 
--- src/lib.rt:151:9
 read-often-requires : tie.Need-read-often-requires
-read-often-requires c κs = search needs
+read-often-requires c κs = c .new .ensures .made
 
--- src/lib.rt:152:9
 place-station-requires : tie.Need-place-station-requires
-place-station-requires c κs = search needs
+place-station-requires c κs = c .read-often .ensures .0
 
--- src/lib.rt:154:9
 set-date-requires : tie.Need-set-date-requires
-set-date-requires c κs = search needs
+set-date-requires c κs = c .before .place-station .ensures .made
 
--- src/lib.rt:156:5
 series-requires : tie.Need-series-requires
-series-requires c κs = search needs
+series-requires c κs = c .before .before .set-date .ensures .made
 
--- src/lib.rt:135:1
 same-length : tie.Need-same-length
 same-length c = search needs
 
--- src/lib.rt:135:1
 returns : tie.Need-returns
 returns c =
     let z = c .before .before .before .before .before .before .before .before .before .before .before in

@@ -1,4 +1,5 @@
-use mathlib.Core.Path.{_∙_, sym, ap}
+-- `timed::timed_dates` meets its contract: what each call leaves, one after the other. Assumes nothing.
+use mathlib.Core.Path.{_∙_, ap}
 use mir.Syntax.{w32}
 use mir.ValLaws.{toZ-ofZ}
 use Rattle.clock.specs.State.{State}
@@ -7,34 +8,22 @@ use Rattle.timed.specs.Often.{datedOften}
 use borrow.Author.Needs.{needs}
 use Rattle.timed.proofs.timed_dates.Statement.{statement}
 use Rattle.timed.proofs.timed_dates.Tie as tie
-use Rattle.timed.proofs.timed_dates.Reads as reads
-use Rattle.timed.proofs.timed_dates.Lts as lts
-use Rattle.clock.proofs.series.Reads as series-reads
-use Rattle.timed.proofs.date_often.Reads as date-often-reads
-use Rattle.timed.proofs.rows_from.Reads as rows-from-reads
-use Rattle.timed.proofs.with_station.Reads as with-station-reads
 
--- src/lib.rt:174:9
 rows-from-requires : tie.Need-rows-from-requires
-rows-from-requires c κs = search needs
+rows-from-requires c κs = tt
 
--- src/lib.rt:175:9
 with-station-requires : tie.Need-with-station-requires
-with-station-requires c κs = search needs
+with-station-requires c κs = tt
 
--- src/lib.rt:176:9
 date-often-requires : tie.Need-date-often-requires
-date-often-requires c κs = search needs
+date-often-requires c κs = c .with-station .ensures .0
 
--- src/lib.rt:177:5
 series-requires : tie.Need-series-requires
-series-requires c κs = search needs
+series-requires c κs = c .before .date-often .ensures .0
 
--- src/lib.rt:160:1
 same-length : tie.Need-same-length
 same-length c = search needs
 
--- src/lib.rt:160:1
 returns : tie.Need-returns
 returns c =
     let z = c .before .before .before .before .before .before .before in

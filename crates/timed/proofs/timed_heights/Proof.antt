@@ -1,4 +1,5 @@
-use mathlib.Core.Path.{_∙_, sym, ap}
+-- `timed::timed_heights` meets its contract: what each call leaves, one after the other. Assumes nothing.
+use mathlib.Core.Path.{_∙_, ap}
 use mir.Syntax.{w32}
 use mir.ValLaws.{toZ-ofZ}
 use Rattle.clock.specs.State.{State}
@@ -8,29 +9,19 @@ use Rattle.timed.specs.Often.{heightsAt}
 use borrow.Author.Needs.{needs}
 use Rattle.timed.proofs.timed_heights.Statement.{statement}
 use Rattle.timed.proofs.timed_heights.Tie as tie
-use Rattle.timed.proofs.timed_heights.Reads as reads
-use Rattle.timed.proofs.timed_heights.Lts as lts
-use Rattle.timed.proofs.heights_each.Reads as heights-each-reads
-use Rattle.timed.proofs.rows_from.Reads as rows-from-reads
-use Rattle.timed.proofs.with_month.Reads as with-month-reads
 
--- src/lib.rt:247:9
 rows-from-requires : tie.Need-rows-from-requires
-rows-from-requires c κs = search needs
+rows-from-requires c κs = tt
 
--- src/lib.rt:248:9
 with-month-requires : tie.Need-with-month-requires
-with-month-requires c κs = search needs
+with-month-requires c κs = tt
 
--- src/lib.rt:249:5
 heights-each-requires : tie.Need-heights-each-requires
-heights-each-requires c κs = search needs
+heights-each-requires c κs = c .before .with-month .ensures .0
 
--- src/lib.rt:232:1
 same-length : tie.Need-same-length
 same-length c = search needs
 
--- src/lib.rt:232:1
 returns : tie.Need-returns
 returns c =
     let z = c .before .before .before .before .before .before .before in

@@ -1,4 +1,5 @@
-use mathlib.Core.Path.{_∙_, sym, ap}
+-- `timed::timed_series` meets its contract: what each call leaves, one after the other. Assumes nothing.
+use mathlib.Core.Path.{_∙_, ap}
 use mir.Syntax.{w32}
 use mir.ValLaws.{toZ-ofZ}
 use Rattle.clock.specs.State.{State}
@@ -6,29 +7,19 @@ use Rattle.timed.specs.Often.{seriesOften}
 use borrow.Author.Needs.{needs}
 use Rattle.timed.proofs.timed_series.Statement.{statement}
 use Rattle.timed.proofs.timed_series.Tie as tie
-use Rattle.timed.proofs.timed_series.Reads as reads
-use Rattle.timed.proofs.timed_series.Lts as lts
-use Rattle.timed.proofs.rows_from.Reads as rows-from-reads
-use Rattle.timed.proofs.series_often.Reads as series-often-reads
-use Rattle.timed.proofs.with_month.Reads as with-month-reads
 
--- src/lib.rt:196:9
 rows-from-requires : tie.Need-rows-from-requires
-rows-from-requires c κs = search needs
+rows-from-requires c κs = tt
 
--- src/lib.rt:197:9
 with-month-requires : tie.Need-with-month-requires
-with-month-requires c κs = search needs
+with-month-requires c κs = tt
 
--- src/lib.rt:198:5
 series-often-requires : tie.Need-series-often-requires
-series-often-requires c κs = search needs
+series-often-requires c κs = c .before .with-month .ensures .0
 
--- src/lib.rt:181:1
 same-length : tie.Need-same-length
 same-length c = search needs
 
--- src/lib.rt:181:1
 returns : tie.Need-returns
 returns c =
     let z = c .before .before .before .before .before .before in

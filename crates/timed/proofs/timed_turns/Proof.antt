@@ -1,3 +1,4 @@
+-- `timed::timed_turns` meets its contract: what each call leaves, one after the other. Assumes nothing.
 use mathlib.Core.Path.{_∙_, ap}
 use mir.Syntax.{w32}
 use mir.ValLaws.{toZ-ofZ}
@@ -7,43 +8,28 @@ use Rattle.timed.specs.Often.{recordsIn, dated, turnsOften, firstHigh}
 use borrow.Author.Needs.{needs}
 use Rattle.timed.proofs.timed_turns.Statement.{statement}
 use Rattle.timed.proofs.timed_turns.Tie as tie
-use Rattle.timed.proofs.timed_turns.Reads as reads
-use Rattle.timed.proofs.timed_turns.Lts as lts
-use Rattle.clock.proofs.turns.Reads as turns-reads
-use Rattle.timed.proofs.first_high.Reads as first-high-reads
-use Rattle.timed.proofs.rows_from.Reads as rows-from-reads
-use Rattle.timed.proofs.turns_often.Reads as turns-often-reads
-use Rattle.timed.proofs.with_month.Reads as with-month-reads
 
--- src/lib.rt:245:9
 rows-from-requires : tie.Need-rows-from-requires
-rows-from-requires c κs = search needs
+rows-from-requires c κs = tt
 
--- src/lib.rt:246:9
 with-month-requires : tie.Need-with-month-requires
-with-month-requires c κs = search needs
+with-month-requires c κs = tt
 
--- src/lib.rt:247:5
 turns-often-requires : tie.Need-turns-often-requires
-turns-often-requires c κs = search needs
+turns-often-requires c κs = c .before .before .with-month .ensures .0
 
--- src/lib.rt:248:9
 turns-requires : tie.Need-turns-requires
-turns-requires c κs = search needs
+turns-requires c κs = c .before .before .before .before .before .before .before .before .with-month .ensures .0
 
--- src/lib.rt:249:5
 first-high-requires : tie.Need-first-high-requires
-first-high-requires c κs = search needs
+first-high-requires c κs = tt
 
--- src/lib.rt:226:1
 same-length : tie.Need-same-length
 same-length c = search needs
 
--- src/lib.rt:226:1
 same-length-2 : tie.Need-same-length-2
 same-length-2 c = search needs
 
--- src/lib.rt:226:1
 returns : tie.Need-returns
 returns c =
     let z = c .before .before .before .before .before .before .before .before .before .before .before .before .before .before .before .before .before in

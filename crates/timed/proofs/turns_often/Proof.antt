@@ -1,20 +1,15 @@
+-- `timed::turns_often` meets its contract: before each turn the buffers are what the turns so far leave. The measure is the turns left. Assumes nothing.
 use native.Mathlib.Omega.{arith}
-use mathlib.Core.Path.{_∙_}
-use mathlib.Core.Path.{ap}
-use Prim.Native.Nat.{ℕ}
+use mathlib.Core.Path.{_∙_, ap, _≡_, refl}
+use Prim.Native.Nat.{ℕ, _-_, _≤_}
 use Rattle.clock.specs.Calls.{TurnsGiven}
 use Rattle.timed.proofs.Turns.{minutes-none, heights-none, turns-more}
-use mathlib.Core.Path.{_≡_, refl}
-use Prim.Native.Nat.{_-_, _≤_}
 use borrow.Author.Needs.{needs}
-use Rattle.clock.specs.View.{view, Made}
+use Rattle.clock.specs.View.{view}
 use lib.ListN.{length}
 use Rattle.timed.specs.Often.{turnsOften}
 use Rattle.timed.proofs.turns_often.Statement.{statement}
 use Rattle.timed.proofs.turns_often.Tie as tie
-use Rattle.timed.proofs.turns_often.Reads as reads
-use Rattle.timed.proofs.turns_often.Lts as lts
-use Rattle.clock.proofs.turns.Reads as turns-reads
 
 abbrev Inv-loop : tie.InvT-loop
 Inv-loop clock last repeats minutes₀ heights₀ turn₀ minutes heights turn = (turn ≤ repeats) × ((length minutes ≡ length minutes₀) × ((length heights ≡ length heights₀) × ((minutes ≡ turnsOften (view clock) last turn minutes₀ heights₀ .minutes) × (heights ≡ turnsOften (view clock) last turn minutes₀ heights₀ .heights))))
@@ -22,23 +17,18 @@ Inv-loop clock last repeats minutes₀ heights₀ turn₀ minutes heights turn =
 abbrev μ-loop : tie.MeasureT-loop
 μ-loop clock last repeats minutes₀ heights₀ turn₀ minutes heights turn = repeats - turn
 
--- src/lib.rt:110:5
 loop-holds : tie.Need-loop-holds Inv-loop μ-loop
 loop-holds c = (omega arith, (refl, (refl, (minutes-none _ _ _ _, heights-none _ _ _ _))))
 
--- src/lib.rt:111:9
 turns-requires : tie.Need-turns-requires Inv-loop μ-loop
 turns-requires c κs = search needs
 
--- src/lib.rt:112:9
 add-turn : tie.Need-add-turn Inv-loop μ-loop
 add-turn c = search needs
 
--- src/lib.rt:110:5
 loop-less : tie.Need-loop-less Inv-loop μ-loop
 loop-less c = search needs
 
--- src/lib.rt:110:5
 loop-again : tie.Need-loop-again Inv-loop μ-loop
 loop-again c =
     let s = c .before .before .before .before .before .before .before .loop in
@@ -47,15 +37,12 @@ loop-again c =
     let e = o .ensures .gives ∙ turns-more (view (a .clock)) (a .last) (a .minutes .now) (a .heights .now) (s .turn) (s .minutes) (s .heights) (s .inv .1 .1 .1 .0) (s .inv .1 .1 .1 .1) in
     (omega arith, (search needs, (search needs, (ap (λ (g : TurnsGiven). g .minutes) e, ap (λ (g : TurnsGiven). g .heights) e))))
 
--- src/lib.rt:104:1
 same-length : tie.Need-same-length Inv-loop μ-loop
 same-length c = search needs
 
--- src/lib.rt:104:1
 same-length-2 : tie.Need-same-length-2 Inv-loop μ-loop
 same-length-2 c = search needs
 
--- src/lib.rt:104:1
 returns : tie.Need-returns Inv-loop μ-loop
 returns c =
     let s = c .before .loop in

@@ -1,27 +1,19 @@
+-- `timed::with_month` meets its contract: what each call leaves, one after the other. Assumes nothing.
 use mir.Syntax.{w32}
 use mir.ValLaws.{toZ-ofZ}
-use native.Mathlib.Omega.{arith}
-use mathlib.Core.Path.{_∙_}
-use mathlib.Core.Path.{ap}
+use mathlib.Core.Path.{_∙_, ap}
 use Rattle.clock.specs.State.{State}
 use Rattle.clock.specs.Calls.{dateLeaves}
 use borrow.Author.Needs.{needs}
 use Rattle.timed.proofs.with_month.Statement.{statement}
 use Rattle.timed.proofs.with_month.Tie as tie
-use Rattle.timed.proofs.with_month.Reads as reads
-use Rattle.timed.proofs.with_month.Lts as lts
-use Rattle.clock.proofs.set_date.Reads as set-date-reads
-use Rattle.timed.proofs.with_station.Reads as with-station-reads
 
--- src/lib.rt:54:9
 with-station-requires : tie.Need-with-station-requires
 with-station-requires c κs = search needs
 
--- src/lib.rt:55:9
 set-date-requires : tie.Need-set-date-requires
 set-date-requires c κs = search needs
 
--- src/lib.rt:43:1
 returns : tie.Need-returns
 returns c =
     let z = c .before .before .before .before in
