@@ -12,10 +12,15 @@ use face::Face;
 use refusals::Answer;
 use refusals::Refusal;
 
+// The line of the station file on which a record stands.
+fn line_of(place: usize) -> usize {
+    if place < 1_000_000 { place + 1 } else { place }
+}
+
 // Says the refusal of a date: at a record of the station file, or by the year or the month.
 fn say_date(path: &[u8], year: u32, month: u32, refusal: Refusal, place: usize) {
-    if 0 < place && place < 1_000_000 {
-        messages::refused(path, place + 1, faults::no_words(), refusal);
+    if 0 < place {
+        messages::refused(path, line_of(place), faults::no_words(), refusal);
         return;
     }
     if calendar::in_range(1976, month) {

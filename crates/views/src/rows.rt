@@ -121,8 +121,8 @@ fn month_count(year: u32, month: u32, step: u32) -> u32 {
     if step == 0 {
         return 1;
     }
-    let last = calendar::month_minutes(year, month);
-    if last < 44_641 { last / step + 1 } else { 1 }
+    let steps = calendar::month_minutes(year, month) / step;
+    if steps < 44_641 { steps + 1 } else { 1 }
 }
 
 // heights YEAR MONTH STEP: the heights of a whole month, a step apart.
