@@ -1,0 +1,4 @@
+pub mod Heights
+pub mod Lines
+pub mod Places
+pub mod Lanes
