@@ -1,7 +1,7 @@
 #!/usr/bin/env python3
 """Damaged inputs for the programs: cuvalimodo, cardcheck and replay.
 
-Usage: python3 tools/fuzz_programs.py [COUNT [SEED]]        COUNT inputs (600), from SEED (1) on
+Usage: python3 tools/fuzz_programs.py [COUNT [SEED [PROGRAM ...]]]     COUNT inputs (600), from SEED (1) on; of them those of the programs named
        python3 tools/fuzz_programs.py case NUMBER           one input again, shown
 
 Each input is a good one, damaged: bytes flipped, lost or put in, lines swapped or repeated, numbers made huge, NULs, bytes beyond ASCII,
@@ -307,11 +307,14 @@ def main():
         return show(int(sys.argv[2]))
     count = int(sys.argv[1]) if sys.argv[1:] else 600
     seed = int(sys.argv[2]) if sys.argv[2:] else 1
+    chosen = sys.argv[3:]
     os.makedirs(KEPT, exist_ok=True)
     began = time.time()
     counts = collections.Counter()
     slowest, failed = 0.0, []
     for number in range(seed, seed + count):
+        if chosen and case_of(number)[0] not in chosen:
+            continue
         program, kind, took, _ = outcome(number, KEPT)
         counts[program, kind] += 1
         slowest = max(slowest, took)
@@ -321,7 +324,7 @@ def main():
             print("input %d, %s: %s" % (number, program, kind))
     for (program, kind), n in sorted(counts.items()):
         print("%-10s %-16s %6d" % (program, kind, n))
-    print("%d inputs in %.0f s, the slowest %.2f s; %d failed" % (count, time.time() - began, slowest, len(failed)))
+    print("%d inputs in %.0f s, the slowest %.2f s; %d failed" % (sum(counts.values()), time.time() - began, slowest, len(failed)))
     return sys.exit(1 if failed else 0)
 
 

@@ -168,7 +168,7 @@ fn put_columns(
 
 // Puts so many upright lines through a plot, so many minutes apart.
 pub fn put_grid(page: &mut [u8], at: usize, plot: Plot, lines: u32, apart: u16) -> usize {
-    let a = output::put_bytes(page, at, b"<path stroke=\"#ddd\" stroke-width=\"6\" d=\"");
+    let a = output::put_bytes(page, at, b"<path stroke=\"#ccc\" stroke-width=\"6\" d=\"");
     let b = put_columns(page, a, plot, plot.top as u32, foot(plot), lines, apart);
     output::put_bytes(page, b, b"\"/>\n")
 }
