@@ -146,19 +146,19 @@ fn is_kind(kind: Kind, frequencies: bool) -> bool {
     }
 }
 
-// Whether a byte of the name, padded, is the one in a column.
-fn is_byte<'a>(name: &'a [u8], k: usize, line: &'a [u8], column: usize) -> bool {
-    columns::column(name, k) == columns::column(line, column)
+// Whether two names, padded, have the same byte in a column.
+fn same_byte<'a>(name: &'a [u8], other: &'a [u8], k: usize) -> bool {
+    columns::column(name, k) == columns::column(other, k)
 }
 
 // Whether the name on the frequency or main card at a line is this one, both padded.
 fn is_named<'a>(name: &'a [u8], line: &'a [u8], frequencies: bool) -> bool {
-    let from: usize = if frequencies { 4 } else { 6 };
-    is_byte(name, 0, line, from)
-        && is_byte(name, 1, line, from + 1)
-        && is_byte(name, 2, line, from + 2)
-        && is_byte(name, 3, line, from + 3)
-        && is_byte(name, 4, line, from + 4)
+    let other = names::name_part(line, if frequencies { 4 } else { 6 });
+    same_byte(name, other, 0)
+        && same_byte(name, other, 1)
+        && same_byte(name, other, 2)
+        && same_byte(name, other, 3)
+        && same_byte(name, other, 4)
 }
 
 // Whether a frequency, or a main constituent, has this name, padded.
