@@ -139,10 +139,10 @@ fn answer<'a>(clock: Clock, face: Face, words: &'a [u8], station: &'a [u8], requ
             )
         }
         Asked::MonthDrawing(year, month) => {
-            views::month(clock, face, station, unit, path, year, month)
+            views::month_drawing(clock, face, station, unit, path, year, month)
         }
         Asked::DayDrawing(year, month, day) => {
-            views::day(clock, face, station, unit, path, year, month, day, 0)
+            views::day_drawing(clock, face, station, unit, path, year, month, day)
         }
         Asked::Wrong(wrong, at) => messages::wrong_word(commandline::word(words, at), wrong),
     }

@@ -1,8 +1,11 @@
 // The views: each asks the clock, which has a table and a station, and writes a sheet on standard output, or says the clock's refusal.
 mod rows;
+mod svg;
 
 pub use rows::heights;
 pub use rows::series;
+pub use svg::day_drawing;
+pub use svg::month_drawing;
 ghost use Rattle.clock.specs.View.{Made};
 use clock::Clock;
 use clock::HeightAnswer;
