@@ -2,9 +2,9 @@
 //
 // It reads the two files, asks the clock, and writes. Every refusal is the library's, and is said in one line on standard error.
 mod help;
-mod views;
 
 ghost use Rattle.clock.specs.View.{Made};
+use clock::After;
 use clock::Clock;
 use commandline::Asked;
 use commandline::Request;
@@ -139,10 +139,10 @@ fn answer<'a>(clock: Clock, face: Face, words: &'a [u8], station: &'a [u8], requ
             )
         }
         Asked::MonthDrawing(year, month) => {
-            views::month(clock, face, station, unit, path, year, month)
+            views::month_drawing(clock, face, station, unit, path, year, month)
         }
         Asked::DayDrawing(year, month, day) => {
-            views::day(clock, face, station, unit, path, year, month, day, 0)
+            views::day_drawing(clock, face, station, unit, path, year, month, day)
         }
         Asked::Wrong(wrong, at) => messages::wrong_word(commandline::word(words, at), wrong),
     }
@@ -184,4 +184,97 @@ fn with_station<'a>(
             placed(after, face, words, station, request)
         }
     }
+}
+
+// What a station call says, and then what is asked.
+fn placed<'a>(after: After, face: Face, words: &'a [u8], station: &'a [u8], request: Request)
+    requires { ⌜ Made (after .clock) ⌝ }
+{
+    let said = after.answer;
+    let clock = after.clock;
+    match said {
+        Answer::Refused(refusal, place) => {
+            let line = line_of(place);
+            let fault = stationfaults::station_fault(station, line, refusal);
+            messages::refused(
+                commandline::word(words, request.station),
+                line,
+                fault,
+                refusal,
+            )
+        }
+        Answer::Accepted => answer(clock, face, words, station, request),
+    }
+}
+
+// The line of the station file on which a record stands, from 1; the latitude's place is 0.
+fn line_of(place: usize) -> usize {
+    if place < 1_000_000 { place + 1 } else { place }
+}
+
+// The card file: its table, or its refusal.
+fn with_cards<'a>(words: &'a [u8], cards: &'a [u8], station: &'a [u8], request: Request) {
+    let after = clock::load_cards(clock::new(), cards);
+    let said = after.answer;
+    let clock = after.clock;
+    match said {
+        Answer::Refused(refusal, line) => {
+            let fault = cardfaults::card_fault(cards, line, refusal);
+            messages::refused(
+                commandline::word(words, request.cards),
+                line,
+                fault,
+                refusal,
+            )
+        }
+        Answer::Accepted => with_station(clock, words, cards, station, request),
+    }
+}
+
+// The two files, and then what is asked.
+fn with_files(words: &[u8], request: Request) {
+    let mut cards = io::large_buffer();
+    let first = load(words, request.cards, &mut cards);
+    if !first.good {
+        return;
+    }
+    let mut station = io::large_buffer();
+    let second = load(words, request.station, &mut station);
+    if !second.good {
+        return;
+    }
+    with_cards(
+        words,
+        columns::part(&cards, 0, first.bytes),
+        columns::part(&station, 0, second.bytes),
+        request,
+    )
+}
+
+// What is asked, of the words.
+fn run(words: &[u8]) {
+    let request = commandline::parse(words);
+    let asked = request.asked;
+    match asked {
+        Asked::Help => help::write_help(),
+        Asked::Refusals => messages::list_refusals(),
+        Asked::Wrong(wrong, at) => messages::wrong_word(commandline::word(words, at), wrong),
+        Asked::Month(_, _) => with_files(words, request),
+        Asked::Day(_, _, _, _) => with_files(words, request),
+        Asked::Heights(_, _, _) => with_files(words, request),
+        Asked::Series(_, _, _, _, _) => with_files(words, request),
+        Asked::MonthDrawing(_, _) => with_files(words, request),
+        Asked::DayDrawing(_, _, _) => with_files(words, request),
+    }
+}
+
+fn main() {
+    let mut words = io::buffer();
+    put_defaults(&mut words);
+    let end = put_arguments(&mut words);
+    if 4_096 <= end {
+        messages::too_long();
+        return;
+    }
+    run(columns::part(&words, 0, end))
 }

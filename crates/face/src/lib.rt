@@ -4,6 +4,7 @@
 ghost use mathlib.Core.Path.{_≡_};
 ghost use Prim.Native.Nat.{_≤_};
 ghost use lib.ListN.{length};
+ghost use Rattle.face.specs.Months.{monthBehind, yearBehind};
 pub use figures::day_of;
 pub use figures::height_at;
 pub use figures::hour_of;
@@ -40,15 +41,20 @@ pub fn put_date(page: &mut [u8], at: usize, year: u32, month: u32, day: u32) -> 
     figures::put_two(page, d, day as u64)
 }
 
-// Puts the first day of the month after a month.
-fn put_next_month(page: &mut [u8], at: usize, year: u32, month: u32) -> usize {
+// The month after a month, and its year; no date past the year 9999.
+pub fn month_behind(month: u32) -> u32
+    ensures { λ r. ⌜ r ≡ monthBehind month ⌝ }
+{
+    if month < 12 { month + 1 } else { 1 }
+}
+
+pub fn year_behind(year: u32, month: u32) -> u32
+    ensures { λ r. ⌜ r ≡ yearBehind year month ⌝ }
+{
     if month < 12 {
-        return put_date(page, at, year, month + 1, 1);
+        return year;
     }
-    if year < 9_999 {
-        return put_date(page, at, year + 1, 1, 1);
-    }
-    put_date(page, at, year, month, 1)
+    if year < 9_999 { year + 1 } else { 9_999 }
 }
 
 // Puts the ISO time of a minute of a month, as 1976-07-01T00:00. The month's last minute is 00:00 on the first day of the next.
@@ -61,7 +67,7 @@ pub fn put_iso(page: &mut [u8], at: usize, year: u32, month: u32, minute: u32) -
         let t = output::put(page, date, b'T');
         return figures::put_clock(page, t, minute);
     }
-    let date = put_next_month(page, at, year, month);
+    let date = put_date(page, at, year_behind(year, month), month_behind(month), 1);
     let t = output::put(page, date, b'T');
     figures::put_clock(page, t, minute)
 }

@@ -22,7 +22,7 @@ fn between(a: u64, b: u64) -> u64
 }
 
 // How far two heights lie apart.
-fn apart(a: i64, b: i64) -> u64
+pub fn apart(a: i64, b: i64) -> u64
     ensures { λ r. ⌜ r ≤ 2_000_000_000_000 ⌝ }
 {
     let x = size_of(a);

@@ -1,0 +1,46 @@
+// The help: one screen.
+use libc::STDOUT_FILENO;
+
+// Writes a line.
+fn line(text: &[u8]) {
+    io::write_all(STDOUT_FILENO, text);
+    io::write_all(STDOUT_FILENO, b"\n");
+}
+
+// The commands.
+fn commands() {
+    line(
+        b"Heights of the tide, high and low waters, from constituent cards. Years 1950 to 2049.\n",
+    );
+    line(b"  cuvalimodo month YEAR MONTH                a line a day: high and low waters");
+    line(b"  cuvalimodo day YEAR MONTH DAY [HH:MM]      next high and low water, the day's curve");
+    line(
+        b"  cuvalimodo heights YEAR MONTH [STEP]       CSV: the whole month, STEP minutes apart (60)",
+    );
+    line(b"  cuvalimodo series YEAR MONTH DAY HH:MM STEP COUNT");
+    line(b"                                             CSV: COUNT heights, STEP minutes apart");
+    line(b"  cuvalimodo svg YEAR MONTH [DAY]            a drawing of the month or the day");
+    line(b"  cuvalimodo refusals                        the numbers of the refusals\n");
+}
+
+// The options.
+fn options() {
+    line(b"  --cards FILE      the constituent cards (data/standard-cards.txt)");
+    line(
+        b"  --station FILE    the station's constituents (data/victoria.txt, the manual's sample)",
+    );
+    line(b"  --unit WORD       the unit of the station's amplitudes (metres; feet for the sample)");
+    line(b"  --help            this help\n");
+    line(
+        b"Files are in the columns of Foreman's manual and at most 65536 bytes long. Times are GMT,",
+    );
+    line(
+        b"or those of the zone that the station file names. Each sheet says what it stands on, with",
+    );
+    line(b"the CRC-32 of both files. Bad input is said in one line on standard error.");
+}
+
+pub fn write_help() {
+    commands();
+    options();
+}

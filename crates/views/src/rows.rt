@@ -1,0 +1,154 @@
+// Heights for other programs.
+ghost use mathlib.Core.Path.{_≡_};
+ghost use lib.ListN.{length};
+ghost use Rattle.clock.specs.View.{Made};
+use crate::say_date;
+use clock::Clock;
+use face::Face;
+use refusals::Answer;
+
+// A place for each minute of the longest month, and one more, so that a series that is as long as that is refused by the clock.
+fn height_places() -> [i64; 44642]
+    ensures { λ r. ⌜ 44642 ≡ length r ⌝ }
+{
+    [0; 44642]
+}
+
+// Writes heights as rows.
+fn write_rows<'a>(
+    face: Face,
+    station: &'a [u8],
+    unit: &'a [u8],
+    year: u32,
+    month: u32,
+    start: u32,
+    step: u32,
+    heights: &'a [i64],
+) {
+    let mut page = io::buffer();
+    let at = csv::put_heights(
+        &mut page,
+        0,
+        face,
+        stationcards::station_name(station),
+        stationcards::time_zone(station),
+        unit,
+        year,
+        month,
+        start,
+        step,
+        heights,
+    );
+    output::flush(&page, at);
+}
+
+// A count of at most the places.
+fn at_most(count: u32, places: usize) -> usize {
+    if (count as usize) < places {
+        count as usize
+    } else {
+        places
+    }
+}
+
+// So many heights of the month that a clock has prepared, into lent places.
+fn lent_series<'a>(
+    clock: Clock,
+    face: Face,
+    station: &'a [u8],
+    unit: &'a [u8],
+    year: u32,
+    month: u32,
+    start: u32,
+    step: u32,
+    count: u32,
+    places: &mut [i64],
+)
+    requires { ⌜ Made clock ⌝ }
+{
+    let n = at_most(count, places.len());
+    if places.len() < n {
+        return;
+    }
+    let lent = &mut places[..n];
+    let answer = clock::series(clock, start, step, lent);
+    match answer {
+        Answer::Accepted => write_rows(face, station, unit, year, month, start, step, lent),
+        Answer::Refused(refusal, _) => messages::refused_number(b"step", step as u64, refusal),
+    }
+}
+
+// series YEAR MONTH DAY HH:MM STEP COUNT: so many heights from a minute on, a step apart.
+pub fn series<'a>(
+    clock: Clock,
+    face: Face,
+    station: &'a [u8],
+    unit: &'a [u8],
+    path: &'a [u8],
+    year: u32,
+    month: u32,
+    start: u32,
+    step: u32,
+    count: u32,
+)
+    requires { ⌜ Made clock ⌝ }
+{
+    let after = clock::set_date(clock, year, month);
+    let answer = after.answer;
+    let dated = after.clock;
+    match answer {
+        Answer::Accepted => {
+            let mut places = height_places();
+            lent_series(
+                dated,
+                face,
+                station,
+                unit,
+                year,
+                month,
+                start,
+                step,
+                count,
+                &mut places,
+            )
+        }
+        Answer::Refused(refusal, place) => say_date(path, year, month, refusal, place),
+    }
+}
+
+// How many heights a step apart a month has, its last minute among them; 1 for a step that the clock refuses.
+fn month_count(year: u32, month: u32, step: u32) -> u32 {
+    if step == 0 {
+        return 1;
+    }
+    let steps = calendar::month_minutes(year, month) / step;
+    if steps < 44_641 { steps + 1 } else { 1 }
+}
+
+// heights YEAR MONTH STEP: the heights of a whole month, a step apart.
+pub fn heights<'a>(
+    clock: Clock,
+    face: Face,
+    station: &'a [u8],
+    unit: &'a [u8],
+    path: &'a [u8],
+    year: u32,
+    month: u32,
+    step: u32,
+)
+    requires { ⌜ Made clock ⌝ }
+{
+    let count = month_count(year, month, step);
+    series(
+        clock,
+        face,
+        station,
+        unit,
+        path,
+        year,
+        month,
+        0,
+        step,
+        count,
+    )
+}

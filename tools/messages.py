@@ -1,0 +1,227 @@
+"""What cuvalimodo says of bad input, message by message.
+
+Usage: python3 tools/messages.py CUVALIMODO
+Each row of the table makes one bad file by one edit of the standard one (or none), runs the program on it, and compares the one line on
+standard error; standard output must stay empty. Refusals 21 to 23 cannot be reached, for the program loads cards and station before it
+asks for a month: their words stand in the list of `cuvalimodo refusals`, which is compared too.
+"""
+
+import os
+import subprocess
+import sys
+import tempfile
+
+HERE = os.path.dirname(os.path.abspath(__file__))
+DATA = os.path.join(HERE, "..", "data")
+
+with open(os.path.join(DATA, "standard-cards.txt")) as file:
+    CARDS = file.read().split("\n")[:-1]
+with open(os.path.join(DATA, "victoria.txt")) as file:
+    STATION = file.read().split("\n")[:-1]
+
+MONTH = ["month", "1976", "7"]
+
+
+def line(number, columns, text):
+    """The edit that writes text over a line, from a column counted from 1 on."""
+    def edit(lines):
+        old = lines[number - 1].ljust(columns - 1 + len(text))
+        lines[number - 1] = old[:columns - 1] + text + old[columns - 1 + len(text):]
+    return edit
+
+
+def whole(number, text):
+    """The edit that puts another line in a line's place."""
+    def edit(lines):
+        lines[number - 1] = text
+    return edit
+
+
+def cut(count):
+    """The edit that ends the file behind so many lines."""
+    def edit(lines):
+        del lines[count:]
+    return edit
+
+
+def inserted(number, more):
+    """The edit that puts lines before a line."""
+    def edit(lines):
+        lines[number - 1:number - 1] = more
+    return edit
+
+
+def frequencies(count):
+    return ["    F%-4d    0.1000000000" % k for k in range(count)]
+
+
+# the card file's faults: edit, line, words, refusal
+CARD_FAULTS = [
+    (whole(3, CARDS[2] + " " * 60), 3, "the line is over 80 columns long", 1),
+    (line(5, 30, "\t"), 5, "the line has a byte outside 32 to 126", 1),
+    (line(2, 13, "0.00o1140741 "), 2, "frequency is a malformed number", 2),
+    (line(2, 13, "0.5000000000 "), 2, "frequency is out of range", 3),
+    (line(147, 14, "1.0000000000 "), 147, "longitude 2 is out of range", 3),
+    (line(148, 27, "             "), 148, "increase of longitude 3 is a malformed number", 2),
+    (line(172, 16, " 13"), 172, "Doodson number 2 is out of range", 3),
+    (line(172, 31, "  .2x"), 172, "phase is a malformed number", 2),
+    (line(172, 36, "  17"), 172, "satellite count is out of range", 3),
+    (line(173, 35, " -x"), 173, "a difference of satellite 2 is a malformed number", 2),
+    (line(173, 21, "1.50"), 173, "phase of satellite 1 is out of range", 3),
+    (line(173, 71, " 3.0000"), 173, "ratio of satellite 3 is out of range", 3),
+    (line(337, 12, "5"), 337, "number of parts is out of range", 3),
+    (line(337, 15, "  3.5"), 337, "coefficient is not a whole number", 3),
+    (line(337, 15, "  0.0"), 337, "coefficient 1 is out of range", 3),
+    (line(337, 30, " 9.99"), 337, "coefficient 2 is out of range", 3),
+    (line(335, 15, " 9.0 N2         4.0 M2"), 335, "coefficient 2 takes the sizes past 12", 3),
+    (line(2, 5, "     "), 2, "name is blank", 4),
+    (line(3, 5, "SA   "), 3, "name stands twice", 4),
+    (line(151, 7, "SA   "), 151, "name stands twice", 4),
+    (line(337, 7, "NONE "), 337, "name has no frequency", 5),
+    (line(151, 7, "NONE "), 151, "name has no frequency", 5),
+    (line(337, 35, "ST15 "), 337, "part 2 is not a main constituent", 5),
+    (inserted(146, ["    NEW      0.1000000000"]), 146, "name has no definition", 5),
+    (inserted(146, frequencies(16)), 161, "the line is past 160 frequencies", 6),
+    (line(150, 36, "  16"), 151, "a difference of satellite 1 is a malformed number", 2),
+    (cut(100), 101, "the file ends inside the frequencies", 7),
+    (cut(147), 148, "the file ends inside the longitudes", 7),
+    (cut(200), 201, "the file ends inside the main constituents", 7),
+    (cut(340), 341, "the file ends inside the shallow-water constituents", 7),
+]
+
+# the station file's faults: edit, line, words, refusal
+STATION_FAULTS = [
+    (whole(4, STATION[3] + " " * 40), 4, "the line is over 80 columns long", 1),
+    (line(1, 37, "4o"), 1, "degrees of latitude is a malformed number", 2),
+    (line(1, 40, "60"), 1, "minutes of latitude is out of range", 3),
+    (line(1, 37, "91"), 1, "latitude is out of range", 3),
+    (line(8, 39, "  2.07x0"), 8, "amplitude is a malformed number", 2),
+    (line(8, 39, "  6.5536"), 8, "amplitude is out of range", 3),
+    (line(8, 39, " -2.0700"), 8, "amplitude is out of range", 3),
+    (line(8, 47, " 360.00"), 8, "phase lag is out of range", 3),
+    (line(8, 47, " 14.940"), 8, "phase lag is a malformed number", 2),
+    (line(8, 6, "P1   "), 8, "name stands twice", 4),
+    (line(8, 6, "K9   "), 8, "name has no frequency", 5),
+    (cut(0), 1, "the file has no station card", 7),
+]
+
+# arguments, words
+ASKED = [
+    (["month", "1976", "13"], "month 13: year or month out of range (refusal 8)"),
+    (["month", "1976", "0"], "month 0: year or month out of range (refusal 8)"),
+    (["month", "2050", "7"], "year 2050: year or month out of range (refusal 8)"),
+    (["day", "1976", "7", "32"], "day 32: minutes outside the month or reversed, or step out of range (refusal 9)"),
+    (["heights", "1976", "7", "1441"], "step 1441: minutes outside the month or reversed, or step out of range (refusal 9)"),
+    (["heights", "1976", "7", "0"], "step 0: minutes outside the month or reversed, or step out of range (refusal 9)"),
+    (["series", "1976", "7", "31", "23:00", "60", "3"], "step 60: minutes outside the month or reversed, or step out of range (refusal 9)"),
+    (["tide"], "tide: no such command, try --help"),
+    (["month", "1976", "7", "--card", "x"], "--card: no such option, try --help"),
+    (["month", "1976", "7", "--cards"], "--cards: its value is missing, try --help"),
+    (["month", "1976"], "month: more words are wanted, try --help"),
+    (["month", "1976", "7", "1"], "1: one word too many, try --help"),
+    (["month", "1976", "July"], "July: not a whole number, try --help"),
+    (["day", "1976", "7", "1", "25:00"], "25:00: not a time HH:MM, try --help"),
+    (["day", "1976", "7", "0"], "0: not a day of a month, try --help"),
+    (MONTH + ["--cards", "no-such-file"], "no-such-file: No such file or directory"),
+    (MONTH + ["--cards", "."], ".: Is a directory"),
+]
+
+REFUSALS = """1 line over 80 columns or a byte outside 32 to 126
+2 malformed number
+3 number outside its stated range
+4 name blank or twice, or place repeated
+5 no such frequency, main or definition
+6 more entries than stated
+7 file ends inside a part
+8 year or month out of range
+9 minutes outside the month or reversed, or step out of range
+10 more turns than the lent buffers hold
+11 size of X or Y over 2^22
+21 no table
+22 no station
+23 no month
+"""
+
+
+class Messages:
+    def __init__(self, program, folder):
+        self.program, self.folder = program, folder
+        self.right = self.wrong = 0
+
+    def run(self, words):
+        return subprocess.run([self.program] + words, cwd=self.folder, capture_output=True, timeout=60)
+
+    def expect(self, words, error, output=b""):
+        got = self.run(words)
+        if got.returncode == 0 and got.stderr == error.encode() and got.stdout == output:
+            self.right += 1
+        else:
+            self.wrong += 1
+            print("%s\n  said  %r\n  not   %r" % (words, got.stderr, error))
+
+    def write(self, name, lines):
+        with open(os.path.join(self.folder, name), "w") as file:
+            file.write("".join(text + "\n" for text in lines))
+
+    def edited(self, option, name, lines, faults):
+        for edit, number, words, refusal in faults:
+            bad = list(lines)
+            edit(bad)
+            self.write(name, bad)
+            self.expect(MONTH + [option, name], "%s line %d: %s (refusal %d)\n" % (name, number, words, refusal))
+
+
+def long_file(mains, satellites, shallows):
+    """A file of M2, more mains with so many satellites each, and shallow constituents, every one with its frequency."""
+    names = ["A%03d " % k for k in range(mains)]
+    shallow = ["S%03d " % k for k in range(shallows)]
+    card = " " * 11 + 3 * "  0  0  0 .00 0.0000   "
+    lines = ["    %s   0.1000000000" % name for name in ["M2   "] + names + shallow] + CARDS[145:148] + CARDS[237:241]
+    for name in names:
+        lines += ["      %s   2  0  0  0  0  0 0.00%4d" % (name, satellites)] + [card] * ((satellites + 2) // 3)
+    return lines + [""] + ["      %s1   2.0 M2" % name for name in shallow] + [""]
+
+
+def main():
+    program = os.path.abspath(sys.argv[1])
+    with tempfile.TemporaryDirectory() as folder:
+        m = Messages(program, folder)
+        m.edited("--cards", "cards.txt", CARDS, CARD_FAULTS)
+        m.edited("--station", "station.txt", STATION, STATION_FAULTS)
+        for words, text in ASKED:
+            m.expect(words, text + "\n")
+        printed = os.path.join(DATA, "standard-cards-as-printed.txt")
+        m.expect(MONTH + ["--cards", printed], "%s line 337: coefficient is not a whole number (refusal 3)\n" % printed)
+        # a file that is too large
+        with open(os.path.join(folder, "large.txt"), "w") as file:
+            file.write(" " * 65537)
+        m.expect(MONTH + ["--cards", "large.txt"], "large.txt: larger than 65536 bytes\n")
+        # 6: too many of each
+        m.write("cards.txt", long_file(64, 0, 0))
+        m.expect(MONTH + ["--cards", "cards.txt"], "cards.txt line 136: the line is past 64 main constituents (refusal 6)\n")
+        m.write("cards.txt", long_file(16, 16, 0))
+        m.expect(MONTH + ["--cards", "cards.txt"], "cards.txt line 130: the line takes the satellites past 256 (refusal 6)\n")
+        m.write("cards.txt", long_file(0, 0, 129))
+        m.expect(MONTH + ["--cards", "cards.txt"], "cards.txt line 267: the line is past 128 shallow-water constituents (refusal 6)\n")
+        m.write("station.txt", STATION[:1] + STATION[7:8] * 147)
+        m.expect(MONTH + ["--station", "station.txt"], "station.txt line 148: the line is past 146 constituents (refusal 6)\n")
+        # 10: K1 at nearly half a cycle an hour turns each hour, 744 times in July
+        fast = list(CARDS)
+        line(21, 13, "0.4999999999 ")(fast)
+        m.write("cards.txt", fast)
+        m.expect(MONTH + ["--cards", "cards.txt"], "month 7: more turns than the lent buffers hold (refusal 10)\n")
+        # 11: a satellite of ratio 2 with the diurnal latitude factor at the equator
+        large = list(CARDS)
+        line(173, 25, " 2.0000R1")(large)
+        m.write("cards.txt", large)
+        equator = list(STATION)
+        line(1, 37, " 0  0")(equator)
+        m.write("station.txt", equator)
+        m.expect(MONTH + ["--cards", "cards.txt", "--station", "station.txt"], "station.txt line 4: size of X or Y over 2^22 (refusal 11)\n")
+        m.expect(["refusals"], "", REFUSALS.encode())
+        print("%d messages are as they should be, %d are not" % (m.right, m.wrong))
+        sys.exit(1 if m.wrong else 0)
+
+
+if __name__ == "__main__":
+    main()
