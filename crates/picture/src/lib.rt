@@ -1,8 +1,5 @@
 // Pictures of heights and turns as SVG on standard output: a day, and a month in rows of a week.
 ghost use Prim.Native.Nat.{_<_};
-
-mod head;
-
 use face::Face;
 use scale::Plot;
 use scale::Scale;
@@ -44,7 +41,7 @@ fn day_plot(lines: Scale) -> Plot {
 // Puts the axes of a day.
 fn put_day_axes(page: &mut [u8], at: usize, plot: Plot, lines: Scale) -> usize {
     let a = axes::put_grid(page, at, plot, 25, 60);
-    let b = axes::put_scale(page, a, plot, DAY_TEXT, lines);
+    let b = levels::put_scale(page, a, plot, DAY_TEXT, lines);
     let c = axes::put_frame(page, b, plot, DAY_TEXT);
     let d = axes::put_ticks(page, c, plot, DAY_TEXT, 25, 60, 50);
     axes::put_hours(page, d, plot, DAY_TEXT)
@@ -133,7 +130,7 @@ fn put_row_axes(
 ) -> usize {
     let shown = days as u32;
     let a = axes::put_grid(page, at, plot, shown + 1, 1_440);
-    let b = axes::put_scale(page, a, plot, MONTH_TEXT, lines);
+    let b = levels::put_scale(page, a, plot, MONTH_TEXT, lines);
     let c = axes::put_frame(page, b, plot, MONTH_TEXT);
     let d = axes::put_ticks(page, c, plot, MONTH_TEXT, shown * 4 + 1, 360, 40);
     axes::put_days(page, d, plot, MONTH_TEXT, first, shown)
@@ -288,8 +285,8 @@ pub fn draw_day<'a>(
     turns: &'a [i64],
     first_high: bool,
 ) {
-    let a = head::put_start(page, 0, WIDTH, DAY_HEIGHT);
-    let b = head::put_head(page, a, LEFT as u32, name, zone, unit, year, month, day);
+    let a = title::put_start(page, 0, WIDTH, DAY_HEIGHT);
+    let b = title::put_head(page, a, LEFT as u32, name, zone, unit, year, month, day);
     let c = put_day(
         page,
         b,
@@ -300,7 +297,7 @@ pub fn draw_day<'a>(
         day_first(day),
         day_last(day, days),
     );
-    let d = head::put_foot(page, c, LEFT as u32, DAY_HEIGHT - 310, face);
+    let d = title::put_foot(page, c, LEFT as u32, DAY_HEIGHT - 310, face);
     output::flush(page, d);
 }
 
@@ -320,9 +317,9 @@ pub fn draw_month<'a>(
     first_high: bool,
 ) {
     let foot = month_foot(days);
-    let a = head::put_start(page, 0, WIDTH, foot + 310);
-    let b = head::put_head(page, a, LEFT as u32, name, zone, unit, year, month, 0);
+    let a = title::put_start(page, 0, WIDTH, foot + 310);
+    let b = title::put_head(page, a, LEFT as u32, name, zone, unit, year, month, 0);
     let c = put_rows(page, b, heights, minutes, turns, first_high, days);
-    let d = head::put_foot(page, c, LEFT as u32, foot, face);
+    let d = title::put_foot(page, c, LEFT as u32, foot, face);
     output::flush(page, d);
 }

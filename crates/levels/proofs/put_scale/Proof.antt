@@ -1,10 +1,10 @@
--- `axes::put_scale` is safe and ends: the page keeps its length. The measure is the lines left. Assumes nothing.
+-- `levels::put_scale` is safe and ends: the page keeps its length. The measure is the lines left. Assumes nothing.
 use mathlib.Core.Path.{_≡_}
 use Prim.Native.Nat.{_-_, _≤_, _+_, _*_}
 use lib.ListN.{length}
 use borrow.Author.Needs.{needs}
-use Rattle.axes.proofs.put_scale.Statement.{statement}
-use Rattle.axes.proofs.put_scale.Tie as tie
+use Rattle.levels.proofs.put_scale.Statement.{statement}
+use Rattle.levels.proofs.put_scale.Tie as tie
 
 abbrev Inv-loop : tie.InvT-loop
 Inv-loop page₀ at plot text next₀ step high line₀ left₀ t12 page next line left = length page ≡ length page₀
