@@ -111,6 +111,8 @@ ASKED = [
     (["month", "1976", "0"], "month 0: year or month out of range (refusal 8)"),
     (["month", "2050", "7"], "year 2050: year or month out of range (refusal 8)"),
     (["day", "1976", "7", "32"], "day 32: minutes outside the month or reversed, or step out of range (refusal 9)"),
+    (["svg", "1976", "13"], "month 13: year or month out of range (refusal 8)"),
+    (["svg", "1976", "7", "32"], "day 32: minutes outside the month or reversed, or step out of range (refusal 9)"),
     (["heights", "1976", "7", "1441"], "step 1441: minutes outside the month or reversed, or step out of range (refusal 9)"),
     (["heights", "1976", "7", "0"], "step 0: minutes outside the month or reversed, or step out of range (refusal 9)"),
     (["series", "1976", "7", "31", "23:00", "60", "3"], "step 60: minutes outside the month or reversed, or step out of range (refusal 9)"),
