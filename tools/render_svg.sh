@@ -22,5 +22,5 @@ for kind in semidiurnal diurnal; do
     render "$kind-day" "data/examples/$kind.txt" 2026 11 15
     render "$kind-month" "data/examples/$kind.txt" 2026 11
 done
-render mixed-day data/victoria.txt 1976 7 12
-render mixed-month data/victoria.txt 1976 7
+render mixed-day data/victoria.txt --unit feet 1976 7 12
+render mixed-month data/victoria.txt --unit feet 1976 7
