@@ -63,6 +63,26 @@ fn put_arguments(words: &mut [u8]) -> usize {
     at
 }
 
+// A byte of an argument as it is taken and shown: a question mark for a control character, so that a message is one line.
+fn shown(byte: u8) -> u8 {
+    if byte == 0 {
+        return 0;
+    }
+    if byte < 32 {
+        return b'?';
+    }
+    byte
+}
+
+// Puts every byte of the row as it is shown. (The 0 behind a word stays.)
+fn put_shown(words: &mut [u8]) {
+    let mut k: usize = 0;
+    while k < words.len() {
+        words[k] = shown(words[k]);
+        k += 1;
+    }
+}
+
 // Opens a file: one that is named by default also where the program lies.
 fn open(name: &[u8], own: bool) -> i32 {
     if own {
@@ -272,6 +292,7 @@ fn main() {
     let mut words = io::buffer();
     put_defaults(&mut words);
     let end = put_arguments(&mut words);
+    put_shown(&mut words);
     if 4_096 <= end {
         messages::too_long();
         return;
