@@ -48,7 +48,7 @@ struct Found {
 fn find_turns(clock: Clock, last: u32, minutes: &mut [u32], heights: &mut [i64]) -> Found
     requires { ⌜ Made clock ⌝ }
 {
-    let answer = clock::turns(clock, 0, last, minutes, heights);
+    let answer = monthturns::month_turns(clock, last, minutes, heights);
     match answer {
         TurnsAnswer::Turns(count, high) => Found {
             good: true,

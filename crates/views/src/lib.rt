@@ -77,7 +77,7 @@ fn prepared_month<'a>(
     let mut minutes = [0u32; 512];
     let mut heights = [0i64; 512];
     let last = calendar::month_minutes(year, month);
-    let answer = clock::turns(clock, 0, last, &mut minutes, &mut heights);
+    let answer = monthturns::month_turns(clock, last, &mut minutes, &mut heights);
     match answer {
         TurnsAnswer::Turns(count, first) => write_month(
             face,
@@ -164,7 +164,7 @@ fn turn_behind(clock: Clock, high: bool, year: u32, month: u32) -> Next
     let answer = after.answer;
     match answer {
         Answer::Accepted => {
-            let found = clock::turns(dated, 0, last, &mut minutes, &mut heights);
+            let found = monthturns::month_turns(dated, last, &mut minutes, &mut heights);
             match found {
                 TurnsAnswer::Turns(count, first) => {
                     first_turn(high, 0, count, first, true, &minutes, &heights)
@@ -283,7 +283,7 @@ fn day_turns<'a>(
     let mut minutes = [0u32; 512];
     let mut heights = [0i64; 512];
     let last = calendar::month_minutes(year, month);
-    let answer = clock::turns(clock, 0, last, &mut minutes, &mut heights);
+    let answer = monthturns::month_turns(clock, last, &mut minutes, &mut heights);
     match answer {
         TurnsAnswer::Turns(count, first) => write_day(
             clock,

@@ -13,7 +13,7 @@ fn has_turns(clock: Clock, year: u32, month: u32) -> bool
     let mut minutes = [0u32; 512];
     let mut heights = [0i64; 512];
     let last = calendar::month_minutes(year, month);
-    let answer = clock::turns(clock, 0, last, &mut minutes, &mut heights);
+    let answer = monthturns::month_turns(clock, last, &mut minutes, &mut heights);
     match answer {
         TurnsAnswer::Turns(_, _) => true,
         TurnsAnswer::Refused(refusal, _) => {

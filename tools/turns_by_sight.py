@@ -1,0 +1,59 @@
+"""The month sheets of cuvalimodo against what anyone sees in its own heights, minute by minute, to the month's end.
+
+Usage: python3 tools/turns_by_sight.py target/bin/cuvalimodo
+For each month of a year at two stations whose tide turns plainly: the high and low waters of the CSV of one-minute heights (a rise and a fall of more than
+RISE on both sides) must be those of the sheet, each within LATE minutes. A sheet that leaves out the turn behind the search's last stride fails here.
+"""
+
+import subprocess
+import sys
+
+from month_sheet import turns_of
+
+STATIONS = ("data/examples/semidiurnal.txt", "data/examples/diurnal.txt")
+YEAR = 2026
+RISE = 0.05
+LATE = 15
+
+
+def run(program, *words):
+    return subprocess.run([program, *words], capture_output=True, text=True, check=True).stdout
+
+
+def seen(heights):
+    """The turns in a row of heights: minute and kind, each the highest or lowest before the water has gone RISE the other way."""
+    best, rising = 0, None
+    for minute, height in enumerate(heights):
+        if rising is None:
+            if abs(height - heights[0]) > RISE:
+                rising, best = height > heights[0], minute
+        elif (height > heights[best]) == rising and height != heights[best]:
+            best = minute
+        elif abs(height - heights[best]) > RISE:
+            yield best, "high" if rising else "low"
+            rising, best = not rising, minute
+
+
+def month(program, station, number):
+    """The two lists of turns of a month, without what lies at its first and last minutes."""
+    words = (str(YEAR), str(number), "--station", station)
+    rows = [line.split(",") for line in run(program, "heights", *words[:2], "1", *words[2:]).splitlines() if line[0].isdigit()]
+    sheet = [(minute, kind) for minute, kind, _ in turns_of(run(program, "month", *words))]
+    return list(seen([float(height) for _, height in rows])), sheet, len(rows) - 1
+
+
+def main():
+    program, count = sys.argv[1], 0
+    for station in STATIONS:
+        for number in range(1, 13):
+            plain, sheet, last = month(program, station, number)
+            for minute, kind in plain:
+                found = [m for m, k in sheet if k == kind and abs(m - minute) <= LATE]
+                if not found:
+                    sys.exit(f"{station}, month {number}: a {kind} water at minute {minute} of {last} is not on the sheet")
+                count += 1
+    print(f"{count} high and low waters seen in one-minute heights of 24 months, all on the sheets")
+
+
+if __name__ == "__main__":
+    main()
