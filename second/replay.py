@@ -67,9 +67,10 @@ class Script:
         if not form.fullmatch(word):
             self.fail()
         # Very long numbers do not fit; they are not worth converting.
-        if len(word.lstrip(b"-").lstrip(b"0")) > 10:
+        digits = word.lstrip(b"-").lstrip(b"0") or b"0"
+        if len(digits) > 10:
             self.fail()
-        value = int(word)
+        value = -int(digits) if word.startswith(b"-") else int(digits)
         if not lowest <= value <= highest:
             self.fail()
         return value
