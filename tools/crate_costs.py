@@ -4,9 +4,10 @@
     tools/crate_costs.py                 a table of every crate, dearest first, as docs/COSTS.md has it
     tools/crate_costs.py --proofs CRATE  what each proof file of a crate costs, dearest first
 
-Needs the crates proved (`rt check`). A crate's time is that of one check over the built crates below it, on one core.
+Needs the crates proved (`rt check`). A crate's time is the processor time of one check over the built crates below it; two checks run at a time.
 A proof's time is that of a second check in which only that file is new, less that of one in which none is.
 """
+import concurrent.futures
 import os
 import pathlib
 import re
@@ -30,12 +31,16 @@ def run(command):
     return usage.ru_utime + usage.ru_stime, usage.ru_maxrss / 1024, int(re.search(r"logic=proved functions=(\d+)", said).group(1))
 
 
+def cost(name):
+    """A crate's row: seconds, name, functions, peak, wrong answers."""
+    folder = kit.ROOT / "crates" / name
+    seconds, peak, functions = run(kit.check(name, folder))
+    return seconds, name, functions, peak, len(list((folder / "must-fail").glob("*.edit")))
+
+
 def table():
-    rows = []
-    for name in kit.crates():
-        folder = kit.ROOT / "crates" / name
-        seconds, peak, functions = run(kit.check(name, folder))
-        rows.append((seconds, name, functions, peak, len(list((folder / "must-fail").glob("*.edit")))))
+    with concurrent.futures.ThreadPoolExecutor(max_workers=2) as pool:
+        rows = list(pool.map(cost, kit.crates()))
     print("| crate | functions | check, s | memory, MiB | wrong answers in the gate | theirs, about, s |")
     print("|---|---|---|---|---|---|")
     for seconds, name, functions, peak, edits in sorted(rows, reverse=True):
