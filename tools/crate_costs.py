@@ -1,17 +1,13 @@
 #!/usr/bin/env python3
 """What each crate's check costs: seconds and memory, and how many wrong answers the gate tries on it.
 
-    tools/crate_costs.py                 a table of every crate, dearest first, as docs/COSTS.md has it
-    tools/crate_costs.py --proofs CRATE  what each proof file of a crate costs, dearest first
+    tools/crate_costs.py        a table of every crate, dearest first, as docs/COSTS.md has it
 
 Needs the crates proved (`rt check`). A crate's time is the processor time of one check over the built crates below it; two checks run at a time.
-A proof's time is that of a second check in which only that file is new, less that of one in which none is.
 """
 import concurrent.futures
 import os
-import pathlib
 import re
-import shutil
 import subprocess
 import sys
 import tempfile
@@ -48,27 +44,7 @@ def table():
     print(f"| all {len(rows)} | {sum(r[2] for r in rows)} | {sum(r[0] for r in rows):.0f} | | {sum(r[4] for r in rows)} | {sum(r[0] * r[4] for r in rows):.0f} |")
 
 
-def proofs(name):
-    with tempfile.TemporaryDirectory() as room:
-        folder = pathlib.Path(room) / name
-        for part in kit.PARTS:
-            if (kit.ROOT / "crates" / name / part).exists():
-                shutil.copytree(kit.ROOT / "crates" / name / part, folder / part)
-        command = kit.check(name, folder) + ["--incremental", str(pathlib.Path(room) / "incremental")]
-        run(command)
-        base = min(run(command)[0] for _ in range(2))
-        rows = []
-        for file in sorted((folder / "proofs").rglob("*.antt")):
-            file.write_text(file.read_text() + "\n-- read again\n")
-            rows.append((run(command)[0] - base, file.relative_to(folder)))
-        for seconds, file in sorted(rows, reverse=True):
-            print(f"{seconds:7.1f} s  {name}/{file}")
-
-
 if __name__ == "__main__":
-    if sys.argv[1:2] == ["--proofs"] and len(sys.argv) == 3 and sys.argv[2] in kit.crates():
-        proofs(sys.argv[2])
-    elif len(sys.argv) == 1:
-        table()
-    else:
+    if len(sys.argv) > 1:
         sys.exit(__doc__)
+    table()
