@@ -142,13 +142,11 @@ def turns_line(found, first_is_high):
     return spaced("turns", numbers)
 
 
-def replay(data):
-    """Yields the answer lines of a script."""
-    script = Script(data)
-    clock = Clock()
+def play(script, clock, read):
+    """Yields the answer line of each call, until the script's end or its first error."""
     while not script.ended():
         try:
-            call = read_call(script)
+            call = read(script)
         except ScriptError as error:
             yield "script %d" % error.line
             return
@@ -158,9 +156,18 @@ def replay(data):
             yield "refused %d %d" % (refusal.number, refusal.place)
 
 
-def main():
-    for line in replay(sys.stdin.buffer.read()):
+def replay(data):
+    """The answer lines of a script."""
+    return play(Script(data), Clock(), read_call)
+
+
+def write(lines):
+    for line in lines:
         sys.stdout.write(line + "\n")
+
+
+def main():
+    write(replay(sys.stdin.buffer.read()))
 
 
 if __name__ == "__main__":

@@ -9,8 +9,7 @@ import sys
 
 import month
 from clock import Clock
-from refusal import Refusal
-from replay import Script, ScriptError, read_call, spaced
+from replay import Script, play, read_call, spaced, write
 
 CALLS = (b"cards ", b"station ", b"date ")
 
@@ -27,29 +26,27 @@ class Weights(Clock):
         return numbers
 
 
+def read_setting(script):
+    """Reads one whole call of the three; a date's answer is what its month is made of."""
+    if not script.data.startswith(CALLS, script.at):
+        script.fail()
+    dated = script.data.startswith(b"date ", script.at)
+    call = read_call(script)
+
+    def numbers(clock):
+        call(clock)
+        return spaced("month", clock.numbers())
+
+    return numbers if dated else call
+
+
 def answers(data):
-    """Yields the answer lines of a script."""
-    script = Script(data)
-    clock = Weights()
-    while not script.ended():
-        dated = data.startswith(b"date ", script.at)
-        try:
-            if not data.startswith(CALLS, script.at):
-                script.fail()
-            call = read_call(script)
-        except ScriptError as error:
-            yield "script %d" % error.line
-            return
-        try:
-            line = call(clock)
-            yield spaced("month", clock.numbers()) if dated else line
-        except Refusal as refusal:
-            yield "refused %d %d" % (refusal.number, refusal.place)
+    """The answer lines of a script."""
+    return play(Script(data), Weights(), read_setting)
 
 
 def main():
-    for line in answers(sys.stdin.buffer.read()):
-        sys.stdout.write(line + "\n")
+    write(answers(sys.stdin.buffer.read()))
 
 
 if __name__ == "__main__":

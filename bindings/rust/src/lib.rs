@@ -220,28 +220,32 @@ pub fn place_of(cards: &[u8], name: &str) -> Option<u8> {
     None
 }
 
-/// Fills `heights`: the height n, from 0, is that at minute `start + n * step`. An error leaves it as it was.
-pub fn series(cards: &[u8], station: Station<'_>, month: Month, start: u32, step: u32, heights: &mut [i64]) -> Result<(), Error> {
-    let row = Row::of(station.records);
-    // SAFETY: the slices are lent for the call, and `heights` alone is written.
-    let got = unsafe {
-        sys::cuvalimodo_series(
-            cards.as_ptr(),
-            cards.len(),
-            station.latitude,
+/// A function of the library with what sets the clock before what is asked of it: card file, station and month.
+macro_rules! ask {
+    ($function:path, $cards:expr, $station:expr, $month:expr, $($asked:expr),+) => {{
+        let row = Row::of($station.records);
+        $function(
+            $cards.as_ptr(),
+            $cards.len(),
+            $station.latitude,
             row.places.as_ptr(),
             row.places.len(),
             row.amplitudes.as_ptr(),
             row.amplitudes.len(),
             row.phases.as_ptr(),
             row.phases.len(),
-            month.year,
-            month.month,
-            start,
-            step,
-            heights.as_mut_ptr(),
-            heights.len(),
+            $month.year,
+            $month.month,
+            $($asked),+
         )
+    }};
+}
+
+/// Fills `heights`: the height n, from 0, is that at minute `start + n * step`. An error leaves it as it was.
+pub fn series(cards: &[u8], station: Station<'_>, month: Month, start: u32, step: u32, heights: &mut [i64]) -> Result<(), Error> {
+    // SAFETY: the slices are lent for the call, and `heights` alone is written.
+    let got = unsafe {
+        ask!(sys::cuvalimodo_series, cards, station, month, start, step, heights.as_mut_ptr(), heights.len())
     };
     accepted(got.number, got.place)
 }
@@ -257,27 +261,19 @@ pub fn turns(
     minutes: &mut [u32],
     heights: &mut [i64],
 ) -> Result<Turns, Error> {
-    let row = Row::of(station.records);
     // SAFETY: the slices are lent for the call, and the two buffers, which are apart, alone are written.
     let got = unsafe {
-        sys::cuvalimodo_turns(
-            cards.as_ptr(),
-            cards.len(),
-            station.latitude,
-            row.places.as_ptr(),
-            row.places.len(),
-            row.amplitudes.as_ptr(),
-            row.amplitudes.len(),
-            row.phases.as_ptr(),
-            row.phases.len(),
-            month.year,
-            month.month,
+        ask!(
+            sys::cuvalimodo_turns,
+            cards,
+            station,
+            month,
             first,
             last,
             minutes.as_mut_ptr(),
             minutes.len(),
             heights.as_mut_ptr(),
-            heights.len(),
+            heights.len()
         )
     };
     accepted(got.number, got.place)?;

@@ -1,0 +1,67 @@
+#!/usr/bin/env python3
+"""Where the prover refused each wrong answer of the gate: reads what `rt ci` or `rt must-fail` left in target/must-fail.
+
+    tools/refused_at.py           a line for each wrong answer, then a count; fails where one was refused at no fact
+    tools/refused_at.py --facts   only the count, and those that were refused at no fact
+
+A fact is what a function's contract or a loop promises, or a law that a proof cites. A missing need (a call's `requires`, a number that may not fit) or an error that
+only follows from another is none.
+"""
+
+import re
+import sys
+
+import kit
+
+FOLLOWS = re.compile(r"was not admitted|cannot be checked")
+ERROR = re.compile(r"^(\S+?/)?((?:proofs|specs|src)/\S+?):(\d+):\d+: error: `([^`]+)`: (.*)")
+NOTE = re.compile(r"^note: (\S+?/)?(src/\S+?):(\d+):\d+: it is not proved that (.*)")
+PROMISE = re.compile(r"^(returns|loop-less|.*-(holds|again))(-\d+)?$")
+
+
+def needs(crate, label, name):
+    """The names under which a proof file answers for what its function's code needs and promises."""
+    text = (kit.ROOT / "target/must-fail" / crate / label / name).read_text(errors="replace")
+    return set(re.findall(r"^\s*(\S+) : tie\.Need-", text, re.M))
+
+
+def of_error(crate, label, found):
+    _, name, line, declared, said = found.groups()
+    if FOLLOWS.search(said):
+        return "follows", name, line, declared
+    missing = name.startswith("proofs/") and declared in needs(crate, label, name) and not PROMISE.match(declared)
+    return "need" if missing else "fact", name, line, declared
+
+
+def of_note(found):
+    _, name, line, said = found.groups()
+    return "fact" if said.startswith("what the function ensures") else "need", name, line, said[:60]
+
+
+def refusals(crate, label):
+    """What the prover said of a wrong answer: kind, file, line, name."""
+    log = (kit.ROOT / "target/must-fail" / crate / label / ".log").read_text(errors="replace")
+    for said in log.splitlines():
+        error, note = ERROR.match(said), NOTE.match(said)
+        if error:
+            yield of_error(crate, label, error)
+        elif note:
+            yield of_note(note)
+
+
+def main():
+    edits = [(crate, edit.stem) for crate in kit.crates() for edit in sorted((kit.ROOT / "crates" / crate / "must-fail").glob("*.edit"))]
+    at_facts = 0
+    for crate, label in edits:
+        said = list(refusals(crate, label))
+        facts = [place for place in said if place[0] == "fact"]
+        at_facts += bool(facts)
+        kind, name, line, declared = (facts or said or [("nothing", "-", "-", "-")])[0]
+        if not facts or "--facts" not in sys.argv:
+            print(f"{crate}/{label}: {kind} at {name}:{line}, {declared}")
+    print(f"{at_facts} of {len(edits)} wrong answers were refused at a fact")
+    sys.exit(at_facts != len(edits))
+
+
+if __name__ == "__main__":
+    main()
