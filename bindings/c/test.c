@@ -101,61 +101,52 @@ static void drop_station(struct station s)
     free(s.phases.at);
 }
 
-/* Heights: what must be left, and a lent buffer of the same length between guards. */
-struct heights {
-    int64_t *wanted, *space;
+/* A lent buffer of minutes or of heights between guards, and what must be left in it. The other of the two pointers is NULL. */
+struct lent {
+    uint32_t *minutes;
+    int64_t *heights, *wanted;
     size_t length;
 };
 
-static struct heights read_heights(FILE *cases)
+static void put(struct lent b, size_t i, int64_t value)
 {
-    struct heights h = {NULL, NULL, (size_t)number(cases)};
-    h.wanted = room(h.length, sizeof *h.wanted);
-    h.space = room(h.length, sizeof *h.space);
-    h.space[0] = h.space[h.length + 1] = GUARD;
-    for (size_t i = 0; i < h.length; i++) {
-        h.wanted[i] = number(cases);
-        h.space[i + 1] = HEIGHT - (int64_t)i;
+    if (b.minutes)
+        b.minutes[i] = (uint32_t)value;
+    else
+        b.heights[i] = value;
+}
+
+static int64_t at(struct lent b, size_t i)
+{
+    return b.minutes ? b.minutes[i] : b.heights[i];
+}
+
+static struct lent read_lent(FILE *cases, bool minutes)
+{
+    size_t length = (size_t)number(cases);
+    struct lent b = {NULL, NULL, room(length, sizeof *b.wanted), length};
+    if (minutes)
+        b.minutes = room(length, sizeof *b.minutes);
+    else
+        b.heights = room(length, sizeof *b.heights);
+    put(b, 0, GUARD);
+    put(b, length + 1, GUARD);
+    for (size_t i = 0; i < length; i++) {
+        b.wanted[i] = number(cases);
+        put(b, i + 1, (minutes ? (int64_t)MINUTE : HEIGHT) - (int64_t)i);
     }
-    return h;
+    return b;
 }
 
-static void compare_heights(struct heights h)
+static void compare_lent(struct lent b)
 {
-    for (size_t i = 0; i < h.length; i++)
-        same("a height", h.space[i + 1], h.wanted[i]);
-    same("the guard before the heights", h.space[0], GUARD);
-    same("the guard after the heights", h.space[h.length + 1], GUARD);
-    free(h.wanted);
-    free(h.space);
-}
-
-struct minutes {
-    uint32_t *wanted, *space;
-    size_t length;
-};
-
-static struct minutes read_minutes(FILE *cases)
-{
-    struct minutes m = {NULL, NULL, (size_t)number(cases)};
-    m.wanted = room(m.length, sizeof *m.wanted);
-    m.space = room(m.length, sizeof *m.space);
-    m.space[0] = m.space[m.length + 1] = GUARD;
-    for (size_t i = 0; i < m.length; i++) {
-        m.wanted[i] = (uint32_t)number(cases);
-        m.space[i + 1] = MINUTE - (uint32_t)i;
-    }
-    return m;
-}
-
-static void compare_minutes(struct minutes m)
-{
-    for (size_t i = 0; i < m.length; i++)
-        same("a minute", m.space[i + 1], m.wanted[i]);
-    same("the guard before the minutes", m.space[0], GUARD);
-    same("the guard after the minutes", m.space[m.length + 1], GUARD);
-    free(m.wanted);
-    free(m.space);
+    for (size_t i = 0; i < b.length; i++)
+        same(b.minutes ? "a minute" : "a height", at(b, i + 1), b.wanted[i]);
+    same("the guard before the buffer", at(b, 0), GUARD);
+    same("the guard after the buffer", at(b, b.length + 1), GUARD);
+    free(b.wanted);
+    free(b.minutes);
+    free(b.heights);
 }
 
 static void check_case(FILE *cases, struct bytes deck)
@@ -173,12 +164,12 @@ static void series_case(FILE *cases, struct bytes deck)
 {
     struct station s = read_station(cases);
     uint32_t year = (uint32_t)number(cases), month = (uint32_t)number(cases), start = (uint32_t)number(cases), step = (uint32_t)number(cases);
-    struct heights h = read_heights(cases);
+    struct lent h = read_lent(cases, false);
     cuvalimodo_verdict got = cuvalimodo_series(deck.at, deck.length, s.latitude, s.places.at, s.places.length, s.amplitudes.at, s.amplitudes.length,
-                                               s.phases.at, s.phases.length, year, month, start, step, h.space + 1, h.length);
+                                               s.phases.at, s.phases.length, year, month, start, step, h.heights + 1, h.length);
     same("number", got.number, number(cases));
     same("place", (int64_t)got.place, number(cases));
-    compare_heights(h);
+    compare_lent(h);
     drop_station(s);
 }
 
@@ -186,16 +177,16 @@ static void turns_case(FILE *cases, struct bytes deck)
 {
     struct station s = read_station(cases);
     uint32_t year = (uint32_t)number(cases), month = (uint32_t)number(cases), first = (uint32_t)number(cases), last = (uint32_t)number(cases);
-    struct minutes m = read_minutes(cases);
-    struct heights h = read_heights(cases);
+    struct lent m = read_lent(cases, true);
+    struct lent h = read_lent(cases, false);
     cuvalimodo_turnings got = cuvalimodo_turns(deck.at, deck.length, s.latitude, s.places.at, s.places.length, s.amplitudes.at, s.amplitudes.length,
-                                               s.phases.at, s.phases.length, year, month, first, last, m.space + 1, m.length, h.space + 1, h.length);
+                                               s.phases.at, s.phases.length, year, month, first, last, m.minutes + 1, m.length, h.heights + 1, h.length);
     same("number", got.number, number(cases));
     same("place", (int64_t)got.place, number(cases));
     same("count", (int64_t)got.count, number(cases));
     same("high", got.high, number(cases));
-    compare_minutes(m);
-    compare_heights(h);
+    compare_lent(m);
+    compare_lent(h);
     drop_station(s);
 }
 
