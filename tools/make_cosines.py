@@ -1,5 +1,5 @@
 #!/usr/bin/env python3
-"""Write crates/cosine/src/table.rt, the table of 01, "Cosine", by exact whole numbers.
+"""Write crates/cosine/src/constants.rt, the table of 01, "Cosine", by exact whole numbers.
 
     tools/make_cosines.py           write it
     tools/make_cosines.py --check   say whether the file in the tree is what would be written
@@ -51,7 +51,7 @@ def text():
 
 def main():
     assert STEP * STEPS == QUARTER
-    path = pathlib.Path(__file__).resolve().parent.parent / "crates/cosine/src/table.rt"
+    path = pathlib.Path(__file__).resolve().parent.parent / "crates/cosine/src/constants.rt"
     if "--check" in sys.argv:
         same = path.read_text() == text()
         print("%s: %s" % (path.name, "as it would be written" if same else "DIFFERS"))

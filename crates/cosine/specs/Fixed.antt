@@ -13,7 +13,7 @@ use Rattle.cosine.specs.Fraction.{quarter, whole, base, around}
 abbrev pub one : ℕ
 one = 2 ^ 30
 
--- "The table has 1,025 entries, .. at i × 192,480,468,750 ticks." "It is within 1,024 .." A finer table changes these three, and src/table.rt.
+-- "The table has 1,025 entries, .. at i × 192,480,468,750 ticks." "It is within 1,024 .." A finer table changes these three, and src/constants.rt.
 abbrev pub entries : ℕ
 entries = 1_025
 

@@ -6,12 +6,12 @@ ghost use lib.IntN.{pos, negℤ, natAbs};
 ghost use Rattle.cosine.specs.Fraction.{inQuadrant};
 ghost use Rattle.cosine.specs.Fixed.{one, entries, step, entry, fixedCosine, fixedSine, IsTable};
 
-mod table;
+mod constants;
 
-use table::COSINES;
-pub use table::ENTRIES;
-use table::STEP;
-use table::STEPS;
+use constants::COSINES;
+pub use constants::ENTRIES;
+use constants::STEP;
+use constants::STEPS;
 
 // A cosine and a sine, in units of 2^-30.
 pub struct CosineAndSine {
