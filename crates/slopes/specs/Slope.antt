@@ -9,7 +9,7 @@ use Rattle.angles.specs.Floor.{floorDiv}
 use Rattle.cosine.specs.Fixed.{fixedCosine, fixedSine}
 use Rattle.prepared.specs.Prepared.{Constituent}
 use Rattle.prepared.specs.View.{constituentsFrom}
-use Rattle.heights.specs.Height.{angleAt}
+use Rattle.minuteangle.specs.Angle.{angleAt}
 
 -- "floor((P × sine + Q × cosine)/2^30) × floor(frequency/1,000)", of the fixed sine and cosine at the angle
 unfoldable pub fall : ℤ → ℤ → ℕ → ℕ → ℤ

@@ -21,7 +21,7 @@ fn fall_at(table: &[u32; ENTRIES], angle: u64, p: i32, q: i32, frequency: u64) -
     ensures { λ r. ⌜ natAbs r ≤ 2 ^ 32 * 4_999_999 ⌝ }
 {
     let w = cosine::wave(table, angle);
-    let whole = (heights::weigh(p, w.sine) + heights::weigh(q, w.cosine)) >> 30;
+    let whole = (shares::weigh(p, w.sine) + shares::weigh(q, w.cosine)) >> 30;
     whole * (frequency / 1_000) as i64
 }
 
@@ -43,7 +43,7 @@ pub fn slope<'a>(
     let mut falls: i64 = 0;
     let mut k: usize = 0;
     while k < count {
-        let angle = heights::angle_at(arguments[k], lags[k], frequencies[k], minute);
+        let angle = minuteangle::angle_at(arguments[k], lags[k], frequencies[k], minute);
         falls = falls + fall_at(table, angle, ps[k], qs[k], frequencies[k]);
         k = k + 1;
     }
