@@ -1,12 +1,12 @@
--- `search::differs` meets its contract: by the first slope's sense. Assumes nothing.
+-- `bisection::differs` meets its contract: by the first slope's sense. Assumes nothing.
 use borrow.Author.Needs.{needs}
-use Rattle.search.proofs.differs.Statement.{statement}
-use Rattle.search.proofs.differs.Tie as tie
+use Rattle.bisection.proofs.differs.Statement.{statement}
+use Rattle.bisection.proofs.differs.Tie as tie
 use mathlib.Core.Path.{_≡_, sym, _∙_, ap}
 use mathlib.Core.Bool.{true, false, not}
 use mir.ValLaws.{toZ-ofZ}
 use Rattle.slopes.specs.Slope.{rising}
-use Rattle.search.specs.Search.{differ}
+use Rattle.bisection.specs.Cuts.{differ}
 
 rises-requires : tie.Need-rises-requires
 rises-requires c κs = search needs
