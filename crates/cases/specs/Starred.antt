@@ -17,7 +17,7 @@ use Rattle.satellites.specs.Satellites.{mainPair}
 use Rattle.month.specs.Month.{nodal, constituent}
 use Rattle.minuteangle.specs.Angle.{angle}
 use Rattle.heights.specs.Height.{heightAt}
-use Rattle.strides.specs.Stride.{strideBy}
+use Rattle.tides.specs.Stride.{strideBy}
 
 pub data Case : Type 0 where
   _gives_ : ℤ → ℤ → Case

@@ -1,3 +1,4 @@
+-- `strides::amplitude_at` meets its contract: the amplitude by the records left is that by all (`Amplitudes`). Assumes nothing.
 use Rattle.strides.proofs.amplitude_at.Statement.{statement}
 use Rattle.strides.proofs.amplitude_at.Tie as tie
 use borrow.Author.Needs.{needs}

@@ -1,3 +1,4 @@
+-- `strides::amplitude_of` meets its contract: the name is found in the row of names, or it is not (`Names`). Assumes nothing.
 use borrow.Author.Needs.{needs}
 use Rattle.strides.proofs.amplitude_of.Statement.{statement}
 use Rattle.strides.proofs.amplitude_of.Tie as tie

@@ -1,3 +1,4 @@
+-- `strides::station_stride` meets its contract: the four amplitudes by name, and the stride that they give. Assumes nothing.
 use borrow.Author.Needs.{needs}
 use Rattle.strides.proofs.station_stride.Statement.{statement}
 use Rattle.strides.proofs.station_stride.Tie as tie

@@ -1,11 +1,11 @@
--- `strides::stride` meets its contract: the tests in 01's order. Assumes nothing.
+-- `tides::stride` meets its contract: the tests in 01's order. Assumes nothing.
 use Prim.Native.Nat.{_+_, _*_, _≤_, _<_}
 use native.Mathlib.Omega.{arith}
 use borrow.Author.Needs.{needs}
-use Rattle.strides.proofs.stride.Statement.{statement}
-use Rattle.strides.proofs.stride.Tie as tie
+use Rattle.tides.proofs.stride.Statement.{statement}
+use Rattle.tides.proofs.stride.Tie as tie
 use borrow.Author.Tests.{le-leb, lt-leb, le-ltb, lt-ltb}
-use Rattle.strides.specs.Stride.{strideOf}
+use Rattle.tides.specs.Stride.{strideOf}
 
 add-daily : tie.Need-add-daily
 add-daily c = search needs
