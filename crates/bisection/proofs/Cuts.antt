@@ -8,8 +8,8 @@ use native.Mathlib.Omega.{arith}
 use borrow.Author.Tests.{leb-true, leb-false, le-leb, lt-leb}
 use lib.Dec.{leb}
 use lib.IntN.{ℤ}
-use Rattle.slopes.specs.Slope.{rising}
-use Rattle.bisection.specs.Cuts.{differ, cutFrom, earlierEnd, laterEnd}
+use Rattle.sense.specs.Sense.{rising, differ}
+use Rattle.bisection.specs.Cuts.{cutFrom, earlierEnd, laterEnd}
 
 -- a fact of a choice, from the fact of each side
 pub by-test : {A : Type 0} (P : A → Type 0) (t : Bool) (a b : A) → (t ≡ true → P a) → (t ≡ false → P b) → P (cond t a b)

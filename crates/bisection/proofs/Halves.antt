@@ -10,7 +10,8 @@ use lib.Signed.{mag}
 use mir.Syntax.{w64}
 use mir.Val.{SFits, toZ, ofZ}
 use mir.ValLaws.{toZ-ofZ}
-use Rattle.bisection.specs.Cuts.{differ, earlierEnd, laterEnd, smaller}
+use Rattle.sense.specs.Sense.{differ}
+use Rattle.bisection.specs.Cuts.{earlierEnd}
 use Rattle.bisection.specs.Posts.{TurnedPost}
 use Rattle.bisection.specs.declared.Turned.{Turned}
 use Rattle.bisection.proofs.Cuts.{cut-done, cut-early, cut-late}

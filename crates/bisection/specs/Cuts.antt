@@ -1,14 +1,10 @@
 -- 01, "Heights and turns": a bracket in which the slope changes sense, halved, for any slope (a minute's).
 -- Assumes nothing.
 use Prim.Native.Nat.{ℕ, zero, suc, _+_, _-_, _/_}
-use mathlib.Core.Bool.{Bool, not, cond}
+use mathlib.Core.Bool.{cond}
 use lib.Dec.{leb, ltb}
 use lib.IntN.{ℤ, natAbs}
-use Rattle.slopes.specs.Slope.{rising}
-
--- "the two ends' slopes differ in sense"
-unfoldable pub differ : ℤ → ℤ → Bool
-differ a b = cond (rising a) (not (rising b)) (rising b)
+use Rattle.sense.specs.Sense.{differ}
 
 -- "Then cut at start + floor(length/2). The half that holds the change is halved again, until its ends are one minute apart."
 -- The earlier of these ends, in at most `cuts` cuts.

@@ -6,10 +6,9 @@ ghost use lib.Dec.{ltb};
 ghost use lib.IntN.{natAbs};
 ghost use Rattle.cosine.specs.Fixed.{IsTable};
 ghost use Rattle.slopes.specs.Slope.{InRange, slopeOf};
-ghost use Rattle.bisection.specs.Cuts.{differ};
 ghost use Rattle.bisection.specs.Posts.{TurnedPost};
 use cosine::ENTRIES;
-use slopes::rises;
+use sense::differs;
 use slopes::slope;
 
 // A turn's minute; the later of the two ends that hold the change, and the slope there.
@@ -17,13 +16,6 @@ pub struct Turned {
     pub turn: u64,
     pub later: u64,
     pub slope: i64,
-}
-
-// Whether two slopes differ in sense.
-pub fn differs(a: i64, b: i64) -> bool
-    ensures { λ r. ⌜ r ≡ differ a b ⌝ }
-{
-    if rises(a) { !rises(b) } else { rises(b) }
 }
 
 // The turn between two ends one minute apart: the end with the smaller slope size, the earlier if equal.

@@ -13,7 +13,8 @@ use borrow.Author.Needs.{zero≤}
 use lib.ListN.{length, getD, set, drop, length-map, length-set, List·getD-append}
 use lib.Seq.{sets, take-at, length-sets}
 use borrow.Author.Tests.{ltb-false}
-use Rattle.bisection.specs.Cuts.{differ, earlierEnd, laterEnd}
+use Rattle.sense.specs.Sense.{differ}
+use Rattle.bisection.specs.Cuts.{earlierEnd, laterEnd}
 use Rattle.bisection.proofs.Cuts.{by-test, end-within}
 use Rattle.search.specs.Search.{Turn, turnIn, turnsFrom, turnsOf}
 use Rattle.search.specs.Search.{firstHigh, minutesOf}

@@ -5,8 +5,8 @@ use Prim.Native.Nat.{ℕ, _+_, _≤_, _<_}
 use native.Mathlib.Omega.{arith}
 use native.Mathlib.Nat.{le-refl}
 use lib.IntN.{ℤ}
-use Rattle.slopes.specs.Slope.{rising}
-use Rattle.bisection.specs.Cuts.{differ, earlierEnd}
+use Rattle.sense.specs.Sense.{rising, differ}
+use Rattle.bisection.specs.Cuts.{earlierEnd}
 use Rattle.bisection.specs.Posts.{TurnedPost}
 use Rattle.bisection.specs.declared.Turned.{Turned}
 use Rattle.bisection.proofs.Cuts.{end-within}

@@ -10,7 +10,8 @@ use borrow.Author.Tests.{ltb-false, lt-ltb, le-ltb}
 use lib.Dec.{ltb}
 use lib.IntN.{ℤ, natAbs}
 use lib.ListN.{length}
-use Rattle.bisection.specs.Cuts.{differ, laterEnd, smaller}
+use Rattle.sense.specs.Sense.{differ}
+use Rattle.bisection.specs.Cuts.{laterEnd, smaller}
 use Rattle.bisection.proofs.Cuts.{by-test, same-else, end-within}
 use Rattle.search.specs.Search.{Turn, turnIn, turnsFrom, turnsOf}
 

@@ -5,8 +5,8 @@ use mathlib.Core.Bool.{Bool, false, cond}
 use mathlib.Core.List.{List, [], _∷_, map}
 use lib.Dec.{ltb}
 use lib.IntN.{ℤ}
-use Rattle.slopes.specs.Slope.{rising}
-use Rattle.bisection.specs.Cuts.{differ, earlierEnd, laterEnd, smaller}
+use Rattle.sense.specs.Sense.{rising, differ}
+use Rattle.bisection.specs.Cuts.{earlierEnd, laterEnd, smaller}
 
 -- a turn's minute, and whether it is "high, that is, rising at its stride's start"
 pub record Turn : Type 0 where

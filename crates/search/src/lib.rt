@@ -7,9 +7,9 @@ ghost use Rattle.slopes.specs.Slope.{InRange, slopeOf};
 ghost use Rattle.search.specs.Search.{turnsOf};
 ghost use Rattle.search.specs.Posts.{NextPost, FoundPost};
 use bisection::bisect;
-use bisection::differs;
 use cosine::ENTRIES;
-use slopes::rises;
+use sense::differs;
+use sense::rises;
 use slopes::slope;
 
 // How many turns were found, and whether the first is high.

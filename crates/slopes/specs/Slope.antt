@@ -1,9 +1,8 @@
 -- 01, "Heights and turns": the slope of the water at a minute.
 -- Assumes nothing.
 use Prim.Native.Nat.{ℕ, _/_, _^_, _≤_, _<_}
-use mathlib.Core.Bool.{Bool, true, false}
 use mathlib.Core.List.{List, [], _∷_}
-use lib.IntN.{ℤ, pos, negsuc, negℤ, _+ℤ_, _*ℤ_}
+use lib.IntN.{ℤ, pos, negℤ, _+ℤ_, _*ℤ_}
 use lib.ListN.{getD}
 use Rattle.angles.specs.Floor.{floorDiv}
 use Rattle.cosine.specs.Fixed.{fixedCosine, fixedSine}
@@ -28,11 +27,6 @@ slopeAt cs minute = negℤ (fallsAt cs minute)
 -- the slope of the constituents that five lists hold
 abbrev pub slopeOf : List ℕ → List ℕ → List ℕ → List ℤ → List ℤ → ℕ → ℕ → ℤ
 slopeOf arguments lags frequencies ps qs count = slopeAt (constituentsFrom arguments lags frequencies ps qs count)
-
--- "Slope 0 counts as rising."
-unfoldable pub rising : ℤ → Bool
-rising (pos n) = true
-rising (negsuc n) = false
 
 -- "cycles an hour, 0 to 0.4999999999": the first `count` frequencies are in the range of the cards
 abbrev pub InRange : ℕ → List ℕ → Type 0

@@ -7,7 +7,7 @@ use Rattle.bisection.proofs.bisect.Reads as bisect
 use Rattle.bisection.proofs.bisect.Kinds as bisect-kinds
 use Rattle.bisection.proofs.+bisect.Lts-bisect as bisect-lts
 use Rattle.bisection.proofs.turn_between.Reads as turn-between-reads
-use Rattle.bisection.proofs.differs.Reads as differs-reads
+use Rattle.sense.proofs.differs.Reads as differs-reads
 use Rattle.slopes.proofs.slope.Reads as slope-reads
 use Rattle.bisection.proofs.+bisect.{statement}
 use Rattle.bisection.proofs.+bisect.Tie.{close}

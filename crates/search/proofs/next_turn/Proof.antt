@@ -9,7 +9,8 @@ use mathlib.Core.Path.{_≡_, refl, _∙_, ap}
 use mir.Syntax.{w64}
 use mir.Val.{SFits, toZ}
 use mir.ValLaws.{toZ-ofZ}
-use Rattle.slopes.specs.Slope.{rising, slopeOf}
+use Rattle.sense.specs.Sense.{rising}
+use Rattle.slopes.specs.Slope.{slopeOf}
 use Rattle.search.specs.Search.{turnsOf}
 use Rattle.bisection.proofs.Halves.{kept, kept-result, sense-of}
 use Rattle.search.proofs.Onward.{stride-passed, end-reached, turn-found}

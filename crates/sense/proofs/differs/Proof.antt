@@ -1,12 +1,11 @@
--- `bisection::differs` meets its contract: by the first slope's sense. Assumes nothing.
+-- `sense::differs` meets its contract: by the first slope's sense. Assumes nothing.
 use borrow.Author.Needs.{needs}
-use Rattle.bisection.proofs.differs.Statement.{statement}
-use Rattle.bisection.proofs.differs.Tie as tie
+use Rattle.sense.proofs.differs.Statement.{statement}
+use Rattle.sense.proofs.differs.Tie as tie
 use mathlib.Core.Path.{_≡_, sym, _∙_, ap}
 use mathlib.Core.Bool.{true, false, not}
 use mir.ValLaws.{toZ-ofZ}
-use Rattle.slopes.specs.Slope.{rising}
-use Rattle.bisection.specs.Cuts.{differ}
+use Rattle.sense.specs.Sense.{rising, differ}
 
 rises-requires : tie.Need-rises-requires
 rises-requires c κs = search needs

@@ -1,12 +1,12 @@
--- `slopes::rises` meets its contract: the test is `rising` by the number's sign. Assumes nothing.
+-- `sense::rises` meets its contract: the test is `rising` by the number's sign. Assumes nothing.
 use mathlib.Core.Path.{_≡_, refl}
 use lib.Dec.{leb·zero}
 use lib.IntN.{ℤ, pos, negsuc}
 use lib.Signed.{leZ}
 use mir.ValLaws.{toZ-ofZ}
-use Rattle.slopes.specs.Slope.{rising}
-use Rattle.slopes.proofs.rises.Statement.{statement}
-use Rattle.slopes.proofs.rises.Tie as tie
+use Rattle.sense.specs.Sense.{rising}
+use Rattle.sense.proofs.rises.Statement.{statement}
+use Rattle.sense.proofs.rises.Tie as tie
 
 rising-is : (z : ℤ) → leZ (pos 0) z ≡ rising z
 unfolding rising
