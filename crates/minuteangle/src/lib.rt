@@ -3,17 +3,14 @@ ghost use mathlib.Core.Path.{_≡_};
 ghost use Prim.Native.Nat.{_≤_, _<_};
 ghost use Rattle.angles.specs.Ticks.{turn};
 ghost use Rattle.minuteangle.specs.Angle.{angle};
-
-const TURN: u64 = 788_400_000_000_000;
-
-// 0.01 degree in ticks.
-const CENTIDEGREE: u64 = 21_900_000_000;
+use angles::CENTIDEGREE;
+use angles::TURN;
 
 // A frequency of 10^-10 cycle an hour moves an angle by this many ticks a minute,
-const ADVANCE: u64 = 1_314;
+pub const ADVANCE: u64 = 1_314;
 
 // so a frequency of this many moves it by a whole turn.
-const LAP: u64 = TURN / ADVANCE;
+pub const LAP: u64 = TURN / ADVANCE;
 
 // The most that a card gives.
 const MOST: u64 = 4_999_999_999;

@@ -9,17 +9,12 @@ ghost use Rattle.cosine.specs.Fixed.{IsTable};
 ghost use Rattle.prepared.specs.View.{constituentsFrom};
 ghost use Rattle.series.specs.Series.{seriesOf};
 ghost use Rattle.series.specs.Angles.{Angles, Advances, Below, MovedOn, HeightOf};
+use angles::TURN;
 use cosine::ENTRIES;
+use minuteangle::ADVANCE;
+use minuteangle::LAP;
 use minuteangle::angle_at;
 use shares::share_at;
-
-const TURN: u64 = 788_400_000_000_000;
-
-// A frequency of 10^-10 cycle an hour moves an angle by this many ticks a minute,
-const ADVANCE: u64 = 1_314;
-
-// so a frequency of this many moves it by a whole turn.
-const LAP: u64 = TURN / ADVANCE;
 
 // The angles of the first `count` constituents at a minute.
 fn angles_at<'a>(
