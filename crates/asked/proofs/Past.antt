@@ -1,12 +1,16 @@
--- The last minute of a series, by a quotient. Assumes nothing.
+-- What a series asks of its minutes: the last one by a quotient. Assumes nothing.
 use mathlib.Core.Path.{_≡_, refl, sym}
 use Prim.Native.Nat.{ℕ, _+_, _-_, _*_, _/_, _≤_, _<_}
-use mathlib.Core.Bool.{Bool, true, false}
+use mathlib.Core.Bool.{Bool, true, false, _||_}
 use native.Mathlib.Omega.{arith}
 use native.Mathlib.Nat.{div-lt-iff-lt-mul}
 use lib.Dec.{ltb}
 use borrow.Author.Tests.{le-ltb, ltb-true, ltb-false}
-use Rattle.asked.specs.Asked.{lastMinute}
+use Rattle.asked.specs.Asked.{stepOutside, lastMinute}
+
+-- a start in the month and a step in range leave the last minute to be asked
+pub in-range : (last start step : ℕ) {b : Bool} → start ≤ last → 1 ≤ step → step ≤ 1_440 → ltb last start || stepOutside step || b ≡ b
+in-range last start step h k l = simp (le-ltb last start h, le-ltb step 1 k, le-ltb 1_440 step l)
 
 -- a quotient below n - 1 is a last minute past the month's
 pub past-is : (last start step places : ℕ) → start ≤ last → 0 < step → 0 < places

@@ -9,7 +9,7 @@ use Rattle.angles.specs.Floor.{modTurn}
 use Rattle.angles.proofs.Ints.{distrib-sub}
 use Rattle.angles.proofs.Angles.{of-difference}
 use Rattle.angles.proofs.Sums.{difference-of-sums}
-use Rattle.heights.specs.Height.{angle}
+use Rattle.minuteangle.specs.Angle.{angle}
 
 -- a minute later is one more, from whatever the minutes are counted
 one-later : (minute : ℕ) (c : ℤ) → (pos (minute + 1) -ℤ c) -ℤ (pos minute -ℤ c) ≡ pos 1

@@ -12,7 +12,9 @@ use Rattle.angles.proofs.Floors.{floor-of}
 use Rattle.cosine.specs.Fixed.{one, fixedCosine, fixedSine}
 use Rattle.prepared.specs.Prepared.{Constituent}
 use Rattle.month.specs.Month.{weight}
-use Rattle.heights.specs.Height.{angle, share, sumOfShares, heightAt}
+use Rattle.minuteangle.specs.Angle.{angle}
+use Rattle.shares.specs.Share.{share}
+use Rattle.heights.specs.Height.{sumOfShares, heightAt}
 
 abbrev pub level : ℕ → ℕ → Constituent
 level A lag = record { argument = 0; lag = lag; frequency = 0; p = weight A (pos (2 ^ 20)); q = weight A (pos 0) }

@@ -15,8 +15,9 @@ use Rattle.prepared.specs.Prepared.{Constituent}
 use Rattle.latitude.specs.Latitude.{factorsAt}
 use Rattle.satellites.specs.Satellites.{mainPair}
 use Rattle.month.specs.Month.{nodal, constituent}
-use Rattle.heights.specs.Height.{angle, heightAt}
-use Rattle.strides.specs.Stride.{strideBy}
+use Rattle.minuteangle.specs.Angle.{angle}
+use Rattle.heights.specs.Height.{heightAt}
+use Rattle.tides.specs.Stride.{strideBy}
 
 pub data Case : Type 0 where
   _gives_ : ℤ → ℤ → Case

@@ -12,9 +12,10 @@ use lib.IntN.{ℤ}
 use Rattle.table.specs.Table.{Table}
 use Rattle.station.specs.Station as station
 use Rattle.prepared.specs.Prepared.{Constituent}
-use Rattle.heights.specs.Exact.{Near}
-use Rattle.heights.specs.Height.{heightAt, seriesFrom, seriesOf}
-use Rattle.heights.proofs.Distance.{height-is-near}
+use Rattle.distance.specs.Exact.{Near}
+use Rattle.heights.specs.Height.{heightAt}
+use Rattle.series.specs.Series.{seriesFrom, seriesOf}
+use Rattle.distance.proofs.Distance.{height-is-near}
 use Rattle.slopes.specs.Slope.{slopeAt}
 use Rattle.search.specs.Search.{Turn, turnsOf}
 use Rattle.strides.specs.Strides.{stationStride}

@@ -12,7 +12,7 @@ use Rattle.cards.specs.Cards.{readCards}
 use Rattle.records.specs.declared.Record.{Record}
 use Rattle.station.specs.Station as station
 use Rattle.prepared.specs.Prepared.{Constituent}
-use Rattle.heights.specs.Exact.{Near}
+use Rattle.distance.specs.Exact.{Near}
 use Rattle.clock.specs.State as state
 use Rattle.clock.specs.State.{Maybe, none, some, State}
 use Rattle.clock.specs.Returned.{Returned, accepted, heightIs, turnsAre, refused, onAccepted}

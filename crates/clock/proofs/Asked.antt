@@ -19,7 +19,8 @@ use Rattle.table.specs.View.{tableOf}
 use Rattle.station.specs.Station.{Station}
 use Rattle.station.specs.Rows.{stationOf}
 use Rattle.strides.specs.Strides.{stationStride}
-use Rattle.heights.specs.Height.{heightAt, seriesOf}
+use Rattle.heights.specs.Height.{heightAt}
+use Rattle.series.specs.Series.{seriesOf}
 use Rattle.slopes.specs.Slope.{slopeAt}
 use Rattle.search.specs.Search.{turnsOf}
 use Rattle.search.specs.declared.Summary.{Summary}

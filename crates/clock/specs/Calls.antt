@@ -13,7 +13,8 @@ use Rattle.records.specs.declared.Record.{Record}
 use Rattle.station.specs.Station.{Station, stationOutcome}
 use Rattle.calendar.specs.Calendar.{inRange, monthMinutes}
 use Rattle.month.specs.Month.{Prepared, tooLarge, prepared, monthOf}
-use Rattle.heights.specs.Height.{heightAt, seriesOf}
+use Rattle.heights.specs.Height.{heightAt}
+use Rattle.series.specs.Series.{seriesOf}
 use Rattle.slopes.specs.Slope.{slopeAt}
 use Rattle.search.specs.Search.{turnsOf}
 use Rattle.turns.specs.Written as written

@@ -272,7 +272,7 @@ pub fn series(clock: Clock, start: u32, step: u32, heights: &mut [i64]) -> Answe
     );
     match asked {
         Answer::Accepted => {
-            heights::series(
+            series::series(
                 &clock.cosines,
                 &clock.arguments,
                 &clock.lags,

@@ -1,3 +1,1 @@
 pub mod Height
-pub mod Exact
-pub mod Angles

@@ -4,8 +4,9 @@ use mathlib.Core.Bool.{true}
 use mathlib.Core.List.{[], _∷_}
 use Prim.Native.Nat.{ℕ, _*_}
 use lib.IntN.{subℕ}
-use Rattle.slopes.specs.Slope.{rising}
-use Rattle.search.specs.Search.{differ, cutFrom, turnsFrom, turnsOf}
+use Rattle.sense.specs.Sense.{rising, differ}
+use Rattle.bisection.specs.Cuts.{cutFrom}
+use Rattle.search.specs.Search.{turnsFrom, turnsOf}
 
 -- the slope 10 - minute: 0, which counts as rising, at minute 10
 pub zero-rises : turnsOf (λ (m : ℕ). subℕ 10 m) 4 6 14 ≡ record { minute = 10; high = true } ∷ []

@@ -8,26 +8,24 @@ use native.Mathlib.Nat.{le-trans}
 use native.Mathlib.Numerals.{add-one}
 use native.Mathlib.Omega.{arith}
 use lib.Dec.{ltb}
-use lib.IntN.{ℤ, natAbs}
+use lib.IntN.{ℤ}
 use borrow.Author.Needs.{zero≤}
 use lib.ListN.{length, getD, set, drop, length-map, length-set, List·getD-append}
 use lib.Seq.{sets, take-at, length-sets}
 use borrow.Author.Tests.{ltb-false}
-use Rattle.search.specs.Search.{Turn, differ, earlierEnd, laterEnd, smaller, turnIn, turnsFrom, turnsOf}
+use Rattle.sense.specs.Sense.{differ}
+use Rattle.bisection.specs.Cuts.{earlierEnd, laterEnd}
+use Rattle.bisection.proofs.Cuts.{by-test, end-within}
+use Rattle.search.specs.Search.{Turn, turnIn, turnsFrom, turnsOf}
 use Rattle.search.specs.Search.{firstHigh, minutesOf}
 use Rattle.search.specs.Posts.{NextPost, FoundPost, onwards}
 use Rattle.search.specs.declared.Next.{Next}
-use Rattle.search.proofs.Cuts.{by-test, end-within}
-use Rattle.search.proofs.Strides.{turns-few}
+use Rattle.search.proofs.Strides.{smaller-within, turns-few}
 use Rattle.search.proofs.Stored.{stored-all}
 
 -- ---- the minutes of turns
 
 module _ (slope : ℕ → ℤ) (stride : ℕ) (some : 0 < stride) (last : ℕ) where
-  smaller-within : (minute : ℕ) → minute < last → smaller slope minute ≤ last
-  smaller-within minute h =
-      by-test (λ m. m ≤ last) (ltb (natAbs (slope (minute + 1))) (natAbs (slope minute))) (minute + 1) minute (λ e. omega arith) (λ e. omega arith)
-
   cons-within : (x : ℕ) (xs : List ℕ) → x ≤ last → ((k : ℕ) → getD xs k 0 ≤ last) → (k : ℕ) → getD (x ∷ xs) k 0 ≤ last
   cons-within x xs h f zero = h
   cons-within x xs h f (suc k) = f k
@@ -39,7 +37,7 @@ module _ (slope : ℕ → ℤ) (stride : ℕ) (some : 0 < stride) (last : ℕ) w
       by-test (λ ts. getD (minutesOf ts) k 0 ≤ last) (ltb last (minute + stride)) [] _ (λ e. zero≤)
       (λ e. let l = ltb-false last (minute + stride) e in
       let w = end-within slope minute stride some in
-      let one = smaller-within (earlierEnd slope minute stride) (omega arith) in
+      let one = smaller-within slope last (earlierEnd slope minute stride) (omega arith) in
       by-test (λ ts. getD (minutesOf ts) k 0 ≤ last) (differ (slope minute) (slope (minute + stride))) (turnIn slope minute stride ∷ turnsFrom slope stride last n (laterEnd slope minute stride)) (turnsFrom slope stride last n (minute + stride)) (λ d. cons-within (turnIn slope minute stride .minute) (minutesOf (turnsFrom slope stride last n (laterEnd slope minute stride))) one (within-from n (laterEnd slope minute stride)) k) (λ d. within-from n (minute + stride) k))
 
   pub minutes-within : (minute k : ℕ) → getD (minutesOf (turnsOf slope stride minute last)) k 0 ≤ last

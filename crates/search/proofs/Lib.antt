@@ -1,4 +1,3 @@
-pub mod Cuts
 pub mod Strides
 pub mod Onward
 pub mod Stored

@@ -8,10 +8,17 @@ use native.Mathlib.Nat.{le-refl}
 use native.Mathlib.Omega.{arith}
 use borrow.Author.Tests.{ltb-false, lt-ltb, le-ltb}
 use lib.Dec.{ltb}
-use lib.IntN.{ℤ}
+use lib.IntN.{ℤ, natAbs}
 use lib.ListN.{length}
-use Rattle.search.specs.Search.{Turn, differ, laterEnd, turnIn, turnsFrom, turnsOf}
-use Rattle.search.proofs.Cuts.{by-test, same-else, end-within}
+use Rattle.sense.specs.Sense.{differ}
+use Rattle.bisection.specs.Cuts.{laterEnd, smaller}
+use Rattle.bisection.proofs.Cuts.{by-test, same-else, end-within}
+use Rattle.search.specs.Search.{Turn, turnIn, turnsFrom, turnsOf}
+
+-- the turn between two minutes up to the last is not past it
+pub smaller-within : (slope : ℕ → ℤ) (last minute : ℕ) → minute < last → smaller slope minute ≤ last
+smaller-within slope last minute h =
+    by-test (λ m. m ≤ last) (ltb (natAbs (slope (minute + 1))) (natAbs (slope minute))) (minute + 1) minute (λ e. omega arith) (λ e. omega arith)
 
 module _ (slope : ℕ → ℤ) (stride : ℕ) (some : 0 < stride) (last : ℕ) where
   -- ---- more strides than minutes

@@ -1,21 +1,14 @@
 -- What the functions of the search promise.
 -- Assumes nothing.
-use Prim.Native.Nat.{ℕ, _+_, _≤_, _<_}
+use Prim.Native.Nat.{ℕ, _≤_, _<_}
 use mathlib.Core.Path.{_≡_}
 use mathlib.Core.Bool.{cond}
 use mathlib.Core.List.{List, [], _∷_}
 use lib.IntN.{ℤ}
 use lib.ListN.{length, getD, take}
-use Rattle.search.specs.Search.{Turn, earlierEnd, turnsOf, firstHigh, minutesOf}
-use Rattle.search.specs.declared.Bracket.{Bracket}
+use Rattle.search.specs.Search.{Turn, turnsOf, firstHigh, minutesOf}
 use Rattle.search.specs.declared.Next.{Next}
 use Rattle.search.specs.declared.Summary.{Summary}
-
--- the bracket that halving ends in, with the slopes at its ends
-pub record BracketPost (slope : ℕ → ℤ) (start length : ℕ) (r : Bracket) : Type 0 where
-  pub minute : r .minute ≡ earlierEnd slope start length
-  pub early : r .early ≡ slope (r .minute)
-  pub late : r .late ≡ slope (r .minute + 1)
 
 -- the turns from a minute on: the one found and those from where the search resumes, or none
 abbrev pub onwards : (ℕ → ℤ) → ℕ → ℕ → Next → List Turn

@@ -1,29 +1,21 @@
-// The search for turns of the water: strides, brackets and their halves, in a prepared month. The table of cosines and the arrays are lent.
+// The search for turns of the water: strides in a prepared month, and the turn in each in which the slope changes sense. The table of cosines and the arrays are lent.
 ghost use mathlib.Core.Path.{_≡_};
-ghost use mathlib.Core.Bool.{cond};
-ghost use Prim.Native.Nat.{_+_, _≤_, _<_};
-ghost use lib.Dec.{ltb};
-ghost use lib.IntN.{natAbs};
+ghost use Prim.Native.Nat.{_≤_, _<_};
 ghost use lib.ListN.{length};
 ghost use Rattle.cosine.specs.Fixed.{IsTable};
 ghost use Rattle.slopes.specs.Slope.{InRange, slopeOf};
-ghost use Rattle.search.specs.Search.{differ, turnsOf};
-ghost use Rattle.search.specs.Posts.{BracketPost, NextPost, FoundPost};
+ghost use Rattle.search.specs.Search.{turnsOf};
+ghost use Rattle.search.specs.Posts.{NextPost, FoundPost};
+use bisection::bisect;
 use cosine::ENTRIES;
-use slopes::rises;
+use sense::differs;
+use sense::rises;
 use slopes::slope;
 
 // How many turns were found, and whether the first is high.
 pub struct Summary {
     pub count: usize,
     pub high: bool,
-}
-
-// Two minutes one apart, by the earlier, with their slopes.
-struct Bracket {
-    minute: u64,
-    early: i64,
-    late: i64,
 }
 
 // A turn, whether it is high, the minute from which the search resumes and the slope there.
@@ -33,91 +25,6 @@ struct Next {
     high: bool,
     later: u64,
     slope: i64,
-}
-
-// Whether two slopes differ in sense.
-fn differs(a: i64, b: i64) -> bool
-    ensures { λ r. ⌜ r ≡ differ a b ⌝ }
-{
-    if rises(a) { !rises(b) } else { rises(b) }
-}
-
-// Halves a bracket whose ends' slopes are given until its ends are one minute apart.
-fn bisect<'a>(
-    table: &'a [u32; ENTRIES],
-    arguments: &'a [u64; 146],
-    lags: &'a [u16; 146],
-    frequencies: &'a [u64; 146],
-    ps: &'a [i32; 146],
-    qs: &'a [i32; 146],
-    count: usize,
-    start: u64,
-    length: u64,
-    early: i64,
-    late: i64,
-) -> Bracket
-    requires { ⌜ IsTable (now table) × ((count ≤ 146) × InRange count (now frequencies)) ⌝ }
-    requires { ⌜ (0 < length) × (start + length ≤ 44_640) ⌝ }
-    requires { ⌜ (early ≡ slopeOf (now arguments) (now lags) (now frequencies) (now ps) (now qs) count start) × (late ≡ slopeOf (now arguments) (now lags) (now frequencies) (now ps) (now qs) count (start + length)) ⌝ }
-    ensures { λ r. ⌜ BracketPost (slopeOf (now (arguments .entry)) (now (lags .entry)) (now (frequencies .entry)) (now (ps .entry)) (now (qs .entry)) count) start length r ⌝ }
-{
-    if length <= 1 {
-        return Bracket {
-            minute: start,
-            early: early,
-            late: late,
-        };
-    }
-    let half = length / 2;
-    let middle = slope(
-        table,
-        arguments,
-        lags,
-        frequencies,
-        ps,
-        qs,
-        count,
-        start + half,
-    );
-    if differs(early, middle) {
-        return bisect(
-            table,
-            arguments,
-            lags,
-            frequencies,
-            ps,
-            qs,
-            count,
-            start,
-            half,
-            early,
-            middle,
-        );
-    }
-    bisect(
-        table,
-        arguments,
-        lags,
-        frequencies,
-        ps,
-        qs,
-        count,
-        start + half,
-        length - half,
-        middle,
-        late,
-    )
-}
-
-// The end with the smaller slope size, the earlier if equal.
-fn turn_of(b: Bracket) -> u64
-    requires { ⌜ b .minute < 44_640 ⌝ }
-    ensures { λ r. ⌜ r ≡ cond (ltb (natAbs (b .late)) (natAbs (b .early))) (b .minute + 1) (b .minute) ⌝ }
-{
-    if angles::size(b.late) < angles::size(b.early) {
-        return b.minute + 1;
-    }
-    b.minute
 }
 
 // Strides from a minute until the ends' slopes differ in sense, and finds the turn between them.
@@ -142,18 +49,10 @@ fn next_turn<'a>(
     let mut from = minute;
     let mut behind = here;
     while from + stride <= last {
-        let ahead = slope(
-            table,
-            arguments,
-            lags,
-            frequencies,
-            ps,
-            qs,
-            count,
-            from + stride,
-        );
+        let to = from + stride;
+        let ahead = slope(table, arguments, lags, frequencies, ps, qs, count, to);
         if differs(behind, ahead) {
-            let b = bisect(
+            let t = bisect(
                 table,
                 arguments,
                 lags,
@@ -168,13 +67,13 @@ fn next_turn<'a>(
             );
             return Next {
                 found: true,
-                turn: turn_of(b),
+                turn: t.turn,
                 high: rises(behind),
-                later: b.minute + 1,
-                slope: b.late,
+                later: t.later,
+                slope: t.slope,
             };
         }
-        from = from + stride;
+        from = to;
         behind = ahead;
     }
     Next {

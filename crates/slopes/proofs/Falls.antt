@@ -15,7 +15,7 @@ use Rattle.angles.proofs.Machine.{held}
 use Rattle.angles.proofs.Known.{Known, plainly, read, cast, bounded, kept, plus, times, shifted}
 use Rattle.prepared.specs.View.{constituentsAfter}
 use Rattle.prepared.proofs.Places.{constituents-more, constituents-none}
-use Rattle.heights.specs.Height.{angle}
+use Rattle.minuteangle.specs.Angle.{angle}
 use Rattle.slopes.specs.Slope.{fall, fallsAt}
 
 -- no term is larger than this

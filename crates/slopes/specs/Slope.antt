@@ -1,15 +1,14 @@
 -- 01, "Heights and turns": the slope of the water at a minute.
 -- Assumes nothing.
 use Prim.Native.Nat.{ℕ, _/_, _^_, _≤_, _<_}
-use mathlib.Core.Bool.{Bool, true, false}
 use mathlib.Core.List.{List, [], _∷_}
-use lib.IntN.{ℤ, pos, negsuc, negℤ, _+ℤ_, _*ℤ_}
+use lib.IntN.{ℤ, pos, negℤ, _+ℤ_, _*ℤ_}
 use lib.ListN.{getD}
 use Rattle.angles.specs.Floor.{floorDiv}
 use Rattle.cosine.specs.Fixed.{fixedCosine, fixedSine}
 use Rattle.prepared.specs.Prepared.{Constituent}
 use Rattle.prepared.specs.View.{constituentsFrom}
-use Rattle.heights.specs.Height.{angleAt}
+use Rattle.minuteangle.specs.Angle.{angleAt}
 
 -- "floor((P × sine + Q × cosine)/2^30) × floor(frequency/1,000)", of the fixed sine and cosine at the angle
 unfoldable pub fall : ℤ → ℤ → ℕ → ℕ → ℤ
@@ -28,11 +27,6 @@ slopeAt cs minute = negℤ (fallsAt cs minute)
 -- the slope of the constituents that five lists hold
 abbrev pub slopeOf : List ℕ → List ℕ → List ℕ → List ℤ → List ℤ → ℕ → ℕ → ℤ
 slopeOf arguments lags frequencies ps qs count = slopeAt (constituentsFrom arguments lags frequencies ps qs count)
-
--- "Slope 0 counts as rising."
-unfoldable pub rising : ℤ → Bool
-rising (pos n) = true
-rising (negsuc n) = false
 
 -- "cycles an hour, 0 to 0.4999999999": the first `count` frequencies are in the range of the cards
 abbrev pub InRange : ℕ → List ℕ → Type 0

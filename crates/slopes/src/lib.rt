@@ -1,17 +1,10 @@
-// The slope of the water at a minute of a prepared month, and its sense. The table of cosines and the arrays are lent.
+// The slope of the water at a minute of a prepared month. The table of cosines and the arrays are lent.
 ghost use mathlib.Core.Path.{_≡_};
 ghost use Prim.Native.Nat.{_*_, _≤_, _^_};
 ghost use lib.IntN.{natAbs};
 ghost use Rattle.cosine.specs.Fixed.{IsTable};
-ghost use Rattle.slopes.specs.Slope.{fall, rising, InRange, slopeOf};
+ghost use Rattle.slopes.specs.Slope.{fall, InRange, slopeOf};
 use cosine::ENTRIES;
-
-// Whether a slope rises.
-pub fn rises(slope: i64) -> bool
-    ensures { λ r. ⌜ r ≡ rising slope ⌝ }
-{
-    0 <= slope
-}
 
 // What a constituent of weights P and Q takes from the slope at an angle.
 fn fall_at(table: &[u32; ENTRIES], angle: u64, p: i32, q: i32, frequency: u64) -> i64
@@ -21,7 +14,7 @@ fn fall_at(table: &[u32; ENTRIES], angle: u64, p: i32, q: i32, frequency: u64) -
     ensures { λ r. ⌜ natAbs r ≤ 2 ^ 32 * 4_999_999 ⌝ }
 {
     let w = cosine::wave(table, angle);
-    let whole = (heights::weigh(p, w.sine) + heights::weigh(q, w.cosine)) >> 30;
+    let whole = (shares::weigh(p, w.sine) + shares::weigh(q, w.cosine)) >> 30;
     whole * (frequency / 1_000) as i64
 }
 
@@ -43,8 +36,9 @@ pub fn slope<'a>(
     let mut falls: i64 = 0;
     let mut k: usize = 0;
     while k < count {
-        let angle = heights::angle_at(arguments[k], lags[k], frequencies[k], minute);
-        falls = falls + fall_at(table, angle, ps[k], qs[k], frequencies[k]);
+        let frequency = frequencies[k];
+        let angle = minuteangle::angle_at(arguments[k], lags[k], frequency, minute);
+        falls = falls + fall_at(table, angle, ps[k], qs[k], frequency);
         k = k + 1;
     }
     -falls

@@ -1,2 +1,1 @@
-pub mod Stride
 pub mod Strides

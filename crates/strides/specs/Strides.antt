@@ -10,7 +10,7 @@ use Rattle.names.specs.declared.Found.the-variants.{At, Nothing}
 use Rattle.table.specs.Table.{Table, Frequency}
 use Rattle.records.specs.declared.Record.{Record}
 use Rattle.station.specs.Station.{Station}
-use Rattle.strides.specs.Stride.{strideOf}
+use Rattle.tides.specs.Stride.{strideOf}
 
 -- the amplitude of the record with a place, 0 where there is none
 unfoldable pub amplitudeAt : List Record → ℕ → ℕ

@@ -4,11 +4,11 @@ ghost use Prim.Native.Nat.{_≤_, _<_};
 ghost use Rattle.columns.specs.Columns.{columns};
 ghost use Rattle.table.specs.View.{tableOf};
 ghost use Rattle.station.specs.Rows.{stationOf};
-ghost use Rattle.strides.specs.Stride.{strideOf};
 ghost use Rattle.strides.specs.Strides.{amplitudeAt, amplitudeOf, stationStride};
 use names::Found;
 use station::Station;
 use table::Table;
+use tides::stride;
 
 // The amplitude of the record with this place, or 0.
 fn amplitude_at(station: Station, place: usize) -> u16
@@ -34,22 +34,6 @@ fn amplitude_of(table: Table, station: Station, name: &[u8]) -> u16
         Found::At(place) => amplitude_at(station, place),
         Found::Nothing => 0,
     }
-}
-
-// The stride of the search in minutes, by the amplitudes of K1, O1, M2 and S2 (0 where absent).
-pub fn stride(k1: u16, o1: u16, m2: u16, s2: u16) -> u64
-    ensures { λ r. ⌜ r ≡ strideOf k1 o1 m2 s2 ⌝ }
-    ensures { λ r. ⌜ (0 < r) × (r ≤ 720) ⌝ }
-{
-    let daily = k1 as u64 + o1 as u64;
-    let twice = m2 as u64 + s2 as u64;
-    if 4 * daily <= twice {
-        return 180;
-    }
-    if 3 * twice < daily {
-        return 360;
-    }
-    30
 }
 
 // The stride of the search for turns: 180, 360 or 30 minutes.

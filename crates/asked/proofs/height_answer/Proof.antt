@@ -1,39 +1,15 @@
--- `asked::height_answer` meets its contract: what was asked before stops the call, or the minutes are asked (`Passed`). Assumes nothing.
+-- `asked::height_answer` meets its contract, by the definition. Assumes nothing.
 use borrow.Author.Needs.{needs}
-use mathlib.Core.Bool.{true, false}
-use mathlib.Core.Path.{sym}
-use borrow.Author.Tests.{lt-ltb, le-ltb}
+use Rattle.asked.specs.Asked.{heightOutcome}
 use Rattle.asked.proofs.height_answer.Statement.{statement}
 use Rattle.asked.proofs.height_answer.Tie as tie
-use Rattle.asked.proofs.Passed.{height-asked, height-stopped}
 
-state-answer-requires : tie.Need-state-answer-requires
-state-answer-requires c κs = search needs
-
-enum-told : tie.Need-enum-told
-enum-told c = search needs
+minutes-answer-requires : tie.Need-minutes-answer-requires
+minutes-answer-requires c κs = search needs
 
 returns : tie.Need-returns
-returns c =
-    let x = c .before .before .before .before .args in
-    let a = c .before .before .before .state-answer in
-    sym (height-asked (x .tabled) (x .stationed) (x .dated) (x .last) (x .minute) (a .result) (a .ensures) true (lt-ltb _ _ (c .if1 .taken)) (c .before .enum-told .given .1))
-
-enum-told-2 : tie.Need-enum-told-2
-enum-told-2 c = search needs
-
-returns-2 : tie.Need-returns-2
-returns-2 c =
-    let x = c .before .before .before .before .args in
-    let a = c .before .before .before .state-answer in
-    sym (height-asked (x .tabled) (x .stationed) (x .dated) (x .last) (x .minute) (a .result) (a .ensures) false (le-ltb _ _ (c .if1 .left)) (c .before .enum-told .given .1))
-
-returns-3 : tie.Need-returns-3
-returns-3 c =
-    let x = c .before .before .before .args in
-    let a = c .before .before .state-answer in
-    let g = c .enum-told2 .given in
-    height-stopped (x .tabled) (x .stationed) (x .dated) (x .last) (x .minute) (a .result) (a .ensures) (g .0 .0) (g .0 .1 .0) (g .1)
+unfolding heightOutcome
+returns c = c .minutes-answer .ensures
 
 pub height-answer-spec : {M : Type 1} → statement M
-height-answer-spec = tie.close (tie.spec state-answer-requires enum-told returns enum-told-2 returns-2 returns-3)
+height-answer-spec = tie.close (tie.spec minutes-answer-requires returns)

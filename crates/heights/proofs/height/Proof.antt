@@ -13,15 +13,12 @@ use mir.ValLaws.{toZ-ofZ}
 use Rattle.angles.specs.Floor.{floorDiv}
 use Rattle.angles.proofs.Known.{plainly, plus, shifted, kept, fits, says}
 use Rattle.prepared.specs.View.{constituentsAfter, constituentsFrom}
-use Rattle.heights.specs.Height.{share, sumOfShares, heightAt}
+use Rattle.shares.specs.Share.{share}
+use Rattle.heights.specs.Height.{sumOfShares, heightAt}
 use Rattle.heights.proofs.Shares.{shares-more, shares-none}
 use Rattle.heights.proofs.Sums.{one-more}
 use Rattle.heights.proofs.height.Statement.{statement}
 use Rattle.heights.proofs.height.Tie as tie
-use Rattle.heights.proofs.height.Reads as reads
-use Rattle.heights.proofs.height.Lts as lts
-use Rattle.heights.proofs.angle_at.Reads as angle-at-reads
-use Rattle.heights.proofs.share_at.Reads as share-at-reads
 
 abbrev Inv-loop : tie.InvT-loop
 Inv-loop table arguments lags frequencies ps qs count minute sum₀ k₀ sum k =
@@ -32,76 +29,59 @@ Inv-loop table arguments lags frequencies ps qs count minute sum₀ k₀ sum k =
 abbrev μ-loop : tie.MeasureT-loop
 μ-loop table arguments lags frequencies ps qs count minute sum₀ k₀ sum k = count - k
 
--- src/lib.rt:182:5
 loop-holds : tie.Need-loop-holds Inv-loop μ-loop
 loop-holds c =
     let a = c .args in
     (omega arith, (omega arith, +ℤ-idl _ ∙ ap (λ (n : ℕ). sumOfShares (constituentsAfter (a .arguments .now) (a .lags .now) (a .frequencies .now) (a .ps .now) (a .qs .now) 0 n) (a .minute)) (sub-zero (a .count))))
 
--- src/lib.rt:183:30
 mul-angle-at : tie.Need-mul-angle-at Inv-loop μ-loop
 mul-angle-at c = search needs
 
--- src/lib.rt:183:30
 element-copy-out-angle-at : tie.Need-element-copy-out-angle-at Inv-loop μ-loop
 element-copy-out-angle-at c = search needs
 
--- src/lib.rt:183:44
 mul-angle-at-2 : tie.Need-mul-angle-at-2 Inv-loop μ-loop
 mul-angle-at-2 c = search needs
 
--- src/lib.rt:183:44
 element-copy-out-angle-at-2 : tie.Need-element-copy-out-angle-at-2 Inv-loop μ-loop
 element-copy-out-angle-at-2 c = search needs
 
--- src/lib.rt:183:53
 mul-angle-at-3 : tie.Need-mul-angle-at-3 Inv-loop μ-loop
 mul-angle-at-3 c = search needs
 
--- src/lib.rt:183:53
 element-copy-out-angle-at-3 : tie.Need-element-copy-out-angle-at-3 Inv-loop μ-loop
 element-copy-out-angle-at-3 c = search needs
 
--- src/lib.rt:183:13
 angle-at-requires : tie.Need-angle-at-requires Inv-loop μ-loop
 angle-at-requires c κs = search needs
 
--- src/lib.rt:184:44
 mul-share-at : tie.Need-mul-share-at Inv-loop μ-loop
 mul-share-at c = search needs
 
--- src/lib.rt:184:44
 element-copy-out-share-at : tie.Need-element-copy-out-share-at Inv-loop μ-loop
 element-copy-out-share-at c = search needs
 
--- src/lib.rt:184:51
 mul-share-at-2 : tie.Need-mul-share-at-2 Inv-loop μ-loop
 mul-share-at-2 c = search needs
 
--- src/lib.rt:184:51
 element-copy-out-share-at-2 : tie.Need-element-copy-out-share-at-2 Inv-loop μ-loop
 element-copy-out-share-at-2 c = search needs
 
--- src/lib.rt:184:21
 share-at-requires : tie.Need-share-at-requires Inv-loop μ-loop
 share-at-requires c κs = search needs
 
--- src/lib.rt:184:15
 add-sum : tie.Need-add-sum Inv-loop μ-loop
 add-sum c =
     let s = c .before .before .before .before .before .before .before .before .loop in
     let r = c .share-at in
     fits (one-more (toZ w64 (s .sum)) (r .result) (s .k) (omega arith) (s .inv .1 .0) (r .ensures .1)) (omega arith)
 
--- src/lib.rt:185:13
 add-k : tie.Need-add-k Inv-loop μ-loop
 add-k c = search needs
 
--- src/lib.rt:182:5
 loop-less : tie.Need-loop-less Inv-loop μ-loop
 loop-less c = search needs
 
--- src/lib.rt:182:5
 loop-again : tie.Need-loop-again Inv-loop μ-loop
 loop-again c =
     let s = c .before .before .before .before .before .before .before .before .loop in
@@ -125,11 +105,9 @@ loop-again c =
       ),
     )
 
--- src/lib.rt:187:6
 add-result : tie.Need-add-result Inv-loop μ-loop
 add-result c = let z = toZ w64 (c .before .loop .sum) in fits (plus (plainly z {A = 146 * 2 ^ 32} (omega arith)) (plainly _ {A = 2_048} (lit≤ tt))) (lit< tt)
 
--- src/lib.rt:166:1
 returns : tie.Need-returns Inv-loop μ-loop
 unfolding heightAt
 returns c =

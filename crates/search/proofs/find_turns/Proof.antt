@@ -9,7 +9,7 @@ use mir.Syntax.{w64}
 use mir.Val.{SFits}
 use Rattle.slopes.specs.Slope.{slopeOf}
 use Rattle.search.specs.Posts.{onwards}
-use Rattle.search.proofs.Onward.{kept, kept-result}
+use Rattle.bisection.proofs.Halves.{kept, kept-result}
 use Rattle.search.proofs.Kept.{Left, left-first, left-room, left-fewer, left-more, left-none}
 
 abbrev Inv-loop : tie.InvT-loop

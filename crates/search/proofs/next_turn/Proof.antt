@@ -9,11 +9,11 @@ use mathlib.Core.Path.{_≡_, refl, _∙_, ap}
 use mir.Syntax.{w64}
 use mir.Val.{SFits, toZ}
 use mir.ValLaws.{toZ-ofZ}
-use Rattle.slopes.specs.Slope.{rising}
-use Rattle.search.specs.Search.{turnsOf}
+use Rattle.sense.specs.Sense.{rising}
 use Rattle.slopes.specs.Slope.{slopeOf}
-use Rattle.search.proofs.Onward.{kept, kept-result, sense-of, stride-passed, end-reached, turn-found}
-use Rattle.search.proofs.Onward.{bracket-within}
+use Rattle.search.specs.Search.{turnsOf}
+use Rattle.bisection.proofs.Halves.{kept, kept-result, sense-of}
+use Rattle.search.proofs.Onward.{stride-passed, end-reached, turn-found}
 
 abbrev Inv-loop : tie.InvT-loop
 Inv-loop table arguments lags frequencies ps qs count stride last minute here from₀ behind₀ from behind =
@@ -30,8 +30,8 @@ loop-holds c = (c .pre .1 .0 .1 .1 .0, (kept (c .fits .here) (c .pre .1 .1), ref
 add-loop : tie.Need-add-loop Inv-loop μ-loop
 add-loop c = search needs
 
-add-slope : tie.Need-add-slope Inv-loop μ-loop
-add-slope c = search needs
+add-to : tie.Need-add-to Inv-loop μ-loop
+add-to c = search needs
 
 slope-requires : tie.Need-slope-requires Inv-loop μ-loop
 slope-requires c κs = search needs
@@ -45,38 +45,20 @@ bisect-requires c κs =
     let s = c .before .before .before .before .before in
     (s .pre .0, ((s .pre .1 .0 .0, omega arith), (l .inv .1 .0, kept-result (c .before .before .slope .ok) (c .before .before .slope .ensures))))
 
-turn-of-requires : tie.Need-turn-of-requires Inv-loop μ-loop
-turn-of-requires c κs =
-    let l = c .before .before .before .before .before .loop in
-    let s = c .before .before .before .before .before .before in
-    let w = bracket-within _ (l .from) (s .args .stride) (s .pre .1 .0 .0) (c .bisect .ensures) in
-    omega arith
-
 rises-requires : tie.Need-rises-requires Inv-loop μ-loop
 rises-requires c κs = search needs
 
-add-t21 : tie.Need-add-t21 Inv-loop μ-loop
-add-t21 c =
-    let l = c .before .before .before .before .before .before .before .before .loop in
-    let s = c .before .before .before .before .before .before .before .before .before in
-    let w = bracket-within _ (l .from) (s .args .stride) (s .pre .1 .0 .0) (c .before .before .before .bisect .ensures) in
-    record { fits = omega arith }
-
 returns : tie.Need-returns Inv-loop μ-loop
 returns c =
-    let s = c .before .before .before .before .before .before .before .before .before .before in
-    let l = c .before .before .before .before .before .before .before .before .before .loop in
-    let b = c .before .before .before .before .bisect in
-    let h : l .from + s .args .stride ≤ s .args .last = omega (arith, c .before .before .before .before .before .before .before .before .loop-test .taken) in
-    let f : SFits w64 (b .result .late) = search needs in
-    let ahead = kept-result (c .before .before .before .before .before .before .before .slope .ok) (c .before .before .before .before .before .before .before .slope .ensures) in
-    let sense = sense-of (l .inv .1 .0) ahead (c .before .before .before .before .before .before .differs .ensures) (c .before .before .before .before .before .if1 .taken) in
-    let high = c .before .before .rises .ensures ∙ ap rising (l .inv .1 .0) in
-    turn-found _ (s .args .stride) (s .pre .1 .0 .0) (s .args .last) (s .args .minute) (l .from) (l .inv .1 .1)
-    h sense (b .ensures) (c .before .before .before .turn-of .ensures) high (toZ-ofZ w64 (b .result .late) f)
-
-add-from : tie.Need-add-from Inv-loop μ-loop
-add-from c = search needs
+    let s = c .before .before .before .before .before .before .before .before in
+    let l = c .before .before .before .before .before .before .before .loop in
+    let b = c .before .before .bisect in
+    let h : l .from + s .args .stride ≤ s .args .last = omega (arith, c .before .before .before .before .before .before .loop-test .taken) in
+    let f : SFits w64 (b .result .slope) = search needs in
+    let ahead = kept-result (c .before .before .before .before .before .slope .ok) (c .before .before .before .before .before .slope .ensures) in
+    let sense = sense-of (l .inv .1 .0) ahead (c .before .before .before .before .differs .ensures) (c .before .before .before .if1 .taken) in
+    let high = c .before .rises .ensures ∙ ap rising (l .inv .1 .0) in
+    turn-found _ (s .args .stride) (s .pre .1 .0 .0) (s .args .last) (s .args .minute) (l .from) (l .inv .1 .1) h sense (b .ensures) high (toZ-ofZ w64 (b .result .slope) f)
 
 loop-less : tie.Need-loop-less Inv-loop μ-loop
 loop-less c = search needs
@@ -103,15 +85,12 @@ next-turn-spec =
     μ-loop
     loop-holds
     add-loop
-    add-slope
+    add-to
     slope-requires
     differs-requires
     bisect-requires
-    turn-of-requires
     rises-requires
-    add-t21
     returns
-    add-from
     loop-less
     loop-again
     returns-2)

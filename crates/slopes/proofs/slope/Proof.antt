@@ -31,6 +31,12 @@ loop-holds c =
     let a = c .args in
     (omega arith, (omega arith, +ℤ-idl _ ∙ ap (λ (n : ℕ). fallsAt (constituentsAfter (a .arguments .now) (a .lags .now) (a .frequencies .now) (a .ps .now) (a .qs .now) 0 n) (a .minute)) (sub-zero (a .count))))
 
+mul-frequency : tie.Need-mul-frequency Inv-loop μ-loop
+mul-frequency c = search needs
+
+element-copy-out-frequency : tie.Need-element-copy-out-frequency Inv-loop μ-loop
+element-copy-out-frequency c = search needs
+
 mul-angle-at : tie.Need-mul-angle-at Inv-loop μ-loop
 mul-angle-at c = search needs
 
@@ -42,12 +48,6 @@ mul-angle-at-2 c = search needs
 
 element-copy-out-angle-at-2 : tie.Need-element-copy-out-angle-at-2 Inv-loop μ-loop
 element-copy-out-angle-at-2 c = search needs
-
-mul-angle-at-3 : tie.Need-mul-angle-at-3 Inv-loop μ-loop
-mul-angle-at-3 c = search needs
-
-element-copy-out-angle-at-3 : tie.Need-element-copy-out-angle-at-3 Inv-loop μ-loop
-element-copy-out-angle-at-3 c = search needs
 
 angle-at-requires : tie.Need-angle-at-requires Inv-loop μ-loop
 angle-at-requires c κs = search needs
@@ -64,22 +64,16 @@ mul-fall-at-2 c = search needs
 element-copy-out-fall-at-2 : tie.Need-element-copy-out-fall-at-2 Inv-loop μ-loop
 element-copy-out-fall-at-2 c = search needs
 
-mul-fall-at-3 : tie.Need-mul-fall-at-3 Inv-loop μ-loop
-mul-fall-at-3 c = search needs
-
-element-copy-out-fall-at-3 : tie.Need-element-copy-out-fall-at-3 Inv-loop μ-loop
-element-copy-out-fall-at-3 c = search needs
-
 fall-at-requires : tie.Need-fall-at-requires Inv-loop μ-loop
 fall-at-requires c κs =
-    let s = c .before .before .before .before .before .before .before .before .before in
-    (s .pre .0 .0, s .pre .0 .1 .1 (c .before .before .before .before .before .before .before .before .loop .k) (c .before .before .before .before .before .before .before .loop-test .taken))
+    let s = c .before .before .before .before .before .before .before .before in
+    (s .pre .0 .0, s .pre .0 .1 .1 (c .before .before .before .before .before .before .before .loop .k) (c .before .before .before .before .before .before .loop-test .taken))
 
 add-falls : tie.Need-add-falls Inv-loop μ-loop
 add-falls c =
-    let l = c .before .before .before .before .before .before .before .before .before .loop in
-    let h = c .before .before .before .before .before .before .before .before .loop-test .taken in
-    let n = c .before .before .before .before .before .before .before .before .before .before .pre .0 .1 .0 in
+    let l = c .before .before .before .before .before .before .before .before .loop in
+    let h = c .before .before .before .before .before .before .before .loop-test .taken in
+    let n = c .before .before .before .before .before .before .before .before .before .pre .0 .1 .0 in
     let r = c .fall-at in
     fits (one-term-more (toZ w64 (l .falls)) (r .result) (l .k) (omega arith) (l .inv .1 .0) (r .ensures .1)) (omega arith)
 
@@ -91,12 +85,12 @@ loop-less c = search needs
 
 loop-again : tie.Need-loop-again Inv-loop μ-loop
 loop-again c =
-    let l = c .before .before .before .before .before .before .before .before .before .loop in
-    let h = c .before .before .before .before .before .before .before .before .loop-test .taken in
-    let n = c .before .before .before .before .before .before .before .before .before .before .pre .0 .1 .0 in
-    let a = c .before .before .before .before .before .before .before .before .before .before .args in
+    let l = c .before .before .before .before .before .before .before .before .loop in
+    let h = c .before .before .before .before .before .before .before .loop-test .taken in
+    let n = c .before .before .before .before .before .before .before .before .before .pre .0 .1 .0 in
+    let a = c .before .before .before .before .before .before .before .before .before .args in
     let r = c .fall-at in
-    let t = c .before .before .before .before .angle-at in
+    let t = c .before .before .before .angle-at in
     let z = toZ w64 (l .falls) in
     let frequency = getD (a .frequencies .now) (l .k) 0 in
     let p : SFits w32 (getD (a .ps .now) (l .k) (pos 0)) = search needs in
@@ -134,19 +128,17 @@ slope-spec =
     Inv-loop
     μ-loop
     loop-holds
+    mul-frequency
+    element-copy-out-frequency
     mul-angle-at
     element-copy-out-angle-at
     mul-angle-at-2
     element-copy-out-angle-at-2
-    mul-angle-at-3
-    element-copy-out-angle-at-3
     angle-at-requires
     mul-fall-at
     element-copy-out-fall-at
     mul-fall-at-2
     element-copy-out-fall-at-2
-    mul-fall-at-3
-    element-copy-out-fall-at-3
     fall-at-requires
     add-falls
     add-k

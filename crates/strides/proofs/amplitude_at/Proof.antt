@@ -1,8 +1,6 @@
+-- `strides::amplitude_at` meets its contract: the amplitude by the records left is that by all (`Amplitudes`). Assumes nothing.
 use Rattle.strides.proofs.amplitude_at.Statement.{statement}
 use Rattle.strides.proofs.amplitude_at.Tie as tie
-use Rattle.strides.proofs.amplitude_at.Reads as reads
-use Rattle.strides.proofs.amplitude_at.Lts as lts
-use Rattle.prepared.proofs.held.Reads as held-reads
 use borrow.Author.Needs.{needs}
 use native.Mathlib.Omega.{arith}
 use native.Mathlib.Nat.{sub-zero}
@@ -21,54 +19,43 @@ Inv-loop place station count k₀ k = (amplitudeAt (recordsFrom (station .places
 abbrev μ-loop : tie.MeasureT-loop
 μ-loop place station count k₀ k = count - k
 
--- src/lib.rt:17:9
 held-requires : tie.Need-held-requires Inv-loop μ-loop
 held-requires c κs = search needs
 
--- src/lib.rt:19:5
 loop-holds : tie.Need-loop-holds Inv-loop μ-loop
 unfolding stationOf
 loop-holds c = (rw (sub-zero, c .held .ensures), omega arith)
 
--- src/lib.rt:20:12
 element-copy-out-if1 : tie.Need-element-copy-out-if1 Inv-loop μ-loop
 element-copy-out-if1 c = search needs
 
--- src/lib.rt:20:12
 cast-if1 : tie.Need-cast-if1 Inv-loop μ-loop
 cast-if1 c = search needs
 
--- src/lib.rt:21:20
 mul-result : tie.Need-mul-result Inv-loop μ-loop
 mul-result c = search needs
 
--- src/lib.rt:21:20
 element-copy-out-result : tie.Need-element-copy-out-result Inv-loop μ-loop
 element-copy-out-result c = search needs
 
--- src/lib.rt:21:13
 returns : tie.Need-returns Inv-loop μ-loop
 returns c =
     let s = c .before .before .before .before in
     let a = s .before .before .args in
     rw (amplitude-more (a .t1 .places) (a .t1 .amplitudes) (a .t1 .lags) (s .loop .k) (s .before .held .result) (a .place) (c .before .before .before .loop-test .taken), eq-eqb _ _ (c .before .if1 .taken)) at (s .loop .inv .0)
 
--- src/lib.rt:23:9
 add-k : tie.Need-add-k Inv-loop μ-loop
 add-k c = search needs
 
--- src/lib.rt:19:5
 loop-less : tie.Need-loop-less Inv-loop μ-loop
 loop-less c = search needs
 
--- src/lib.rt:19:5
 loop-again : tie.Need-loop-again Inv-loop μ-loop
 loop-again c =
     let s = c .before .before .before in
     let a = s .before .before .args in
     (rw (amplitude-more (a .t1 .places) (a .t1 .amplitudes) (a .t1 .lags) (s .loop .k) (s .before .held .result) (a .place) (c .before .before .loop-test .taken), ne-eqb _ _ (c .if1 .left)) at (s .loop .inv .0), s .loop .inv .1)
 
--- src/lib.rt:14:1
 returns-2 : tie.Need-returns-2 Inv-loop μ-loop
 returns-2 c =
     let s = c .before in

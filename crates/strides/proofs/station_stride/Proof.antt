@@ -1,10 +1,7 @@
+-- `strides::station_stride` meets its contract: the four amplitudes by name, and the stride that they give. Assumes nothing.
 use borrow.Author.Needs.{needs}
 use Rattle.strides.proofs.station_stride.Statement.{statement}
 use Rattle.strides.proofs.station_stride.Tie as tie
-use Rattle.strides.proofs.station_stride.Reads as reads
-use Rattle.strides.proofs.station_stride.Lts as lts
-use Rattle.strides.proofs.amplitude_of.Reads as amplitude-of-reads
-use Rattle.strides.proofs.stride.Reads as stride-reads
 use Rattle.strides.specs.Strides.{stationStride}
 use mathlib.Core.Path.{_≡_, _∙_}
 use mathlib.Core.List.{[], _∷_}
@@ -13,43 +10,33 @@ use Rattle.table.specs.View.{tableOf}
 use Rattle.station.specs.Rows.{stationOf}
 use Rattle.strides.specs.Strides.{amplitudeOf}
 
--- src/lib.rt:44:43
 slice-aggregate-amplitude-of : tie.Need-slice-aggregate-amplitude-of
 slice-aggregate-amplitude-of c = search needs
 
--- src/lib.rt:44:9
 amplitude-of-requires : tie.Need-amplitude-of-requires
 amplitude-of-requires c κs = search needs
 
--- src/lib.rt:45:43
 slice-aggregate-amplitude-of-2 : tie.Need-slice-aggregate-amplitude-of-2
 slice-aggregate-amplitude-of-2 c = search needs
 
--- src/lib.rt:45:9
 amplitude-of-requires-2 : tie.Need-amplitude-of-requires-2
 amplitude-of-requires-2 c κs = search needs
 
--- src/lib.rt:46:43
 slice-aggregate-amplitude-of-3 : tie.Need-slice-aggregate-amplitude-of-3
 slice-aggregate-amplitude-of-3 c = search needs
 
--- src/lib.rt:46:9
 amplitude-of-requires-3 : tie.Need-amplitude-of-requires-3
 amplitude-of-requires-3 c κs = search needs
 
--- src/lib.rt:47:43
 slice-aggregate-amplitude-of-4 : tie.Need-slice-aggregate-amplitude-of-4
 slice-aggregate-amplitude-of-4 c = search needs
 
--- src/lib.rt:47:9
 amplitude-of-requires-4 : tie.Need-amplitude-of-requires-4
 amplitude-of-requires-4 c κs = search needs
 
--- src/lib.rt:48:5
 stride-requires : tie.Need-stride-requires
 stride-requires c κs = search needs
 
--- src/lib.rt:40:1
 returns : tie.Need-returns
 unfolding stationStride padded
 returns c =
