@@ -1,13 +1,13 @@
--- `fields::whole_size` meets its contract. The tests in the definition's order, by the column where the digits end: `whole-good`, `whole-size`. Assumes nothing.
+-- `numerals::whole_size` meets its contract. The tests in the definition's order, by the column where the digits end: `whole-good`, `whole-size`. Assumes nothing.
 use native.Mathlib.Omega.{arith}
 use borrow.Author.Needs.{needs}
-use Rattle.fields.proofs.whole_size.Statement.{statement}
-use Rattle.fields.proofs.whole_size.Tie as tie
+use Rattle.numerals.proofs.whole_size.Statement.{statement}
+use Rattle.numerals.proofs.whole_size.Tie as tie
 use mathlib.Core.Path.{ap}
 use Prim.Native.Nat.{_-_, _≤_, _<_}
 use borrow.Author.Tests.{lt-ltb, le-ltb}
-use Rattle.fields.specs.declared.Size.the-variants.{Of}
-use Rattle.fields.proofs.Sizes.{whole-good, whole-size}
+use Rattle.numerals.specs.declared.Size.the-variants.{Of}
+use Rattle.numerals.proofs.Sizes.{whole-good, whole-size}
 
 run-end-requires : tie.Need-run-end-requires
 run-end-requires c κs = search needs

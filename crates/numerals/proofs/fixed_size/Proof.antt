@@ -1,18 +1,18 @@
--- `fields::fixed_size` meets its contract. The tests in the definition's order, by the columns where digits and decimals end: `fixed-good`, `fixed-size`. Assumes nothing.
+-- `numerals::fixed_size` meets its contract. The tests in the definition's order, by the columns where digits and decimals end: `fixed-good`, `fixed-size`. Assumes nothing.
 use native.Mathlib.Omega.{arith}
 use borrow.Author.Needs.{needs}
-use Rattle.fields.proofs.fixed_size.Statement.{statement}
-use Rattle.fields.proofs.fixed_size.Tie as tie
+use Rattle.numerals.proofs.fixed_size.Statement.{statement}
+use Rattle.numerals.proofs.fixed_size.Tie as tie
 use mathlib.Core.Path.{refl, sym, ap, _∙_}
 use Prim.Native.Nat.{_+_, _-_, _≤_, _<_}
 use borrow.Author.Tests.{lt-ltb, le-ltb, le-leb, lt-leb}
-use Rattle.fields.specs.declared.Size.the-variants.{Of}
-use Rattle.fields.proofs.Digits.{begins-within}
-use Rattle.fields.proofs.Sizes.{fixed-good, fixed-size}
+use Rattle.numerals.specs.declared.Size.the-variants.{Of}
+use Rattle.numerals.proofs.Digits.{begins-within}
+use Rattle.numerals.proofs.Sizes.{fixed-good, fixed-size}
 use lib.ListN.{length}
 use Rattle.columns.specs.Bytes.{leading}
 use Rattle.columns.specs.Columns.{columns}
-use Rattle.fields.specs.Number.{digit}
+use Rattle.numerals.specs.Numerals.{digit}
 
 run-end-requires : tie.Need-run-end-requires
 run-end-requires c κs = search needs

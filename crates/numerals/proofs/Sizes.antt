@@ -10,8 +10,8 @@ use native.Mathlib.Nat.{sub-zero}
 use Rattle.columns.specs.Bytes.{blank, every, leading, behind}
 use Rattle.columns.specs.Columns.{columns}
 use Rattle.columns.proofs.Columns.{length-padded, padded-part, padded-next, run-leading, run-behind}
-use Rattle.fields.specs.Number.{digit, begins, numeral, wholeGood, wholeSize, fixedGood, fixedSize}
-use Rattle.fields.proofs.Digits.{numeral-append}
+use Rattle.numerals.specs.Numerals.{digit, begins, numeral, wholeGood, wholeSize, fixedGood, fixedSize}
+use Rattle.numerals.proofs.Digits.{numeral-append}
 
 module _ (s : List ℕ) (k e point : ℕ) (whole : point ≡ k + length (leading digit (columns s k (e - k)))) where
   pub whole-good : wholeGood (columns s k (e - k)) ≡ (ltb 0 (point - k) && every blank (columns s point (e - point)))

@@ -9,7 +9,7 @@ use lib.Dec.{eqb}
 use native.Mathlib.Omega.{arith}
 use Rattle.columns.specs.Columns.{columns, padded}
 use Rattle.columns.proofs.Columns.{padded-more, padded-none}
-use Rattle.fields.specs.Number.{begins, numeral}
+use Rattle.numerals.specs.Numerals.{begins, numeral}
 
 pub numeral-more : (s : List ℕ) (v k e : ℕ) → k < e
     → numeral v (columns s k (e - k)) ≡ numeral (10 * v + (getD s k 32 - 48)) (columns s (k + 1) (e - (k + 1)))

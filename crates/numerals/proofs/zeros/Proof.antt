@@ -1,15 +1,15 @@
--- `fields::zeros` meets its contract. The loop's invariant: the zeros left, behind the number so far, write the capped number. Rests on `capped-before`. Assumes nothing.
+-- `numerals::zeros` meets its contract. The loop's invariant: the zeros left, behind the number so far, write the capped number. Rests on `capped-before`. Assumes nothing.
 use native.Mathlib.Omega.{arith}
 use borrow.Author.Needs.{needs}
-use Rattle.fields.proofs.zeros.Statement.{statement}
-use Rattle.fields.proofs.zeros.Tie as tie
+use Rattle.numerals.proofs.zeros.Statement.{statement}
+use Rattle.numerals.proofs.zeros.Tie as tie
 use mathlib.Core.Path.{_≡_, sym, _∙_}
 use Prim.Native.Nat.{min, _+_, _*_, _-_, _≤_}
 use native.Mathlib.Nat.{sub-zero}
 use lib.ListN.{replicate}
-use Rattle.fields.specs.Number as spec
-use Rattle.fields.specs.Capped.{cap}
-use Rattle.fields.proofs.Digits.{zeros-more, zeros-none, capped-before}
+use Rattle.numerals.specs.Numerals as spec
+use Rattle.numerals.specs.Capped.{cap}
+use Rattle.numerals.proofs.Digits.{zeros-more, zeros-none, capped-before}
 
 abbrev Inv-loop : tie.InvT-loop
 Inv-loop before n v₀ i₀ v i = (v ≤ cap) × (min cap (spec.numeral v (replicate (n - i) 48)) ≡ min cap (spec.numeral before (replicate n 48)))

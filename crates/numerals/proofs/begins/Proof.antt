@@ -1,8 +1,8 @@
--- `fields::begins` meets its contract. A column before the end is the first of the rest: `begins-more`, `begins-none`. Assumes nothing.
+-- `numerals::begins` meets its contract. A column before the end is the first of the rest: `begins-more`, `begins-none`. Assumes nothing.
 use borrow.Author.Needs.{needs}
-use Rattle.fields.proofs.begins.Statement.{statement}
-use Rattle.fields.proofs.begins.Tie as tie
-use Rattle.fields.proofs.Digits.{begins-more, begins-none}
+use Rattle.numerals.proofs.begins.Statement.{statement}
+use Rattle.numerals.proofs.begins.Tie as tie
+use Rattle.numerals.proofs.Digits.{begins-more, begins-none}
 
 returns : tie.Need-returns
 returns c = let a = c .before .before .args in rw (begins-none (a .b) (a .field .now) (a .k) (a .end) (c .if1 .taken))

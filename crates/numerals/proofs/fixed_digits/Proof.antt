@@ -1,14 +1,14 @@
--- `fields::fixed_digits` meets its contract. A cap put on between the digits shows only at the end: `capped-before`, twice. Assumes nothing.
+-- `numerals::fixed_digits` meets its contract. A cap put on between the digits shows only at the end: `capped-before`, twice. Assumes nothing.
 use borrow.Author.Needs.{needs}
-use Rattle.fields.proofs.fixed_digits.Statement.{statement}
-use Rattle.fields.proofs.fixed_digits.Tie as tie
+use Rattle.numerals.proofs.fixed_digits.Statement.{statement}
+use Rattle.numerals.proofs.fixed_digits.Tie as tie
 use mathlib.Core.Path.{_∙_}
 use Prim.Native.Nat.{_+_, _-_}
 use lib.ListN.{replicate}
 use Rattle.columns.specs.Columns.{columns}
-use Rattle.fields.specs.Number as spec
-use Rattle.fields.specs.Capped.{cap}
-use Rattle.fields.proofs.Digits.{capped-before}
+use Rattle.numerals.specs.Numerals as spec
+use Rattle.numerals.specs.Capped.{cap}
+use Rattle.numerals.proofs.Digits.{capped-before}
 
 numeral-requires : tie.Need-numeral-requires
 numeral-requires c κs = search needs

@@ -1,15 +1,15 @@
--- `fields::numeral` meets its contract. The loop's invariant: the digits left, behind the number so far, write the capped number. Rests on `capped-before`. Assumes nothing.
+-- `numerals::numeral` meets its contract. The loop's invariant: the digits left, behind the number so far, write the capped number. Rests on `capped-before`. Assumes nothing.
 use native.Mathlib.Omega.{arith}
 use borrow.Author.Needs.{needs}
-use Rattle.fields.proofs.numeral.Statement.{statement}
-use Rattle.fields.proofs.numeral.Tie as tie
+use Rattle.numerals.proofs.numeral.Statement.{statement}
+use Rattle.numerals.proofs.numeral.Tie as tie
 use mathlib.Core.Path.{_≡_, refl, sym, _∙_}
 use Prim.Native.Nat.{min, _+_, _*_, _-_, _≤_}
 use lib.ListN.{getD}
 use Rattle.columns.specs.Columns.{columns}
-use Rattle.fields.specs.Number as spec
-use Rattle.fields.specs.Capped.{cap}
-use Rattle.fields.proofs.Digits.{numeral-more, numeral-none, capped-before}
+use Rattle.numerals.specs.Numerals as spec
+use Rattle.numerals.specs.Capped.{cap}
+use Rattle.numerals.proofs.Digits.{numeral-more, numeral-none, capped-before}
 
 abbrev Inv-loop : tie.InvT-loop
 Inv-loop field k end before v₀ i₀ v i = (v ≤ cap) × (min cap (spec.numeral v (columns field i (end - i))) ≡ min cap (spec.numeral before (columns field k (end - k))))
