@@ -3,7 +3,7 @@
 ghost use mathlib.Core.Path.{_≡_};
 ghost use Prim.Native.Nat.{_+_, _≤_, _<_};
 ghost use lib.ListN.{length, drop};
-ghost use Rattle.columns.specs.Lines.{linesOf, restLines};
+ghost use Rattle.columns.specs.Lines.{linesOf, firstLine, restLines};
 ghost use Rattle.names.specs.Names.{namesFrom};
 ghost use Rattle.table.specs.View.{mainOf};
 ghost use Rattle.card.specs.declared.Refusal.the-variants.{Ended};
@@ -15,8 +15,8 @@ ghost use Rattle.constituents.specs.Constituents.{mainsFrom, satellitesF
 use card::Fault;
 use card::Refusal;
 use lines::Progress;
+use lines::after_line;
 use lines::line_at;
-use lines::next_line;
 use mains::MainStep;
 use rows::Here;
 use rows::read_main;
@@ -58,15 +58,15 @@ fn reached(here: Here) -> MainsRead
     }
 }
 
-// The next line, with as many mains and satellites stored.
-fn next_card(file: &[u8], here: Here) -> Here
-    requires { ⌜ (here .at < length (now file)) × (here .n ≤ here .at + 1) ⌝ }
+// The line behind the one here of that width, with as many mains and satellites stored.
+fn next_card(file: &[u8], here: Here, width: usize) -> Here
+    requires { ⌜ (here .at < length (now file)) × (width ≡ length (firstLine (drop (here .at) (now file)))) × (here .n ≤ here .at + 1) ⌝ }
     ensures { λ r. ⌜ (here .at < r .at) × (r .at ≤ length (now (file .entry))) × (drop (r .at) (now (file .entry)) ≡ restLines (drop (here .at) (now (file .entry)))) ⌝ }
     ensures { λ r. ⌜ (r .n ≡ here .n + 1) × (r .mains ≡ here .mains) × (r .satellites ≡ here .satellites) ⌝ }
 {
     let at = here.at;
     Here {
-        at: next_line(file, at),
+        at: after_line(file, at, width),
         n: here.n + 1,
         mains: here.mains,
         satellites: here.satellites,
@@ -105,8 +105,9 @@ pub fn constituent_reader(
     if file.len() <= at {
         return ended(here);
     }
-    let next = next_card(file, here);
-    match read_main(line_at(file, at), here, names, known, cards, angles) {
+    let line = line_at(file, at);
+    let next = next_card(file, here, line.len());
+    match read_main(line, here, names, known, cards, angles) {
         MainStep::Ends => reached(next),
         MainStep::Gives(count) => {
             if count == 0 {
@@ -141,8 +142,9 @@ pub fn satellite_reader(
     if file.len() <= at {
         return ended(here);
     }
-    let next = next_card(file, here);
-    match read_satellites(line_at(file, at), here, due, cards, sat, ratios) {
+    let line = line_at(file, at);
+    let next = next_card(file, here, line.len());
+    match read_satellites(line, here, due, cards, sat, ratios) {
         Fault::Clear => {
             if due <= 3 {
                 let more = with_more(next, 1, due);

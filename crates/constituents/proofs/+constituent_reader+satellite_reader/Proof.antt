@@ -20,7 +20,7 @@ use Rattle.rows.proofs.read_main.Reads as read-main-reads
 use Rattle.rows.proofs.read_satellites.Reads as read-satellites-reads
 use Rattle.constituents.proofs.+constituent_reader+satellite_reader.{statement}
 use Rattle.constituents.proofs.+constituent_reader+satellite_reader.Tie.{close}
-use mathlib.Core.Path.{sym, subst, _∙_}
+use mathlib.Core.Path.{sym, ap, subst, _∙_}
 use native.Mathlib.Omega.{arith}
 use native.Mathlib.Nat.{add-zero}
 use native.Mathlib.Numerals.{add-one-le}
@@ -73,11 +73,11 @@ satellite-reader-below t =
 
 abbrev constituent-reader-claims : ℕ → constituent-reader-lts.Claims
 constituent-reader-claims t =
-    (ended-reads.Asked, ended-reads.Learnt, next-card-reads.Asked, next-card-reads.Learnt, line-at-reads.Asked, line-at-reads.Learnt, read-main-reads.Asked, read-main-reads.Learnt, reached-reads.Asked, reached-reads.Learnt, with-more-reads.Asked, with-more-reads.Learnt, constituent-reader-below t, constituent-reader.Post, satellite-reader-below t, satellite-reader.Post, refused-reads.Asked, refused-reads.Learnt)
+    (ended-reads.Asked, ended-reads.Learnt, line-at-reads.Asked, line-at-reads.Learnt, next-card-reads.Asked, next-card-reads.Learnt, read-main-reads.Asked, read-main-reads.Learnt, reached-reads.Asked, reached-reads.Learnt, with-more-reads.Asked, with-more-reads.Learnt, constituent-reader-below t, constituent-reader.Post, satellite-reader-below t, satellite-reader.Post, refused-reads.Asked, refused-reads.Learnt)
 
 abbrev satellite-reader-claims : ℕ → satellite-reader-lts.Claims
 satellite-reader-claims t =
-    (ended-reads.Asked, ended-reads.Learnt, next-card-reads.Asked, next-card-reads.Learnt, line-at-reads.Asked, line-at-reads.Learnt, read-satellites-reads.Asked, read-satellites-reads.Learnt, with-more-reads.Asked, with-more-reads.Learnt, constituent-reader-below t, constituent-reader.Post, satellite-reader-below t, satellite-reader.Post, refused-reads.Asked, refused-reads.Learnt)
+    (ended-reads.Asked, ended-reads.Learnt, line-at-reads.Asked, line-at-reads.Learnt, next-card-reads.Asked, next-card-reads.Learnt, read-satellites-reads.Asked, read-satellites-reads.Learnt, with-more-reads.Asked, with-more-reads.Learnt, constituent-reader-below t, constituent-reader.Post, satellite-reader-below t, satellite-reader.Post, refused-reads.Asked, refused-reads.Learnt)
 
 constituent-reader-ended-requires : (t : ℕ) → constituent-reader-lts.Need-ended-requires (constituent-reader-claims t) (constituent-reader-at t) constituent-reader.Post
 constituent-reader-ended-requires t c κs = search needs
@@ -90,10 +90,10 @@ constituent-reader-returns t c =
     rw (c .ended .ensures) (sym (mains-end (namesFrom (a .names .now) 0 (a .known)) (a .file .now) (a .here .at) (a .here .n) (mainsIn (a .cards .now) (a .angles .now) (a .sat .now) (a .ratios .now) (a .here .mains)) (a .here .satellites) (c .before .if1 .taken)), (tt, p .3))
 
 constituent-reader-next-card-requires : (t : ℕ) → constituent-reader-lts.Need-next-card-requires (constituent-reader-claims t) (constituent-reader-at t) constituent-reader.Post
-constituent-reader-next-card-requires t c κs = (c .if1 .left, c .before .before .before .pre .1 .1)
+constituent-reader-next-card-requires t c κs = (c .before .if1 .left, ap length (c .line-at .ensures), c .before .before .before .before .pre .1 .1)
 
 constituent-reader-line-at-requires : (t : ℕ) → constituent-reader-lts.Need-line-at-requires (constituent-reader-claims t) (constituent-reader-at t) constituent-reader.Post
-constituent-reader-line-at-requires t c κs = c .before .before .before .before .pre .1 .0
+constituent-reader-line-at-requires t c κs = c .before .before .before .pre .1 .0
 
 constituent-reader-read-main-requires : (t : ℕ) → constituent-reader-lts.Need-read-main-requires (constituent-reader-claims t) (constituent-reader-at t) constituent-reader.Post
 constituent-reader-read-main-requires t c κs = let p = c .before .before .before .before .before .before .before .pre .1 in (p .2, p .3, p .4, p .5, p .6)
@@ -112,7 +112,7 @@ constituent-reader-with-more-requires t c κs =
     let s = c .before .before .before .before .before .before .before .before .before .before .before .before in
     let a = s .args in
     let p = s .pre .1 in
-    let next = c .before .before .before .before .before .before .before .before .next-card in
+    let next = c .before .before .before .before .before .before .before .next-card in
     let read = c .before .before .before .before .read-main in
     let cards = read .last .1 .1 .1 .1 .0 in
     let angles = read .last .1 .1 .1 .1 .1 .0 in
@@ -124,7 +124,7 @@ constituent-reader-constituent-reader-requires t c κs =
     let s = c .before .before .before .before .before .before .before .before .before .before .before .before .before .before .before .before .before in
     let a = s .args in
     let p = s .pre .1 in
-    let next = c .before .before .before .before .before .before .before .before .before .before .before .before .before .next-card in
+    let next = c .before .before .before .before .before .before .before .before .before .before .before .before .next-card in
     let read = c .before .before .before .before .before .before .before .before .before .read-main in
     let cards = read .last .1 .1 .1 .1 .0 in
     let angles = read .last .1 .1 .1 .1 .1 .0 in
@@ -150,7 +150,7 @@ constituent-reader-satellite-reader-requires t c κs =
     let s = c .before .before .before .before .before .before .before .before .before .before .before .before .before .before .before .before in
     let a = s .args in
     let p = s .pre .1 in
-    let next = c .before .before .before .before .before .before .before .before .before .before .before .before .next-card in
+    let next = c .before .before .before .before .before .before .before .before .before .before .before .next-card in
     let read = c .before .before .before .before .before .before .before .before .read-main in
     let cards = read .last .1 .1 .1 .1 .0 in
     let angles = read .last .1 .1 .1 .1 .1 .0 in
@@ -171,12 +171,12 @@ constituent-reader-returns-2 t c =
     let s = c .before .before .before .before .before .before .before .before .before .before .before in
     let a = s .args in
     let p = s .pre .1 in
-    let next = c .before .before .before .before .before .before .before .next-card in
+    let next = c .before .before .before .before .before .before .next-card in
     let read = c .before .before .before .read-main in
     let cards = read .last .1 .1 .1 .1 .0 in
     let angles = read .last .1 .1 .1 .1 .1 .0 in
     rw (c .reached .ensures, next .ensures .1 .0, next .ensures .1 .1) (
-      sym (rw (c .before .enum-told .given .1) at (mains-step (namesFrom (a .names .now) 0 (a .known)) (a .file .now) (a .here .at) (next .result .at) (a .here .n) (c .before .before .before .before .before .before .line-at .result .now) (c .before .before .before .before .before .before .before .before .if1 .left) (c .before .before .before .before .before .before .line-at .ensures) (next .ensures .0 .2) (a .here .mains) (a .here .satellites)
+      sym (rw (c .before .enum-told .given .1) at (mains-step (namesFrom (a .names .now) 0 (a .known)) (a .file .now) (a .here .at) (next .result .at) (a .here .n) (c .before .before .before .before .before .before .before .line-at .result .now) (c .before .before .before .before .before .before .before .before .if1 .left) (c .before .before .before .before .before .before .before .line-at .ensures) (next .ensures .0 .2) (a .here .mains) (a .here .satellites)
           cards (a .cards .now) angles (a .angles .now) (a .sat .now) (a .ratios .now) (read .result) (read .ensures .0) (read .ensures .1 .0))),
       ((next .ensures .0 .1, omega (arith, p .1, next .ensures .0 .0)), p .3),
     )
@@ -186,12 +186,12 @@ constituent-reader-returns-3 t c =
     let s = c .before .before .before .before .before .before .before .before .before .before .before .before .before .before .before .before .before .before in
     let a = s .args in
     let p = s .pre .1 in
-    let next = c .before .before .before .before .before .before .before .before .before .before .before .before .before .before .next-card in
+    let next = c .before .before .before .before .before .before .before .before .before .before .before .before .before .next-card in
     let read = c .before .before .before .before .before .before .before .before .before .before .read-main in
     let cards = read .last .1 .1 .1 .1 .0 in
     let angles = read .last .1 .1 .1 .1 .1 .0 in (
       c .constituent-reader .ensures .0 ∙ rw (c .before .before .before .before .before .with-more .ensures, next .ensures .1 .0, next .ensures .1 .1, next .ensures .1 .2, add-zero (a .here .satellites), one-more (mainOf cards angles (a .sat .now) (a .ratios .now)) (mainOf (a .cards .now) (a .angles .now) (a .sat .now) (a .ratios .now)) (a .here .mains) (read .ensures .1 .0 (a .sat .now) (a .ratios .now)))
-          (sym (rw (c .before .before .before .before .before .before .before .before .count .given .1, eq-eqb _ 0 (c .before .before .before .before .before .before .if2 .taken)) at (mains-step (namesFrom (a .names .now) 0 (a .known)) (a .file .now) (a .here .at) (next .result .at) (a .here .n) (c .before .before .before .before .before .before .before .before .before .before .before .before .before .line-at .result .now) (c .before .before .before .before .before .before .before .before .before .before .before .before .before .before .before .if1 .left) (c .before .before .before .before .before .before .before .before .before .before .before .before .before .line-at .ensures) (next .ensures .0 .2) (a .here .mains) (a .here .satellites)
+          (sym (rw (c .before .before .before .before .before .before .before .before .count .given .1, eq-eqb _ 0 (c .before .before .before .before .before .before .if2 .taken)) at (mains-step (namesFrom (a .names .now) 0 (a .known)) (a .file .now) (a .here .at) (next .result .at) (a .here .n) (c .before .before .before .before .before .before .before .before .before .before .before .before .before .before .line-at .result .now) (c .before .before .before .before .before .before .before .before .before .before .before .before .before .before .before .if1 .left) (c .before .before .before .before .before .before .before .before .before .before .before .before .before .before .line-at .ensures) (next .ensures .0 .2) (a .here .mains) (a .here .satellites)
           cards (a .cards .now) angles (a .angles .now) (a .sat .now) (a .ratios .now) (read .result) (read .ensures .0) (read .ensures .1 .0)))),
       c .constituent-reader .ensures .1,
     )
@@ -201,11 +201,11 @@ constituent-reader-returns-4 t c =
     let s = c .before .before .before .before .before .before .before .before .before .before .before .before .before .before .before .before .before in
     let a = s .args in
     let p = s .pre .1 in
-    let next = c .before .before .before .before .before .before .before .before .before .before .before .before .before .next-card in
+    let next = c .before .before .before .before .before .before .before .before .before .before .before .before .next-card in
     let read = c .before .before .before .before .before .before .before .before .before .read-main in
     let cards = read .last .1 .1 .1 .1 .0 in
     let angles = read .last .1 .1 .1 .1 .1 .0 in (
-      c .satellite-reader .ensures .0 ∙ rw (next .ensures .1 .0, next .ensures .1 .1, next .ensures .1 .2) (sym (rw (c .before .before .before .before .before .before .before .count .given .1, ne-eqb _ 0 (c .before .before .before .before .before .if2 .left)) at (mains-step (namesFrom (a .names .now) 0 (a .known)) (a .file .now) (a .here .at) (next .result .at) (a .here .n) (c .before .before .before .before .before .before .before .before .before .before .before .before .line-at .result .now) (c .before .before .before .before .before .before .before .before .before .before .before .before .before .before .if1 .left) (c .before .before .before .before .before .before .before .before .before .before .before .before .line-at .ensures) (next .ensures .0 .2) (a .here .mains) (a .here .satellites)
+      c .satellite-reader .ensures .0 ∙ rw (next .ensures .1 .0, next .ensures .1 .1, next .ensures .1 .2) (sym (rw (c .before .before .before .before .before .before .before .count .given .1, ne-eqb _ 0 (c .before .before .before .before .before .if2 .left)) at (mains-step (namesFrom (a .names .now) 0 (a .known)) (a .file .now) (a .here .at) (next .result .at) (a .here .n) (c .before .before .before .before .before .before .before .before .before .before .before .before .before .line-at .result .now) (c .before .before .before .before .before .before .before .before .before .before .before .before .before .before .if1 .left) (c .before .before .before .before .before .before .before .before .before .before .before .before .before .line-at .ensures) (next .ensures .0 .2) (a .here .mains) (a .here .satellites)
           cards (a .cards .now) angles (a .angles .now) (a .sat .now) (a .ratios .now) (read .result) (read .ensures .0) (read .ensures .1 .0)))),
       c .satellite-reader .ensures .1,
     )
@@ -215,12 +215,12 @@ constituent-reader-returns-5 t c =
     let s = c .before .before .before .before .before .before .before .before .before .before .before .before in
     let a = s .args in
     let p = s .pre .1 in
-    let next = c .before .before .before .before .before .before .before .before .next-card in
+    let next = c .before .before .before .before .before .before .before .next-card in
     let read = c .before .before .before .before .read-main in
     let cards = read .last .1 .1 .1 .1 .0 in
     let angles = read .last .1 .1 .1 .1 .1 .0 in
     rw (c .refused .ensures) (
-      sym (rw (c .before .before .r .given .1) at (mains-step (namesFrom (a .names .now) 0 (a .known)) (a .file .now) (a .here .at) (next .result .at) (a .here .n) (c .before .before .before .before .before .before .before .line-at .result .now) (c .before .before .before .before .before .before .before .before .before .if1 .left) (c .before .before .before .before .before .before .before .line-at .ensures) (next .ensures .0 .2) (a .here .mains) (a .here .satellites)
+      sym (rw (c .before .before .r .given .1) at (mains-step (namesFrom (a .names .now) 0 (a .known)) (a .file .now) (a .here .at) (next .result .at) (a .here .n) (c .before .before .before .before .before .before .before .before .line-at .result .now) (c .before .before .before .before .before .before .before .before .before .if1 .left) (c .before .before .before .before .before .before .before .before .line-at .ensures) (next .ensures .0 .2) (a .here .mains) (a .here .satellites)
           cards (a .cards .now) angles (a .angles .now) (a .sat .now) (a .ratios .now) (read .result) (read .ensures .0) (read .ensures .1 .0))),
       (tt, p .3),
     )
@@ -240,10 +240,10 @@ satellite-reader-returns t c =
     )
 
 satellite-reader-next-card-requires : (t : ℕ) → satellite-reader-lts.Need-next-card-requires (satellite-reader-claims t) (satellite-reader-at t) satellite-reader.Post
-satellite-reader-next-card-requires t c κs = (c .if1 .left, c .before .before .before .pre .1 .1)
+satellite-reader-next-card-requires t c κs = (c .before .if1 .left, ap length (c .line-at .ensures), c .before .before .before .before .pre .1 .1)
 
 satellite-reader-line-at-requires : (t : ℕ) → satellite-reader-lts.Need-line-at-requires (satellite-reader-claims t) (satellite-reader-at t) satellite-reader.Post
-satellite-reader-line-at-requires t c κs = c .before .before .before .before .pre .1 .0
+satellite-reader-line-at-requires t c κs = c .before .before .before .pre .1 .0
 
 satellite-reader-read-satellites-requires : (t : ℕ) → satellite-reader-lts.Need-read-satellites-requires (satellite-reader-claims t) (satellite-reader-at t) satellite-reader.Post
 satellite-reader-read-satellites-requires t c κs = let p = c .before .before .before .before .before .before .before .before .pre .1 in (p .3, p .4, p .5, p .6, p .7 .0, p .8)
@@ -256,7 +256,7 @@ satellite-reader-with-more-requires t c κs =
     let s = c .before .before .before .before .before .before .before .before .before .before .before .before in
     let a = s .args in
     let p = s .pre .1 in
-    let next = c .before .before .before .before .before .before .before .before .next-card in
+    let next = c .before .before .before .before .before .before .before .next-card in
     (omega (arith, p .3, next .ensures .1 .1), omega (arith, p .4, next .ensures .1 .2))
 
 satellite-reader-constituent-reader-requires : (t : ℕ) → satellite-reader-lts.Need-constituent-reader-requires (satellite-reader-claims t) (satellite-reader-at t) satellite-reader.Post
@@ -264,7 +264,7 @@ satellite-reader-constituent-reader-requires t c κs =
     let s = c .before .before .before .before .before .before .before .before .before .before .before .before .before .before .before .before .before in
     let a = s .args in
     let p = s .pre .1 in
-    let next = c .before .before .before .before .before .before .before .before .before .before .before .before .before .next-card in
+    let next = c .before .before .before .before .before .before .before .before .before .before .before .before .next-card in
     let read = c .before .before .before .before .before .before .before .before .read-satellites in
     let cards = read .last .1 .1 .1 .0 in
     let sat = read .last .1 .1 .1 .1 .0 in
@@ -280,7 +280,7 @@ satellite-reader-with-more-requires-2 t c κs =
     let s = c .before .before .before .before .before .before .before .before .before .before .before .before in
     let a = s .args in
     let p = s .pre .1 in
-    let next = c .before .before .before .before .before .before .before .before .next-card in
+    let next = c .before .before .before .before .before .before .before .next-card in
     (omega (arith, p .3, next .ensures .1 .1), omega (arith, p .4, next .ensures .1 .2, c .if2 .left))
 
 satellite-reader-sub-left : (t : ℕ) → satellite-reader-lts.Need-sub-left (satellite-reader-claims t) (satellite-reader-at t) satellite-reader.Post
@@ -291,7 +291,7 @@ satellite-reader-satellite-reader-requires t c κs =
     let s = c .before .before .before .before .before .before .before .before .before .before .before .before .before .before .before .before .before in
     let a = s .args in
     let p = s .pre .1 in
-    let next = c .before .before .before .before .before .before .before .before .before .before .before .before .before .next-card in
+    let next = c .before .before .before .before .before .before .before .before .before .before .before .before .next-card in
     let read = c .before .before .before .before .before .before .before .before .read-satellites in
     let cards = read .last .1 .1 .1 .0 in
     let sat = read .last .1 .1 .1 .1 .0 in
@@ -314,13 +314,13 @@ satellite-reader-returns-2 t c =
     let s = c .before .before .before .before .before .before .before .before .before .before .before .before .before .before .before .before .before .before in
     let a = s .args in
     let p = s .pre .1 in
-    let next = c .before .before .before .before .before .before .before .before .before .before .before .before .before .before .next-card in
+    let next = c .before .before .before .before .before .before .before .before .before .before .before .before .before .next-card in
     let read = c .before .before .before .before .before .before .before .before .before .read-satellites in
     let cards = read .last .1 .1 .1 .0 in
     let sat = read .last .1 .1 .1 .1 .0 in
     let ratios = read .last .1 .1 .1 .1 .1 .0 in (
       c .constituent-reader .ensures .0 ∙ rw (c .before .before .before .before .before .with-more .ensures, next .ensures .1 .0, next .ensures .1 .1, next .ensures .1 .2, one-more (mainOf cards (a .angles .now) sat ratios) (mainOf (a .cards .now) (a .angles .now) (a .sat .now) (a .ratios .now)) (a .here .mains) (read .ensures .0 (a .angles .now) .1))
-          (sym (rw (c .before .before .before .before .before .before .before .enum-told .given .1, le-leb _ 3 (c .before .before .before .before .before .before .if2 .taken)) at (satellites-step (namesFrom (a .names .now) 0 (a .known)) (a .file .now) (a .here .at) (next .result .at) (a .here .n) (c .before .before .before .before .before .before .before .before .before .before .before .before .before .line-at .result .now) (c .before .before .before .before .before .before .before .before .before .before .before .before .before .before .before .if1 .left) (c .before .before .before .before .before .before .before .before .before .before .before .before .before .line-at .ensures) (next .ensures .0 .2) (a .here .mains) (a .here .satellites)
+          (sym (rw (c .before .before .before .before .before .before .before .enum-told .given .1, le-leb _ 3 (c .before .before .before .before .before .before .if2 .taken)) at (satellites-step (namesFrom (a .names .now) 0 (a .known)) (a .file .now) (a .here .at) (next .result .at) (a .here .n) (c .before .before .before .before .before .before .before .before .before .before .before .before .before .before .line-at .result .now) (c .before .before .before .before .before .before .before .before .before .before .before .before .before .before .before .if1 .left) (c .before .before .before .before .before .before .before .before .before .before .before .before .before .before .line-at .ensures) (next .ensures .0 .2) (a .here .mains) (a .here .satellites)
           cards (a .cards .now) (a .angles .now) sat (a .sat .now) ratios (a .ratios .now) (read .result) (a .due) (read .ensures .0)))),
       c .constituent-reader .ensures .1,
     )
@@ -330,12 +330,12 @@ satellite-reader-returns-3 t c =
     let s = c .before .before .before .before .before .before .before .before .before .before .before .before .before .before .before .before .before .before in
     let a = s .args in
     let p = s .pre .1 in
-    let next = c .before .before .before .before .before .before .before .before .before .before .before .before .before .before .next-card in
+    let next = c .before .before .before .before .before .before .before .before .before .before .before .before .before .next-card in
     let read = c .before .before .before .before .before .before .before .before .before .read-satellites in
     let cards = read .last .1 .1 .1 .0 in
     let sat = read .last .1 .1 .1 .1 .0 in
     let ratios = read .last .1 .1 .1 .1 .1 .0 in (
-      c .satellite-reader .ensures .0 ∙ rw (c .before .before .before .before .before .with-more2 .ensures, next .ensures .1 .0, next .ensures .1 .1, next .ensures .1 .2, add-zero (a .here .mains)) (sym (rw (c .before .before .before .before .before .before .before .enum-told .given .1, lt-leb _ 3 (c .before .before .before .before .before .before .if2 .left)) at (satellites-step (namesFrom (a .names .now) 0 (a .known)) (a .file .now) (a .here .at) (next .result .at) (a .here .n) (c .before .before .before .before .before .before .before .before .before .before .before .before .before .line-at .result .now) (c .before .before .before .before .before .before .before .before .before .before .before .before .before .before .before .if1 .left) (c .before .before .before .before .before .before .before .before .before .before .before .before .before .line-at .ensures) (next .ensures .0 .2) (a .here .mains) (a .here .satellites)
+      c .satellite-reader .ensures .0 ∙ rw (c .before .before .before .before .before .with-more2 .ensures, next .ensures .1 .0, next .ensures .1 .1, next .ensures .1 .2, add-zero (a .here .mains)) (sym (rw (c .before .before .before .before .before .before .before .enum-told .given .1, lt-leb _ 3 (c .before .before .before .before .before .before .if2 .left)) at (satellites-step (namesFrom (a .names .now) 0 (a .known)) (a .file .now) (a .here .at) (next .result .at) (a .here .n) (c .before .before .before .before .before .before .before .before .before .before .before .before .before .before .line-at .result .now) (c .before .before .before .before .before .before .before .before .before .before .before .before .before .before .before .if1 .left) (c .before .before .before .before .before .before .before .before .before .before .before .before .before .before .line-at .ensures) (next .ensures .0 .2) (a .here .mains) (a .here .satellites)
           cards (a .cards .now) (a .angles .now) sat (a .sat .now) ratios (a .ratios .now) (read .result) (a .due) (read .ensures .0)))),
       c .satellite-reader .ensures .1,
     )
@@ -345,13 +345,13 @@ satellite-reader-returns-4 t c =
     let s = c .before .before .before .before .before .before .before .before .before .before .before .before .before in
     let a = s .args in
     let p = s .pre .1 in
-    let next = c .before .before .before .before .before .before .before .before .before .next-card in
+    let next = c .before .before .before .before .before .before .before .before .next-card in
     let read = c .before .before .before .before .read-satellites in
     let cards = read .last .1 .1 .1 .0 in
     let sat = read .last .1 .1 .1 .1 .0 in
     let ratios = read .last .1 .1 .1 .1 .1 .0 in
     rw (c .refused .ensures) (
-      sym (rw (c .before .before .r .given .1) at (satellites-step (namesFrom (a .names .now) 0 (a .known)) (a .file .now) (a .here .at) (next .result .at) (a .here .n) (c .before .before .before .before .before .before .before .before .line-at .result .now) (c .before .before .before .before .before .before .before .before .before .before .if1 .left) (c .before .before .before .before .before .before .before .before .line-at .ensures) (next .ensures .0 .2) (a .here .mains) (a .here .satellites)
+      sym (rw (c .before .before .r .given .1) at (satellites-step (namesFrom (a .names .now) 0 (a .known)) (a .file .now) (a .here .at) (next .result .at) (a .here .n) (c .before .before .before .before .before .before .before .before .before .line-at .result .now) (c .before .before .before .before .before .before .before .before .before .before .if1 .left) (c .before .before .before .before .before .before .before .before .before .line-at .ensures) (next .ensures .0 .2) (a .here .mains) (a .here .satellites)
           cards (a .cards .now) (a .angles .now) sat (a .sat .now) ratios (a .ratios .now) (read .result) (a .due) (read .ensures .0))),
       (tt, omega (arith, p .3)),
     )
@@ -363,8 +363,8 @@ pub +constituent-reader+satellite-reader-spec : {M : Type 1} → statement M
     constituent-reader.Post
     (constituent-reader-ended-requires t)
     (constituent-reader-returns t)
-    (constituent-reader-next-card-requires t)
     (constituent-reader-line-at-requires t)
+    (constituent-reader-next-card-requires t)
     (constituent-reader-read-main-requires t)
     (constituent-reader-enum-told t)
     (constituent-reader-reached-requires t)
@@ -384,8 +384,8 @@ pub +constituent-reader+satellite-reader-spec : {M : Type 1} → statement M
     satellite-reader.Post
     (satellite-reader-ended-requires t)
     (satellite-reader-returns t)
-    (satellite-reader-next-card-requires t)
     (satellite-reader-line-at-requires t)
+    (satellite-reader-next-card-requires t)
     (satellite-reader-read-satellites-requires t)
     (satellite-reader-enum-told t)
     (satellite-reader-with-more-requires t)
