@@ -17,6 +17,7 @@ use frequencies::read_frequencies;
 use lines::Progress;
 use longitudes::read_five;
 use refusals::Answer;
+use rows::Here;
 use shallows::read_shallows;
 use table::Table;
 
@@ -105,14 +106,17 @@ fn mains_and(file: &[u8], at: usize, n: usize, table: Table) -> Read
     let mut mainangles = [0i8; 448];
     let mut satelliteangles = [0i8; 1024];
     let mut satelliteratios = [0u32; 512];
+    let here = Here {
+        at: at,
+        n: n,
+        mains: 0,
+        satellites: 0,
+    };
     let read = constituent_reader(
         file,
-        at,
-        n,
+        here,
         &names,
         table.frequencies,
-        0,
-        0,
         &mut maincards,
         &mut mainangles,
         &mut satelliteangles,

@@ -3,14 +3,10 @@ use Prim.Native.Nat.{ℕ, _+_, _-_}
 use mathlib.Core.List.{List, [], _∷_, _++_}
 use mathlib.Core.Bool.{cond}
 use lib.Dec.{leb, eqb}
-use Rattle.table.specs.Table.{Satellite, Main}
+use Rattle.table.specs.Table.{Main}
 use Rattle.card.specs.Card.{Reading, given, refused, onward, onwardOrEnd}
 use Rattle.mains.specs.Mains.{mainPlaces, nextMain}
-use Rattle.satellitecard.specs.Satellites.{satelliteCard}
-
--- the main with more satellites
-unfoldable pub withMore : Main → List Satellite → Main
-withMore m more = record { place = m .place; doodson = m .doodson; phase = m .phase; satellites = m .satellites ++ more }
+use Rattle.rows.specs.Rows.{withCard}
 
 -- "A constituent card leads to its satellite cards, and the last of these leads to the next constituent card."
 -- Line n is the next; before it stand `mains`, with so many satellites in all; `m` is a main of whose satellites `count` are still to come.
@@ -26,7 +22,7 @@ unfoldable mutual
   pub satellitesFrom : List (List ℕ) → List (List ℕ) → ℕ → List Main → ℕ → Main → ℕ → Reading (List Main)
   satellitesFrom names [] n mains satellites m count = refused 7 n
   satellitesFrom names (line ∷ lines) n mains satellites m count =
-      onward (satelliteCard count line) n
+      onward (withCard m count line) n
       (λ more. cond (leb count 3)
-      (mainsFrom names lines (n + 1) (mains ++ (withMore m more ∷ [])) (satellites + count))
-      (satellitesFrom names lines (n + 1) mains (satellites + 3) (withMore m more) (count - 3)))
+      (mainsFrom names lines (n + 1) (mains ++ (more ∷ [])) (satellites + count))
+      (satellitesFrom names lines (n + 1) mains (satellites + 3) more (count - 3)))

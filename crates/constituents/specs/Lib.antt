@@ -1,2 +1,1 @@
 pub mod Constituents
-pub mod Answers

@@ -3,24 +3,24 @@
 ghost use mathlib.Core.Path.{_≡_};
 ghost use Prim.Native.Nat.{_+_, _≤_, _<_};
 ghost use lib.ListN.{length, drop};
-ghost use Rattle.columns.specs.Lines.{linesOf};
+ghost use Rattle.columns.specs.Lines.{linesOf, firstLine, restLines};
 ghost use Rattle.names.specs.Names.{namesFrom};
 ghost use Rattle.table.specs.View.{mainOf};
-ghost use Rattle.constituents.specs.Constituents.{mainsFrom, satellitesFrom};
+ghost use Rattle.card.specs.declared.Refusal.the-variants.{Ended};
+ghost use Rattle.lines.specs.declared.Progress.the-variants.{Reached, Refused};
 ghost use Rattle.lines.specs.Answers.{readingGives, Within};
-ghost use Rattle.constituents.specs.Answers.{MainRoom, satellitesEnd, Stored, mainsIn};
 ghost use Rattle.satellitecard.specs.Answers.{SatelliteRoom};
+ghost use Rattle.rows.specs.Answers.{MainRoom, satellitesEnd, Stored, mainsIn};
+ghost use Rattle.constituents.specs.Constituents.{mainsFrom, satellitesFrom};
 use card::Fault;
 use card::Refusal;
 use lines::Progress;
+use lines::after_line;
 use lines::line_at;
-use lines::next_line;
 use mains::MainStep;
-use mains::next_main;
-use rows::add_satellites;
-use rows::put_main;
-use satellitecard::at_most_three;
-use satellitecard::satellite_card;
+use rows::Here;
+use rows::read_main;
+use rows::read_satellites;
 
 // Where part 3 ends, and how many mains and satellites are stored.
 pub struct MainsRead {
@@ -29,153 +29,132 @@ pub struct MainsRead {
     pub satellites: usize,
 }
 
-// The constituent card at a byte of the file, line n, and what follows it, after `mains` mains with `satellites` satellites in all.
-pub fn constituent_reader(
-    file: &[u8],
-    at: usize,
-    n: usize,
-    names: &[u8],
-    frequencies: usize,
-    mains: usize,
-    satellites: usize,
-    cards: &mut [u16; 192],
-    angles: &mut [i8; 448],
-    sat: &mut [i8; 1024],
-    ratios: &mut [u32; 512],
-) -> MainsRead
-    requires { ⌜ (at ≤ length (now file)) × (n ≤ at + 1) × (frequencies ≤ 160) × (mains ≤ 64) × (satellites ≤ 256) × Stored (now cards) mains satellites × MainRoom (now cards) (now angles) × SatelliteRoom (now sat) (now ratios) ⌝ }
-    ensures { λ r. ⌜ readingGives (now (file .entry)) (r .progress) (mainsIn (now (cards .exit)) (now (angles .exit)) (now (sat .exit)) (now (ratios .exit)) (r .mains)) ≡ mainsFrom (namesFrom (now (names .entry)) 0 frequencies) (linesOf (drop at (now (file .entry)))) n (mainsIn (now (cards .entry)) (now (angles .entry)) (now (sat .entry)) (now (ratios .entry)) mains) satellites ⌝ }
-    ensures { λ r. ⌜ Within (now (file .entry)) (r .progress) × (r .mains ≤ 64) ⌝ }
+// The file ended here.
+fn ended(here: Here) -> MainsRead
+    ensures { λ r. ⌜ r ≡ record { progress = Refused Ended (here .n); mains = here .mains; satellites = here .satellites } ⌝ }
 {
-    if file.len() <= at {
-        return MainsRead {
-            progress: Progress::Refused(Refusal::Ended, n),
-            mains: mains,
-            satellites: satellites,
-        };
-    }
-    let next = next_line(file, at);
-    let card = next_main(
-        line_at(file, at),
-        names,
-        frequencies,
-        cards,
-        mains,
-        satellites,
-    );
-    let step = card.step;
-    let doodson = card.doodson;
-    let phase = card.phase;
-    match step {
-        MainStep::Ends => MainsRead {
-            progress: Progress::Reached(next, n + 1),
-            mains: mains,
-            satellites: satellites,
-        },
-        MainStep::Gives(count) => {
-            put_main(cards, angles, mains, card.place, satellites, doodson, phase);
-            if count == 0 {
-                return constituent_reader(
-                    file,
-                    next,
-                    n + 1,
-                    names,
-                    frequencies,
-                    mains + 1,
-                    satellites,
-                    cards,
-                    angles,
-                    sat,
-                    ratios,
-                );
-            }
-            satellite_reader(
-                file,
-                next,
-                n + 1,
-                names,
-                frequencies,
-                mains,
-                satellites,
-                count as usize,
-                cards,
-                angles,
-                sat,
-                ratios,
-            )
-        }
-        MainStep::Fails(r) => MainsRead {
-            progress: Progress::Refused(r, n),
-            mains: mains,
-            satellites: satellites,
-        },
+    refused(Refusal::Ended, here)
+}
+
+// The line here earns a refusal.
+fn refused(r: Refusal, here: Here) -> MainsRead
+    ensures { λ s. ⌜ s ≡ record { progress = Refused r (here .n); mains = here .mains; satellites = here .satellites } ⌝ }
+{
+    MainsRead {
+        progress: Progress::Refused(r, here.n),
+        mains: here.mains,
+        satellites: here.satellites,
     }
 }
 
-// The satellite card there, where `count` satellites of main `mains` are still to come, and what follows it.
-pub fn satellite_reader(
+// The part ends before this line.
+fn reached(here: Here) -> MainsRead
+    ensures { λ r. ⌜ r ≡ record { progress = Reached (here .at) (here .n); mains = here .mains; satellites = here .satellites } ⌝ }
+{
+    MainsRead {
+        progress: Progress::Reached(here.at, here.n),
+        mains: here.mains,
+        satellites: here.satellites,
+    }
+}
+
+// The line behind the one here of that width, with as many mains and satellites stored.
+fn next_card(file: &[u8], here: Here, width: usize) -> Here
+    requires { ⌜ (here .at < length (now file)) × (width ≡ length (firstLine (drop (here .at) (now file)))) × (here .n ≤ here .at + 1) ⌝ }
+    ensures { λ r. ⌜ (here .at < r .at) × (r .at ≤ length (now (file .entry))) × (drop (r .at) (now (file .entry)) ≡ restLines (drop (here .at) (now (file .entry)))) ⌝ }
+    ensures { λ r. ⌜ (r .n ≡ here .n + 1) × (r .mains ≡ here .mains) × (r .satellites ≡ here .satellites) ⌝ }
+{
+    let at = here.at;
+    Here {
+        at: after_line(file, at, width),
+        n: here.n + 1,
+        mains: here.mains,
+        satellites: here.satellites,
+    }
+}
+
+// The same line, with more mains and satellites stored.
+fn with_more(here: Here, mains: usize, satellites: usize) -> Here
+    requires { ⌜ (here .mains + mains ≤ 64) × (here .satellites + satellites ≤ 256) ⌝ }
+    ensures { λ r. ⌜ r ≡ record { at = here .at; n = here .n; mains = here .mains + mains; satellites = here .satellites + satellites } ⌝ }
+{
+    Here {
+        at: here.at,
+        n: here.n,
+        mains: here.mains + mains,
+        satellites: here.satellites + satellites,
+    }
+}
+
+// The constituent card here, and what follows it. The first `known` names are those of part 1.
+pub fn constituent_reader(
     file: &[u8],
-    at: usize,
-    n: usize,
+    here: Here,
     names: &[u8],
-    frequencies: usize,
-    mains: usize,
-    satellites: usize,
-    count: usize,
+    known: usize,
     cards: &mut [u16; 192],
     angles: &mut [i8; 448],
     sat: &mut [i8; 1024],
     ratios: &mut [u32; 512],
 ) -> MainsRead
-    requires { ⌜ (at ≤ length (now file)) × (n ≤ at + 1) × (frequencies ≤ 160) × (mains < 64) × (satellites + count ≤ 256) × (satellitesEnd (now cards) mains ≡ satellites) × Stored (now cards) mains satellites × MainRoom (now cards) (now angles) × SatelliteRoom (now sat) (now ratios) ⌝ }
-    ensures { λ r. ⌜ readingGives (now (file .entry)) (r .progress) (mainsIn (now (cards .exit)) (now (angles .exit)) (now (sat .exit)) (now (ratios .exit)) (r .mains)) ≡ satellitesFrom (namesFrom (now (names .entry)) 0 frequencies) (linesOf (drop at (now (file .entry)))) n (mainsIn (now (cards .entry)) (now (angles .entry)) (now (sat .entry)) (now (ratios .entry)) mains) satellites (mainOf (now (cards .entry)) (now (angles .entry)) (now (sat .entry)) (now (ratios .entry)) mains) count ⌝ }
+    requires { ⌜ (here .at ≤ length (now file)) × (here .n ≤ here .at + 1) × (known ≤ 160) × (here .mains ≤ 64) × (here .satellites ≤ 256) × Stored (now cards) (here .mains) (here .satellites) × MainRoom (now cards) (now angles) × SatelliteRoom (now sat) (now ratios) ⌝ }
+    ensures { λ r. ⌜ readingGives (now (file .entry)) (r .progress) (mainsIn (now (cards .exit)) (now (angles .exit)) (now (sat .exit)) (now (ratios .exit)) (r .mains)) ≡ mainsFrom (namesFrom (now (names .entry)) 0 known) (linesOf (drop (here .at) (now (file .entry)))) (here .n) (mainsIn (now (cards .entry)) (now (angles .entry)) (now (sat .entry)) (now (ratios .entry)) (here .mains)) (here .satellites) ⌝ }
     ensures { λ r. ⌜ Within (now (file .entry)) (r .progress) × (r .mains ≤ 64) ⌝ }
 {
+    let at = here.at;
     if file.len() <= at {
-        return MainsRead {
-            progress: Progress::Refused(Refusal::Ended, n),
-            mains: mains,
-            satellites: satellites,
-        };
+        return ended(here);
     }
-    let next = next_line(file, at);
-    match satellite_card(line_at(file, at), satellites, count, sat, ratios) {
-        Fault::Clear => {
-            add_satellites(cards, mains, at_most_three(count) as u16);
-            if count <= 3 {
-                return constituent_reader(
-                    file,
-                    next,
-                    n + 1,
-                    names,
-                    frequencies,
-                    mains + 1,
-                    satellites + count,
-                    cards,
-                    angles,
-                    sat,
-                    ratios,
-                );
+    let line = line_at(file, at);
+    let next = next_card(file, here, line.len());
+    match read_main(line, here, names, known, cards, angles) {
+        MainStep::Ends => reached(next),
+        MainStep::Gives(count) => {
+            if count == 0 {
+                let more = with_more(next, 1, 0);
+                constituent_reader(file, more, names, known, cards, angles, sat, ratios)
+            } else {
+                let due = count as usize;
+                satellite_reader(file, next, due, names, known, cards, angles, sat, ratios)
             }
-            satellite_reader(
-                file,
-                next,
-                n + 1,
-                names,
-                frequencies,
-                mains,
-                satellites + 3,
-                count - 3,
-                cards,
-                angles,
-                sat,
-                ratios,
-            )
         }
-        Fault::Bad(r) => MainsRead {
-            progress: Progress::Refused(r, n),
-            mains: mains,
-            satellites: satellites,
-        },
+        MainStep::Fails(r) => refused(r, here),
+    }
+}
+
+// The satellite card here, where `due` satellites of the main behind those stored are still to come, and what follows it.
+pub fn satellite_reader(
+    file: &[u8],
+    here: Here,
+    due: usize,
+    names: &[u8],
+    known: usize,
+    cards: &mut [u16; 192],
+    angles: &mut [i8; 448],
+    sat: &mut [i8; 1024],
+    ratios: &mut [u32; 512],
+) -> MainsRead
+    requires { ⌜ (here .at ≤ length (now file)) × (here .n ≤ here .at + 1) × (known ≤ 160) × (here .mains < 64) × (here .satellites + due ≤ 256) × (satellitesEnd (now cards) (here .mains) ≡ here .satellites) × Stored (now cards) (here .mains) (here .satellites) × MainRoom (now cards) (now angles) × SatelliteRoom (now sat) (now ratios) ⌝ }
+    ensures { λ r. ⌜ readingGives (now (file .entry)) (r .progress) (mainsIn (now (cards .exit)) (now (angles .exit)) (now (sat .exit)) (now (ratios .exit)) (r .mains)) ≡ satellitesFrom (namesFrom (now (names .entry)) 0 known) (linesOf (drop (here .at) (now (file .entry)))) (here .n) (mainsIn (now (cards .entry)) (now (angles .entry)) (now (sat .entry)) (now (ratios .entry)) (here .mains)) (here .satellites) (mainOf (now (cards .entry)) (now (angles .entry)) (now (sat .entry)) (now (ratios .entry)) (here .mains)) due ⌝ }
+    ensures { λ r. ⌜ Within (now (file .entry)) (r .progress) × (r .mains ≤ 64) ⌝ }
+{
+    let at = here.at;
+    if file.len() <= at {
+        return ended(here);
+    }
+    let line = line_at(file, at);
+    let next = next_card(file, here, line.len());
+    match read_satellites(line, here, due, cards, sat, ratios) {
+        Fault::Clear => {
+            if due <= 3 {
+                let more = with_more(next, 1, due);
+                constituent_reader(file, more, names, known, cards, angles, sat, ratios)
+            } else {
+                let more = with_more(next, 0, 3);
+                let left = due - 3;
+                satellite_reader(file, more, left, names, known, cards, angles, sat, ratios)
+            }
+        }
+        Fault::Bad(r) => refused(r, here),
     }
 }

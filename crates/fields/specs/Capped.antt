@@ -1,21 +1,11 @@
--- What the reader keeps of a number's size: itself, or a cap that lies outside every range of 64-bit numbers.
--- Only inner functions cite this; the contract of `ranged_field` knows no cap (`cap-loses-nothing` of proofs/Ranges.antt).
-use Prim.Native.Nat.{ℕ, min}
+-- What the reader keeps of a field behind its sign: its size, capped. Only inner functions cite this.
+use Prim.Native.Nat.{ℕ}
 use mathlib.Core.List.{List}
-use mathlib.Core.Bool.{Bool, cond}
-use Rattle.fields.specs.Number.{wholeGood, wholeSize, fixedGood, fixedSize}
+use Rattle.numerals.specs.Numerals.{wholeGood, wholeSize, fixedGood, fixedSize}
+use Rattle.numerals.specs.Capped.{kept}
+use Rattle.numerals.specs.declared.Size.{Size}
 use Rattle.fields.specs.declared.Format.{Format}
 use Rattle.fields.specs.declared.Format.the-variants.{Whole, Fixed}
-use Rattle.fields.specs.declared.Size.{Size}
-use Rattle.fields.specs.declared.Size.the-variants.{Of, Bad}
-
--- 2^63 + 1
-abbrev pub cap : ℕ
-cap = 9223372036854775809
-
--- nothing of a size that is malformed
-abbrev pub kept : Bool → ℕ → Size
-kept good size = cond good (Of (min cap size)) Bad
 
 -- of a field behind its sign
 unfoldable pub keptOf : Format → List ℕ → Size

@@ -15,9 +15,9 @@ use card::Refusal;
 use card::natural_field;
 use lines::Opening;
 use lines::Progress;
+use lines::after_line;
 use lines::begins;
 use lines::line_at;
-use lines::next_line;
 
 // What the next card of part 1 comes to: the part's end, a frequency, or a refusal.
 pub enum FrequencyStep {
@@ -93,7 +93,7 @@ pub fn read_frequencies(file: &[u8]) -> Frequencies
     let mut n = 1;
     while at < file.len() {
         let line = line_at(file, at);
-        let next = next_line(file, at);
+        let next = after_line(file, at, line.len());
         match frequency_card(line, &names, count) {
             FrequencyStep::Ends => {
                 return Frequencies {

@@ -9,7 +9,8 @@ use borrow.Author.Tests.{leb-true, leb-false}
 use lib.ListN.{length, take, drop, length-drop, drop-of-length-le}
 use lib.Seq.{take-all, drop-drop, drop-length}
 use native.Mathlib.Omega.{arith}
-use Rattle.columns.specs.Lines.{linesOf, firstLine, restLines}
+use Rattle.columns.specs.Lines.{linesOf, inLine, firstLine, restLines}
+use Rattle.columns.proofs.Bytes.{leading-short}
 use Rattle.columns.proofs.Lines.{lines-next, lines-none}
 
 -- the part of a slice from byte a on
@@ -34,6 +35,22 @@ module _ (s : List ℕ) (a : ℕ) (h : a < length s) where
 
   pub rest-again : drop (length s - length (restLines (drop a s))) s ≡ restLines (drop a s)
   rest-again = let n = length (firstLine (drop a s)) + 1 in rw (drop-drop n a s) (drop-again (a + n) s)
+
+  -- the first line ends within the file
+  pub line-within : a + length (firstLine (drop a s)) ≤ length s
+  line-within = omega (arith, leading-short inLine (drop a s), length-drop a s)
+
+  -- what is behind it starts behind its LF, or at the end of the file
+  pub behind-lf : drop (a + length (firstLine (drop a s)) + 1) s ≡ restLines (drop a s)
+  behind-lf =
+      let n = length (firstLine (drop a s)) in
+      let e : a + n + 1 ≡ a + (n + 1) = omega arith in
+      rw e (sym (drop-drop (n + 1) a s))
+
+  pub behind-last : (e : ℕ) → e ≡ a + length (firstLine (drop a s)) → length s ≤ e → drop e s ≡ restLines (drop a s)
+  behind-last e is h =
+      let past : length s ≤ a + length (firstLine (drop a s)) + 1 = omega (arith, is) in
+      drop-of-length-le s h ∙ sym (sym behind-lf ∙ drop-of-length-le s past)
 
 -- the lines from byte `at` on, as the code reads the line there and steps to the next; or none left
 pub lines-here : (file : List ℕ) (at next : ℕ) (line : List ℕ) → at < length file → line ≡ firstLine (drop at file) → drop next file ≡ restLines (drop at file)

@@ -1,8 +1,9 @@
 -- What the code's answers on lines stand for in 01's terms.
-use Prim.Native.Nat.{ℕ, _+_, _≤_}
+use Prim.Native.Nat.{ℕ, _+_, _≤_, _<_}
+use mathlib.Core.Path.{_≡_}
 use mathlib.Core.List.{List}
 use lib.ListN.{length, drop}
-use Rattle.columns.specs.Lines.{linesOf}
+use Rattle.columns.specs.Lines.{linesOf, restLines}
 use Rattle.card.specs.Answers.{numberOf}
 use Rattle.card.specs.Card.{Reading, given, refused}
 use Rattle.card.specs.Card as card
@@ -10,6 +11,10 @@ use Rattle.lines.specs.declared.Progress.{Progress}
 use Rattle.lines.specs.declared.Progress.the-variants.{Reached, Refused}
 use Rattle.lines.specs.declared.Opening.{Opening}
 use Rattle.lines.specs.declared.Opening.the-variants as opening
+
+-- behind the line at a byte of the file the next starts at byte r, past its LF, or the file ends there
+abbrev pub NextLine : List ℕ → ℕ → ℕ → Type 0
+NextLine file at r = (at < r) × (r ≤ length file) × (drop r file ≡ restLines (drop at file))
 
 -- how a card begins
 abbrev pub openingGives : Opening → card.Opening

@@ -2,9 +2,9 @@
 ghost use mathlib.Core.Path.{_≡_};
 ghost use Prim.Native.Nat.{_-_, _≤_, _<_};
 ghost use lib.ListN.{length, drop};
-ghost use Rattle.columns.specs.Lines.{firstLine, restLines};
+ghost use Rattle.columns.specs.Lines.{firstLine};
 ghost use Rattle.card.specs.Card as card;
-ghost use Rattle.lines.specs.Answers.{openingGives};
+ghost use Rattle.lines.specs.Answers.{NextLine, openingGives};
 use card::Refusal;
 
 // The line that starts at a byte of the file.
@@ -18,9 +18,21 @@ pub fn line_at(file: &[u8], at: usize) -> &[u8]
 // Where the line after it starts.
 pub fn next_line(file: &[u8], at: usize) -> usize
     requires { ⌜ at < length (now file) ⌝ }
-    ensures { λ r. ⌜ (at < r) × (r ≤ length (now (file .entry))) × (drop r (now (file .entry)) ≡ restLines (drop at (now (file .entry)))) ⌝ }
+    ensures { λ r. ⌜ NextLine (now (file .entry)) at r ⌝ }
 {
     file.len() - columns::rest_lines(&file[at..]).len()
+}
+
+// Where the line after it starts, its own length being known.
+pub fn after_line(file: &[u8], at: usize, width: usize) -> usize
+    requires { ⌜ (at < length (now file)) × (width ≡ length (firstLine (drop at (now file)))) ⌝ }
+    ensures { λ r. ⌜ NextLine (now (file .entry)) at r ⌝ }
+{
+    let end = at + width;
+    if end < file.len() {
+        return end + 1;
+    }
+    end
 }
 
 // Where the reader stands behind a part, byte and line, or the refusal that the part earns.

@@ -13,8 +13,8 @@ use card::Natural;
 use card::Refusal;
 use card::natural_field;
 use lines::Progress;
+use lines::after_line;
 use lines::line_at;
-use lines::next_line;
 
 // Five numbers that are not below 0.
 pub struct Five {
@@ -70,7 +70,7 @@ pub fn read_five(file: &[u8], at: usize, n: usize, most: u64) -> FiveRead
     let line = line_at(file, at);
     if columns::line_good(line) {
         let five = five_card(line, most);
-        let next = next_line(file, at);
+        let next = after_line(file, at, line.len());
         let fault = five.fault;
         let values = five.values;
         return match fault {

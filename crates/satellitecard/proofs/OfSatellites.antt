@@ -12,7 +12,8 @@ use Rattle.table.specs.View.{listed, satelliteOf}
 use Rattle.table.proofs.Rows.{listed-same, listed-one-more, row-put, row-kept}
 use Rattle.card.specs.Card.{good, _>>=_}
 use Rattle.card.specs.Formats.{satelliteColumn}
-use Rattle.satellitecard.specs.Satellites.{satellite, satellitesOn}
+use Rattle.satellitefields.specs.Satellite.{satellite}
+use Rattle.satellitecard.specs.Satellites.{satellitesOn}
 use Rattle.satellitecard.specs.Answers.{Kept}
 use Rattle.table.proofs.Rows.{ends-with}
 

@@ -12,8 +12,8 @@ ghost use Rattle.table.specs.View.{listed, shallowOf};
 ghost use Rattle.lines.specs.Answers.{readingGives};
 use card::Refusal;
 use lines::Progress;
+use lines::after_line;
 use lines::line_at;
-use lines::next_line;
 use parts::ShallowStep;
 use shallowcard::next_shallow;
 
@@ -61,16 +61,9 @@ pub fn read_shallows(
     let mut here = at;
     let mut line_number = n;
     while here < file.len() {
-        let next = next_line(file, here);
-        let read = next_shallow(
-            line_at(file, here),
-            names,
-            frequencies,
-            maincards,
-            mains,
-            &cards,
-            count,
-        );
+        let line = line_at(file, here);
+        let next = after_line(file, here, line.len());
+        let read = next_shallow(line, names, frequencies, maincards, mains, &cards, count);
         let step = read.step;
         let card = read.card;
         let row = read.coefficients;

@@ -33,8 +33,8 @@ loop-holds c = (omega arith, omega arith, omega arith, refl, refl, refl)
 line-at-requires : tie.Need-line-at-requires Inv-loop μ-loop
 line-at-requires c κs = search needs
 
-next-line-requires : tie.Need-next-line-requires Inv-loop μ-loop
-next-line-requires c κs = search needs
+after-line-requires : tie.Need-after-line-requires Inv-loop μ-loop
+after-line-requires c κs = (search needs, ap length (c .line-at .ensures))
 
 slice-aggregate-frequency-card : tie.Need-slice-aggregate-frequency-card Inv-loop μ-loop
 slice-aggregate-frequency-card c = search needs
@@ -52,7 +52,7 @@ returns : tie.Need-returns Inv-loop μ-loop
 returns c =
     let s = c .before .before .before .before .before .before .before in
     let a = s .before .before .args in
-    let next = c .before .before .before .before .next-line in
+    let next = c .before .before .before .before .after-line in
     (rw (frequencies-step (a .file .now) (s .loop .at) (s .loop .n) (s .loop .names) (s .loop .speeds) (s .loop .count) (next .result) (c .before .before .before .before .before .line-at .result .now) (c .before .before .frequency-card .result) (c .before .before .before .before .before .before .loop-test .taken) (c .before .before .before .before .before .line-at .ensures) (next .ensures .2) (c .before .before .frequency-card .ensures), c .enum-told .given .1) at (s .loop .inv .5), ((omega arith, omega arith), s .loop .inv .2))
 
 enum-known-v : tie.Need-enum-known-v Inv-loop μ-loop
@@ -78,7 +78,7 @@ returns-2 : tie.Need-returns-2 Inv-loop μ-loop
 returns-2 c =
     let s = c .before .before .before .before .before .before .before .before in
     let a = s .before .before .args in
-    let next = c .before .before .before .before .before .next-line in
+    let next = c .before .before .before .before .before .after-line in
     (rw (frequencies-step (a .file .now) (s .loop .at) (s .loop .n) (s .loop .names) (s .loop .speeds) (s .loop .count) (next .result) (c .before .before .before .before .before .before .line-at .result .now) (c .before .before .before .frequency-card .result) (c .before .before .before .before .before .before .before .loop-test .taken) (c .before .before .before .before .before .before .line-at .ensures) (next .ensures .2) (c .before .before .before .frequency-card .ensures), c .before .r .given .1) at (s .loop .inv .5), (tt, s .loop .inv .2))
 
 add-count : tie.Need-add-count Inv-loop μ-loop
@@ -94,7 +94,7 @@ loop-again : tie.Need-loop-again Inv-loop μ-loop
 loop-again c =
     let s = c .before .before .before .before .before .before .before .before .before .before in
     let a = s .before .before .args in
-    let next = c .before .before .before .before .before .before .before .next-line in
+    let next = c .before .before .before .before .before .before .before .after-line in
     let line = c .before .before .before .before .before .before .before .before .line-at .result .now in
     let v = c .before .before .before .v .given .0 .0 in
     let room : s .loop .count < 160 = frequency-room (s .loop .names) line (s .loop .count) _ (sym (c .before .before .before .before .before .frequency-card .ensures) ∙ ap (frequencyGives line) (c .before .before .before .v .given .1)) in
@@ -123,7 +123,7 @@ read-frequencies-spec =
     μ-loop
     loop-holds
     line-at-requires
-    next-line-requires
+    after-line-requires
     slice-aggregate-frequency-card
     frequency-card-requires
     enum-told

@@ -2,7 +2,9 @@
 use borrow.Author.Needs.{needs}
 use Rattle.longitudes.proofs.read_five.Statement.{statement}
 use Rattle.longitudes.proofs.read_five.Tie as tie
+use mathlib.Core.Path.{ap}
 use native.Mathlib.Omega.{arith}
+use lib.ListN.{length}
 use Prim.Native.Nat.{_*_}
 use Rattle.fields.specs.declared.Format.the-variants.{Fixed}
 use Rattle.card.specs.Formats.{upTo}
@@ -23,14 +25,14 @@ line-good-requires c κs = search needs
 five-card-requires : tie.Need-five-card-requires
 five-card-requires c κs = search needs
 
-next-line-requires : tie.Need-next-line-requires
-next-line-requires c κs = search needs
+after-line-requires : tie.Need-after-line-requires
+after-line-requires c κs = (search needs, ap length (c .before .before .before .line-at .ensures))
 
 enum-told : tie.Need-enum-told
 enum-told c = search needs
 
-add-t18 : tie.Need-add-t18
-add-t18 c = search needs
+add-t19 : tie.Need-add-t19
+add-t19 c = search needs
 
 enum-known-fault : tie.Need-enum-known-fault
 enum-known-fault c = search needs
@@ -39,7 +41,7 @@ returns-2 : tie.Need-returns-2
 unfolding dueCard
 returns-2 c =
     let a = c .before .before .before .before .before .before .before .before .before .before .args in
-    (rw (five-here (λ k. upTo (a .most) (13 * k) 13 (Fixed 10)) (a .file .now) (a .at) (a .n) (c .before .before .before .before .before .before .before .line-at .result .now) (c .before .before .before .before .before .before .before .before .if1 .left) (c .before .before .before .before .before .before .before .line-at .ensures), ← c .before .before .before .before .before .before .line-good .ensures, c .before .before .before .before .before .if2 .taken, ← c .before .before .before .before .five-card .ensures, c .enum-told .given .1, c .before .before .before .next-line .ensures .2), (omega arith, omega arith))
+    (rw (five-here (λ k. upTo (a .most) (13 * k) 13 (Fixed 10)) (a .file .now) (a .at) (a .n) (c .before .before .before .before .before .before .before .line-at .result .now) (c .before .before .before .before .before .before .before .before .if1 .left) (c .before .before .before .before .before .before .before .line-at .ensures), ← c .before .before .before .before .before .before .line-good .ensures, c .before .before .before .before .before .if2 .taken, ← c .before .before .before .before .five-card .ensures, c .enum-told .given .1, c .before .before .before .after-line .ensures .2), (omega arith, omega arith))
 
 returns-3 : tie.Need-returns-3
 unfolding dueCard
@@ -61,9 +63,9 @@ read-five-spec =
     line-at-requires
     line-good-requires
     five-card-requires
-    next-line-requires
+    after-line-requires
     enum-told
-    add-t18
+    add-t19
     enum-known-fault
     returns-2
     returns-3

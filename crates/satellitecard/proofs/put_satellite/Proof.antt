@@ -1,4 +1,4 @@
--- `cards::satellitecard::put_satellite` meets its contract: what the table's stores leave.
+-- `satellitecard::put_satellite` meets its contract: what the table's stores leave.
 use borrow.Author.Needs.{needs}
 use Rattle.satellitecard.proofs.put_satellite.Statement.{statement}
 use Rattle.satellitecard.proofs.put_satellite.Tie as tie

@@ -1,4 +1,4 @@
--- `cards::satellitecard::satellite_card` meets its contract: a good line, then its satellites.
+-- `satellitecard::satellite_card` meets its contract: a good line, then its satellites.
 use borrow.Author.Needs.{needs}
 use Rattle.satellitecard.proofs.satellite_card.Statement.{statement}
 use Rattle.satellitecard.proofs.satellite_card.Tie as tie

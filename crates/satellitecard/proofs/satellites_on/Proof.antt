@@ -1,4 +1,4 @@
--- `cards::satellitecard::satellites_on` meets its contract. The loop keeps that reading on from satellite j gives what reading all of them gives,
+-- `satellitecard::satellites_on` meets its contract. The loop keeps that reading on from satellite j gives what reading all of them gives,
 -- and that the satellites stored before are as they were. Rests on the laws of part 3.
 use borrow.Author.Needs.{needs}
 use Rattle.satellitecard.proofs.satellites_on.Statement.{statement}

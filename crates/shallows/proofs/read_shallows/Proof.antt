@@ -29,8 +29,8 @@ loop-holds : tie.Need-loop-holds Inv-loop μ-loop
 unfolding listed
 loop-holds c = (omega arith, omega arith, omega arith, refl, refl, refl)
 
-next-line-requires : tie.Need-next-line-requires Inv-loop μ-loop
-next-line-requires c κs = search needs
+after-line-requires : tie.Need-after-line-requires Inv-loop μ-loop
+after-line-requires c κs = (search needs, ap length (c .line-at .ensures))
 
 line-at-requires : tie.Need-line-at-requires Inv-loop μ-loop
 line-at-requires c κs = search needs
@@ -53,9 +53,9 @@ returns c =
     let a = s .before .before .args in
     let names = namesFrom (a .names .now) 0 (a .frequencies) in
     let mains = placesIn 3 (a .maincards .now) (a .mains) in
-    let next = c .before .before .before .before .before .before .before .before .before .next-line in
+    let next = c .before .before .before .before .before .before .before .before .after-line in
     let read = c .before .before .before .before .next-shallow in
-    (rw (shallows-step names mains (a .file .now) (s .loop .here) (s .loop .line-number) (s .loop .cards) (s .loop .coefficients) (s .loop .count) (next .result) (c .before .before .before .before .before .before .before .before .line-at .result .now) (read .result) (c .before .before .before .before .before .before .before .before .before .before .loop-test .taken) (c .before .before .before .before .before .before .before .before .line-at .ensures) (next .ensures .2) (read .ensures), c .enum-told .given .1) at (s .loop .inv .5), s .loop .inv .2)
+    (rw (shallows-step names mains (a .file .now) (s .loop .here) (s .loop .line-number) (s .loop .cards) (s .loop .coefficients) (s .loop .count) (next .result) (c .before .before .before .before .before .before .before .before .before .line-at .result .now) (read .result) (c .before .before .before .before .before .before .before .before .before .before .loop-test .taken) (c .before .before .before .before .before .before .before .before .before .line-at .ensures) (next .ensures .2) (read .ensures), c .enum-told .given .1) at (s .loop .inv .5), s .loop .inv .2)
 
 enum-told-2 : tie.Need-enum-told-2 Inv-loop μ-loop
 enum-told-2 c = search needs
@@ -66,7 +66,7 @@ put-shallow-requires c κs =
     let a = s .before .before .args in
     let names = namesFrom (a .names .now) 0 (a .frequencies) in
     let mains = placesIn 3 (a .maincards .now) (a .mains) in
-    shallow-room names mains (s .loop .cards) (c .before .before .before .before .before .before .before .before .before .before .line-at .result .now) (s .loop .count) (c .before .before .before .before .before .before .next-shallow .result) (c .before .before .enum-told2 .given .1) (c .before .before .before .before .before .before .next-shallow .ensures)
+    shallow-room names mains (s .loop .cards) (c .before .before .before .before .before .before .before .before .before .before .before .line-at .result .now) (s .loop .count) (c .before .before .before .before .before .before .next-shallow .result) (c .before .before .enum-told2 .given .1) (c .before .before .before .before .before .before .next-shallow .ensures)
 
 enum-known-step : tie.Need-enum-known-step Inv-loop μ-loop
 enum-known-step c = search needs
@@ -77,9 +77,9 @@ returns-2 c =
     let a = s .before .before .args in
     let names = namesFrom (a .names .now) 0 (a .frequencies) in
     let mains = placesIn 3 (a .maincards .now) (a .mains) in
-    let next = c .before .before .before .before .before .before .before .before .before .before .next-line in
+    let next = c .before .before .before .before .before .before .before .before .before .after-line in
     let read = c .before .before .before .before .before .next-shallow in
-    (rw (shallows-step names mains (a .file .now) (s .loop .here) (s .loop .line-number) (s .loop .cards) (s .loop .coefficients) (s .loop .count) (next .result) (c .before .before .before .before .before .before .before .before .before .line-at .result .now) (read .result) (c .before .before .before .before .before .before .before .before .before .before .before .loop-test .taken) (c .before .before .before .before .before .before .before .before .before .line-at .ensures) (next .ensures .2) (read .ensures), c .before .step .given .1) at (s .loop .inv .5), s .loop .inv .2)
+    (rw (shallows-step names mains (a .file .now) (s .loop .here) (s .loop .line-number) (s .loop .cards) (s .loop .coefficients) (s .loop .count) (next .result) (c .before .before .before .before .before .before .before .before .before .before .line-at .result .now) (read .result) (c .before .before .before .before .before .before .before .before .before .before .before .loop-test .taken) (c .before .before .before .before .before .before .before .before .before .before .line-at .ensures) (next .ensures .2) (read .ensures), c .before .step .given .1) at (s .loop .inv .5), s .loop .inv .2)
 
 add-count : tie.Need-add-count Inv-loop μ-loop
 add-count c = let s = c .before .before .before .before .before .before .before .before .before .before .before .before .before .before in omega (arith, s .loop .inv .2)
@@ -96,8 +96,8 @@ loop-again c =
     let a = s .before .before .args in
     let names = namesFrom (a .names .now) 0 (a .frequencies) in
     let mains = placesIn 3 (a .maincards .now) (a .mains) in
-    let next = c .before .before .before .before .before .before .before .before .before .before .before .before .next-line in
-    let line = c .before .before .before .before .before .before .before .before .before .before .before .line-at .result .now in
+    let next = c .before .before .before .before .before .before .before .before .before .before .before .after-line in
+    let line = c .before .before .before .before .before .before .before .before .before .before .before .before .line-at .result .now in
     let read = c .before .before .before .before .before .before .before .next-shallow in
     let card = read .result .card in
     let row = read .result .coefficients in
@@ -112,7 +112,7 @@ loop-again c =
       ap length put ∙ length-sets (s .loop .cards) (6 * s .loop .count) card ∙ s .loop .inv .3,
       ap length put′ ∙ length-sets (s .loop .coefficients) (4 * s .loop .count) row ∙ s .loop .inv .4,
       rw (put, put′, shallow-put (s .loop .cards) (s .loop .coefficients) card row (s .loop .count) wide wide′ (omega arith) (omega arith))
-          (rw (shallows-step names mains (a .file .now) (s .loop .here) (s .loop .line-number) (s .loop .cards) (s .loop .coefficients) (s .loop .count) (next .result) line (read .result) (c .before .before .before .before .before .before .before .before .before .before .before .before .before .loop-test .taken) (c .before .before .before .before .before .before .before .before .before .before .before .line-at .ensures) (next .ensures .2) (read .ensures), c .before .before .before .enum-told2 .given .1) at (s .loop .inv .5)),
+          (rw (shallows-step names mains (a .file .now) (s .loop .here) (s .loop .line-number) (s .loop .cards) (s .loop .coefficients) (s .loop .count) (next .result) line (read .result) (c .before .before .before .before .before .before .before .before .before .before .before .before .before .loop-test .taken) (c .before .before .before .before .before .before .before .before .before .before .before .before .line-at .ensures) (next .ensures .2) (read .ensures), c .before .before .before .enum-told2 .given .1) at (s .loop .inv .5)),
     )
 
 returns-3 : tie.Need-returns-3 Inv-loop μ-loop
@@ -130,8 +130,8 @@ read-shallows-spec =
     Inv-loop
     μ-loop
     loop-holds
-    next-line-requires
     line-at-requires
+    after-line-requires
     slice-aggregate-next-shallow
     next-shallow-requires
     enum-told

@@ -1,0 +1,2 @@
+pub mod Satellite
+pub mod Answers
