@@ -20,13 +20,3 @@ use Rattle.month.specs.View.{rowsPrepared, Reduced}
 pub rows-are-month : (t : Table) (s : Station) (year month : ℕ) → rowsPrepared t (factorsAt (s .latitude)) (longitudesOn (monthDay year month) (t .longitudes) (t .increases)) 1 (s .records) ≡ monthOf (tableOf t) s year month
 unfolding monthOf tableOf frequencyOf
 rows-are-month t s year month = rw (listed-map (λ f. f .frequency) (frequencyOf (t .names) (t .speeds)) 0 (t .frequencies))
-
-module _ (l : code.Longitudes) (d : ℤ) (card₁ card₂ : List ℕ) (e : longitudesOf l ≡ longitudesOn d card₁ card₂) where
-  pub are-reduced : Reduced l
-  unfolding longitudesOn
-  are-reduced =
-      record {
-        perigee = subst (λ (n : ℕ). n < turn) (sym (ap (λ x. x .p) e)) (longitude-below d (getD card₁ 2 0) (getD card₂ 2 0));
-        node = subst (λ (n : ℕ). n < turn) (sym (ap (λ x. x .n′) e)) (longitude-below d (getD card₁ 3 0) (getD card₂ 3 0));
-        solar = subst (λ (n : ℕ). n < turn) (sym (ap (λ x. x .p′) e)) (longitude-below d (getD card₁ 4 0) (getD card₂ 4 0));
-      }
