@@ -1,4 +1,3 @@
-pub mod Search
 pub mod Put
 pub mod OfRows
 pub mod Records

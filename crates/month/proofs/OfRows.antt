@@ -1,76 +1,76 @@
--- What stands at a place, worked out from the rows of the code's table: V and the pair of the first main's row, or of the first shallow
--- constituent's, are those of the definition. From `Search`, and the laws of rows of `arguments` and `nodal`.
-use mathlib.Core.Path.{_≡_, sym, ap, _∙_}
+-- What stands at a place, worked out from the mains that are kept: its V and its pair are those of the definition. From the laws of rows of
+-- `arguments`, `nodal` and `workings`.
+use mathlib.Core.Path.{_≡_, refl, sym, ap, subst, _∙_}
 use mathlib.Core.List.{List}
-use Prim.Native.Nat.{ℕ, _≤_, _<_}
-use native.Mathlib.Omega.{arith}
-use lib.IntN.{ℤ, pos}
-use Rattle.table.specs.Table.{Main, Shallow}
-use Rattle.table.specs.View.{listed, mainOf, shallowOf}
-use Rattle.arguments.specs.Longitudes.{Longitudes}
-use Rattle.arguments.specs.View.{rowArgument, shallowRowArgument}
-use Rattle.arguments.proofs.Views.{listed-map, main-row, shallow-row}
+use Prim.Native.Nat.{ℕ, _<_}
+use lib.IntN.{ℤ}
+use lib.ListN.{getD}
+use Rattle.table.specs.View.{listed, naturals, mainOf, shallowOf}
+use Rattle.entries.proofs.Beyond.{entry-at}
+use Rattle.definitions.specs.Definitions.{Definition, main, shallow, undefined, definitionAt}
+use Rattle.definitions.specs.View.{definitionOf, Within, Finds}
+use Rattle.definitions.specs.declared.Found.{Found}
+use Rattle.definitions.specs.declared.Found.the-variants as found
+use Rattle.astronomy.specs.Longitudes.{Longitudes, nodal}
+use Rattle.arguments.specs.Arguments as arguments
+use Rattle.arguments.specs.View.{rowArgument}
+use Rattle.arguments.proofs.Views.{main-row, mains-rows}
 use Rattle.latitude.specs.Latitude.{Factors}
-use Rattle.nodal.specs.Ranges.{Small}
-use Rattle.nodal.specs.Shallow.{Corrected, pair, one, mainCorrected, shallowCorrected, timesParts}
-use Rattle.nodal.specs.View.{correctedOf, rowSatellites, rowCorrected, shallowRowCorrected}
-use Rattle.nodal.specs.declared.Corrected as code
-use Rattle.nodal.proofs.OfTable.{main-of-row}
-use Rattle.month.specs.Month.{Definition, main, shallow, undefined, firstWith, definitionAt, nodal, argumentOf, correctionOf}
-use Rattle.month.specs.View.{mainsOf, shallowsOf, placeIn, firstRow, IsWorked}
-use Rattle.month.proofs.Search.{row-found, row-missing}
+use Rattle.pairs.specs.Pairs.{Corrected, pair, one}
+use Rattle.nodal.specs.Shallow as pairs
+use Rattle.nodal.specs.View.{rowCorrected, pairsOf}
+use Rattle.nodal.proofs.OfTable.{main-of-row, mains-of-rows}
+use Rattle.workings.specs.Kept.{argumentAt, correctedAt, Kept, WithMain, WithParts}
+use Rattle.workings.proofs.Agree.{shallow-argument-is, shallow-pair-is}
+use Rattle.month.specs.Month.{argumentOf, correctionOf}
+use Rattle.month.specs.View.{mainsOf, shallowsOf, Ready, argumentFrom, pairFrom, FromMains, IsWorked}
+use Rattle.month.specs.declared.Worked.{Worked}
 
-module _ (g : Factors) (l : Longitudes) (maincards : List ℕ) (mainangles satelliteangles : List ℤ) (satelliteratios : List ℕ) (mains : ℕ) (shallowcards : List ℕ) (coefficients : List ℤ) (shallows place : ℕ) where
-  abbrev mainRow : ℕ → Main
-  mainRow = mainOf maincards mainangles satelliteangles satelliteratios
+module _ (g : Factors) (l : Longitudes) (maincards : List ℕ) (mainangles satelliteangles : List ℤ) (satelliteratios : List ℕ) (mains : ℕ) (shallowcards : List ℕ) (coefficients : List ℤ) (vs : List ℕ) (xs ys : List ℤ) where
+  -- V and the pair of what a row stands for
+  abbrev meant : Found → Definition
+  meant = definitionOf (mainOf maincards mainangles satelliteangles satelliteratios) (shallowOf shallowcards coefficients)
 
-  abbrev all : List Main
-  all = mainsOf maincards mainangles satelliteangles satelliteratios mains
+  abbrev IsReady : Found → Type 0
+  IsReady r = Ready (argumentAt l mainangles mains) (correctedAt g (nodal l) maincards satelliteangles satelliteratios mains) shallowcards r vs xs ys
 
-  abbrev alsoAll : List Shallow
-  alsoAll = shallowsOf shallowcards coefficients shallows
+  argument-is : (r : Found) → Within mains r → IsReady r → argumentFrom vs shallowcards coefficients r ≡ argumentOf l (mainsOf maincards mainangles satelliteangles satelliteratios mains) (meant r)
+  unfolding argumentOf
+  argument-is (found.Main k) h w =
+      w .kept .arguments k (w .has) ∙ sym (entry-at 0 (rowArgument l mainangles) mains k h) ∙ main-row l maincards mainangles satelliteangles satelliteratios k
+  argument-is (found.Shallow k) h w =
+      shallow-argument-is (listed (rowArgument l mainangles) 0 mains) (listed (rowCorrected g (nodal l) maincards satelliteangles satelliteratios) 0 mains) shallowcards coefficients k vs xs ys (record { kept = w .kept; has = w .has })
+      ∙ ap (λ all. arguments.fromParts all (shallowOf shallowcards coefficients k)) (sym (mains-rows l maincards mainangles satelliteangles satelliteratios mains))
+  argument-is found.Nothing h w = refl
 
-  abbrev amongShallows : Definition
-  amongShallows = firstWith (λ s. s .place) place shallow undefined alsoAll
+  correction-is : (r : Found) → Within mains r → IsReady r → pairFrom (pairsOf xs ys) shallowcards coefficients r ≡ correctionOf g l (mainsOf maincards mainangles satelliteangles satelliteratios mains) (meant r)
+  unfolding correctionOf
+  correction-is (found.Main k) h w =
+      w .kept .pairs k (w .has) ∙ sym (entry-at (pair one) (rowCorrected g (nodal l) maincards satelliteangles satelliteratios) mains k h)
+      ∙ sym (main-of-row g (nodal l) maincards mainangles satelliteangles satelliteratios k)
+  correction-is (found.Shallow k) h w =
+      shallow-pair-is (listed (rowArgument l mainangles) 0 mains) (listed (rowCorrected g (nodal l) maincards satelliteangles satelliteratios) 0 mains) shallowcards coefficients k vs xs ys (record { kept = w .kept; has = w .has })
+      ∙ ap (λ all. pairs.fromParts all (shallowOf shallowcards coefficients k)) (sym (mains-of-rows g (nodal l) maincards mainangles satelliteangles satelliteratios mains))
+  correction-is found.Nothing h w = refl
 
-  -- the definition, by the first row that has the place
-  defined-main : (row : ℕ) → row ≡ firstRow (placeIn 3 maincards) place 0 mains → row < mains → definitionAt all alsoAll place ≡ main (mainRow row)
-  unfolding definitionAt mainOf
-  defined-main row e h = row-found (λ m. m .place) place main amongShallows mainRow 0 mains row (sym e) (omega arith)
+  -- and so of what is found at a place
+  pub worked-out : (shallows place : ℕ) (r : Found) (w : Worked) → Finds maincards mains shallowcards shallows place r → IsReady r → FromMains vs xs ys shallowcards coefficients r w
+      → IsWorked g l (mainsOf maincards mainangles satelliteangles satelliteratios mains) (shallowsOf shallowcards coefficients shallows) place w
+  worked-out shallows place r w f ready is =
+      let d = f .definition mainangles satelliteangles satelliteratios coefficients in
+      record {
+        argument = is .argument ∙ argument-is r (f .within) ready ∙ ap (argumentOf l (mainsOf maincards mainangles satelliteangles satelliteratios mains)) d;
+        correction = is .correction ∙ correction-is r (f .within) ready ∙ ap (correctionOf g l (mainsOf maincards mainangles satelliteangles satelliteratios mains)) d;
+        small = is .small;
+      }
 
-  no-main : (row : ℕ) → row ≡ firstRow (placeIn 3 maincards) place 0 mains → mains ≤ row → definitionAt all alsoAll place ≡ amongShallows
-  unfolding definitionAt mainOf
-  no-main row e h = row-missing (λ m. m .place) place main amongShallows mainRow 0 mains row (sym e) (omega arith)
+-- the mains of what is found are worked out, in each case
+module _ (argument : ℕ → ℕ) (corrected : ℕ → Corrected) (shallowcards : List ℕ) (r : Found) (before vs : List ℕ) (xs ys : List ℤ) where
+  pub ready-main : (k : ℕ) → r ≡ found.Main k → WithMain argument corrected k before vs xs ys → Ready argument corrected shallowcards r vs xs ys
+  ready-main k e w = subst (λ f. Ready argument corrected shallowcards f vs xs ys) (sym e) (record { kept = w .kept; has = w .has })
 
-  among-found : (row : ℕ) → row ≡ firstRow (placeIn 6 shallowcards) place 0 shallows → row < shallows → amongShallows ≡ shallow (shallowOf shallowcards coefficients row)
-  unfolding shallowOf
-  among-found row e h = row-found (λ s. s .place) place shallow undefined (shallowOf shallowcards coefficients) 0 shallows row (sym e) (omega arith)
+  pub ready-shallow : (k : ℕ) → r ≡ found.Shallow k → WithParts argument corrected (naturals 6 shallowcards k) vs xs ys → Ready argument corrected shallowcards r vs xs ys
+  ready-shallow k e w = subst (λ f. Ready argument corrected shallowcards f vs xs ys) (sym e) (record { kept = w .kept; has = w .has })
 
-  among-missing : (row : ℕ) → row ≡ firstRow (placeIn 6 shallowcards) place 0 shallows → shallows ≤ row → amongShallows ≡ undefined
-  unfolding shallowOf
-  among-missing row e h = row-missing (λ s. s .place) place shallow undefined (shallowOf shallowcards coefficients) 0 shallows row (sym e) (omega arith)
-
-  -- the pair of a shallow row
-  shallow-pair-row : (row : ℕ) → shallowRowCorrected (listed (rowCorrected g (nodal l) maincards satelliteangles satelliteratios) 0 mains) shallowcards coefficients row ≡ shallowCorrected g (nodal l) all (shallowOf shallowcards coefficients row)
-  unfolding shallowCorrected shallowRowCorrected mainCorrected mainOf rowCorrected rowSatellites
-  shallow-pair-row row =
-      ap (λ ms. timesParts ms one (shallowOf shallowcards coefficients row .parts)) (sym (listed-map (mainCorrected g (nodal l)) mainRow 0 mains))
-
-  module _ (v : ℕ) (c : code.Corrected) (small : Small c) where
-    -- V and the pair of a definition
-    worked : (d : Definition) → definitionAt all alsoAll place ≡ d → v ≡ argumentOf l all d → correctedOf c ≡ correctionOf g l all d → IsWorked g l all alsoAll place (record { argument = v; corrected = c })
-    worked d e a k = record { argument = rw e a; correction = rw e k; small = small }
-
-    pub main-worked : (row : ℕ) → row ≡ firstRow (placeIn 3 maincards) place 0 mains → row < mains → v ≡ rowArgument l mainangles row → correctedOf c ≡ rowCorrected g (nodal l) maincards satelliteangles satelliteratios row → IsWorked g l all alsoAll place (record { argument = v; corrected = c })
-    unfolding argumentOf correctionOf
-    main-worked row e h a k =
-        worked (main (mainRow row)) (defined-main row e h) (a ∙ main-row l maincards mainangles satelliteangles satelliteratios row) (k ∙ sym (main-of-row g (nodal l) maincards mainangles satelliteangles satelliteratios row))
-
-    pub shallow-worked : (none row : ℕ) → none ≡ firstRow (placeIn 3 maincards) place 0 mains → mains ≤ none → row ≡ firstRow (placeIn 6 shallowcards) place 0 shallows → row < shallows → v ≡ shallowRowArgument l mains mainangles shallowcards coefficients row → correctedOf c ≡ shallowRowCorrected (listed (rowCorrected g (nodal l) maincards satelliteangles satelliteratios) 0 mains) shallowcards coefficients row → IsWorked g l all alsoAll place (record { argument = v; corrected = c })
-    unfolding argumentOf correctionOf
-    shallow-worked none row e h e′ h′ a k =
-        worked (shallow (shallowOf shallowcards coefficients row)) (no-main none e h ∙ among-found row e′ h′) (a ∙ shallow-row l maincards mainangles satelliteangles satelliteratios mains shallowcards coefficients row) (k ∙ shallow-pair-row row)
-
-    pub none-worked : (none row : ℕ) → none ≡ firstRow (placeIn 3 maincards) place 0 mains → mains ≤ none → row ≡ firstRow (placeIn 6 shallowcards) place 0 shallows → shallows ≤ row → v ≡ 0 → correctedOf c ≡ pair (record { x = pos 0; y = pos 0 }) → IsWorked g l all alsoAll place (record { argument = v; corrected = c })
-    unfolding argumentOf correctionOf
-    none-worked none row e h e′ h′ a k = worked undefined (no-main none e h ∙ among-missing row e′ h′) a k
+  pub ready-nothing : r ≡ found.Nothing → Kept argument corrected vs xs ys → Ready argument corrected shallowcards r vs xs ys
+  ready-nothing e w = subst (λ f. Ready argument corrected shallowcards f vs xs ys) (sym e) (record { kept = w; has = tt })

@@ -1,21 +1,14 @@
--- The month of the rows is the month of 01's table; and its longitudes are below a turn. By the view's definitions.
-use mathlib.Core.Path.{_≡_, sym, ap, subst}
-use mathlib.Core.List.{List}
-use Prim.Native.Nat.{ℕ, _<_}
-use lib.IntN.{ℤ}
-use lib.ListN.{getD}
-use Rattle.angles.specs.Ticks.{turn}
+-- The month of the rows is the month of 01's table. By the view's definitions.
+use mathlib.Core.Path.{_≡_}
+use Prim.Native.Nat.{ℕ}
 use Rattle.table.specs.View.{frequencyOf, tableOf}
 use Rattle.table.specs.declared.Table.{Table}
 use Rattle.station.specs.Station.{Station}
-use Rattle.arguments.specs.Longitudes.{longitudesOn}
-use Rattle.arguments.specs.View.{longitudesOf}
-use Rattle.arguments.specs.declared.Longitudes as code
-use Rattle.arguments.proofs.Reduced.{longitude-below}
-use Rattle.arguments.proofs.Views.{listed-map}
+use Rattle.entries.proofs.Beyond.{listed-map}
+use Rattle.astronomy.specs.Longitudes.{longitudesOn}
 use Rattle.latitude.specs.Latitude.{factorsAt}
 use Rattle.month.specs.Month.{monthDay, monthOf}
-use Rattle.month.specs.View.{rowsPrepared, Reduced}
+use Rattle.month.specs.View.{rowsPrepared}
 
 pub rows-are-month : (t : Table) (s : Station) (year month : ℕ) → rowsPrepared t (factorsAt (s .latitude)) (longitudesOn (monthDay year month) (t .longitudes) (t .increases)) 1 (s .records) ≡ monthOf (tableOf t) s year month
 unfolding monthOf tableOf frequencyOf

@@ -1,12 +1,9 @@
--- The month that the code answers with, the lists that rows of the code's table stand for, and the first row with a place.
-use Prim.Native.Nat.{ℕ, zero, suc, _<_}
+-- The month that the code answers with, the lists that rows of the code's table stand for, and a constituent from what is kept of the mains.
+use Prim.Native.Nat.{ℕ, _+_, _<_}
 use mathlib.Core.Path.{_≡_}
-use mathlib.Core.Bool.{cond}
 use mathlib.Core.List.{List}
-use lib.Dec.{eqb}
-use lib.IntN.{ℤ}
+use lib.IntN.{ℤ, pos}
 use lib.ListN.{getD}
-use Rattle.angles.specs.Ticks.{turn}
 use Rattle.prepared.specs.Prepared.{Constituent}
 use Rattle.prepared.specs.View.{constituentsFrom, constituentsOf}
 use Rattle.prepared.specs.declared.Month.{Month}
@@ -14,21 +11,28 @@ use Rattle.table.specs.Table.{Main, Shallow}
 use Rattle.table.specs.View.{listed, naturals, mainOf, shallowOf}
 use Rattle.table.specs.declared.Table as table
 use Rattle.records.specs.declared.Record.{Record}
-use Rattle.arguments.specs.declared.Longitudes as longitudes
-use Rattle.arguments.specs.Longitudes.{Longitudes}
+use Rattle.definitions.specs.Definitions.{definitionAt}
+use Rattle.definitions.specs.declared.Found.{Found}
+use Rattle.definitions.specs.declared.Found.the-variants as found
+use Rattle.astronomy.specs.Longitudes.{Longitudes}
+use Rattle.arguments.specs.Arguments as arguments
 use Rattle.latitude.specs.Latitude.{Factors}
-use Rattle.nodal.specs.Ranges.{Small}
-use Rattle.nodal.specs.View.{correctedOf}
-use Rattle.month.specs.Month.{Prepared, tooLarge, prepared, definitionAt, argumentOf, correctionOf, recordsPrepared}
+use Rattle.pairs.specs.Pairs.{Corrected, pair, one}
+use Rattle.pairs.specs.Ranges.{Small}
+use Rattle.pairs.specs.View.{correctedOf}
+use Rattle.nodal.specs.Shallow as shallow
+use Rattle.nodal.specs.View.{pairsOf}
+use Rattle.workings.specs.Kept.{Has, Kept}
+use Rattle.month.specs.Month.{Prepared, tooLarge, prepared, argumentOf, correctionOf, recordsPrepared}
 use Rattle.month.specs.declared.Worked.{Worked}
 use Rattle.month.specs.declared.Preparation.{Preparation}
-use Rattle.month.specs.declared.Preparation.the-variants.{Ready, TooLarge}
+use Rattle.month.specs.declared.Preparation.the-variants as preparation
 use Rattle.month.specs.declared.Prepared as code
 
 -- "A refusal returns its number and a place": number 11, and the record
 abbrev pub answeredWith : Preparation → Month → Prepared
-answeredWith Ready m = prepared (constituentsOf m)
-answeredWith (TooLarge place) m = tooLarge place
+answeredWith preparation.Ready m = prepared (constituentsOf m)
+answeredWith (preparation.TooLarge place) m = tooLarge place
 
 abbrev pub preparedOf : code.Prepared → Prepared
 preparedOf r = answeredWith (r .answer) (r .month)
@@ -52,22 +56,34 @@ shallowsOf cards coefficients n = listed (shallowOf cards coefficients) 0 n
 abbrev pub rowsPrepared : table.Table → Factors → Longitudes → ℕ → List Record → Prepared
 rowsPrepared t = recordsPrepared (frequenciesOf (t .speeds) (t .frequencies)) (mainsOf (t .maincards) (t .mainangles) (t .satelliteangles) (t .satelliteratios) (t .mains)) (shallowsOf (t .shallowcards) (t .coefficients) (t .shallows))
 
--- the place in a row of cards of some width
-abbrev pub placeIn : ℕ → List ℕ → ℕ → ℕ
-placeIn width cards k = getD (naturals width cards k) 0 0
+-- ---- a record's constituent
 
--- the first of n rows from k on whose place this is, or the row after them
-unfoldable pub firstRow : (ℕ → ℕ) → ℕ → ℕ → ℕ → ℕ
-firstRow placeOf place k zero = k
-firstRow placeOf place k (suc n) = cond (eqb (placeOf k) place) k (firstRow placeOf place (suc k) n)
+-- the mains that a constituent needs are worked out
+abbrev pub HasMains : List ℕ → Found → List ℕ → Type 0
+HasMains shallowcards (found.Main k) vs = Has vs k
+HasMains shallowcards (found.Shallow k) vs = (j : ℕ) → j < getD (naturals 6 shallowcards k) 1 0 → Has vs (getD (naturals 6 shallowcards k) (2 + j) 0)
+HasMains shallowcards found.Nothing vs = Unit
 
--- ---- ranges
+pub record Ready (argument : ℕ → ℕ) (corrected : ℕ → Corrected) (shallowcards : List ℕ) (r : Found) (vs : List ℕ) (xs ys : List ℤ) : Type 0 where
+  pub kept : Kept argument corrected vs xs ys
+  pub has : HasMains shallowcards r vs
 
--- the longitudes that satellites go by are below a turn
-pub record Reduced (l : longitudes.Longitudes) : Type 0 where
-  pub perigee : l .perigee < turn
-  pub node : l .node < turn
-  pub solar : l .solar < turn
+-- V of a constituent, from the mains' V
+abbrev pub argumentFrom : List ℕ → List ℕ → List ℤ → Found → ℕ
+argumentFrom vs shallowcards coefficients (found.Main k) = getD vs k 0
+argumentFrom vs shallowcards coefficients (found.Shallow k) = arguments.fromParts vs (shallowOf shallowcards coefficients k)
+argumentFrom vs shallowcards coefficients found.Nothing = 0
+
+-- its pair, from the mains' pairs
+abbrev pub pairFrom : List Corrected → List ℕ → List ℤ → Found → Corrected
+pairFrom pairs shallowcards coefficients (found.Main k) = getD pairs k (pair one)
+pairFrom pairs shallowcards coefficients (found.Shallow k) = shallow.fromParts pairs (shallowOf shallowcards coefficients k)
+pairFrom pairs shallowcards coefficients found.Nothing = pair (record { x = pos 0; y = pos 0 })
+
+pub record FromMains (vs : List ℕ) (xs ys : List ℤ) (shallowcards : List ℕ) (coefficients : List ℤ) (r : Found) (w : Worked) : Type 0 where
+  pub argument : w .argument ≡ argumentFrom vs shallowcards coefficients r
+  pub correction : correctedOf (w .corrected) ≡ pairFrom (pairsOf xs ys) shallowcards coefficients r
+  pub small : Small (w .corrected)
 
 -- what a record's constituent needs of the table: V, and the pair or refusal 11, of what stands at its place
 pub record IsWorked (g : Factors) (l : Longitudes) (mains : List Main) (shallows : List Shallow) (place : ℕ) (r : Worked) : Type 0 where

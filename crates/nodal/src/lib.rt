@@ -44,11 +44,7 @@ fn times_row_part<'a>(
     ensures { λ r. ⌜ Small r ⌝ }
 {
     let main = index(natural_at(cards, 6, k, 2 + j));
-    times_part(
-        p,
-        pair_at(xs, ys, main),
-        integer_at(coefficients, 4, k, j),
-    )
+    times_part(p, pair_at(xs, ys, main), integer_at(coefficients, 4, k, j))
 }
 
 // The pair of the shallow constituent in row k.

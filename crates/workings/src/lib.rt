@@ -97,7 +97,16 @@ pub fn work_main<'a>(
     if vs[k] < TURN {
         return;
     }
-    let p = sum_of(cosines, cards, satelliteangles, ratios, mains, k, g, nodal_of(l));
+    let p = sum_of(
+        cosines,
+        cards,
+        satelliteangles,
+        ratios,
+        mains,
+        k,
+        g,
+        nodal_of(l),
+    );
     let x = p.x;
     let y = p.y;
     vs[k] = argument_of(angles, mains, k, l);
@@ -131,7 +140,20 @@ pub fn work_parts<'a>(
     let mut j = 0;
     while j < count {
         let main = index(natural_at(shallowcards, 6, row, 2 + j));
-        work_main(cosines, cards, angles, satelliteangles, ratios, mains, main, g, l, vs, xs, ys);
+        work_main(
+            cosines,
+            cards,
+            angles,
+            satelliteangles,
+            ratios,
+            mains,
+            main,
+            g,
+            l,
+            vs,
+            xs,
+            ys,
+        );
         j = j + 1;
     }
 }

@@ -6,8 +6,8 @@ use native.Mathlib.Numerals.{add-one}
 use native.Mathlib.Omega.{arith}
 use lib.Dec.{eqb}
 use Rattle.table.specs.View.{listed}
-use Rattle.month.specs.Month.{Definition, firstWith}
-use Rattle.month.specs.View.{firstRow}
+use Rattle.definitions.specs.Definitions.{Definition, firstWith}
+use Rattle.definitions.specs.View.{firstRow}
 
 module _ (f : ℕ → ℕ) (place : ℕ) where
   pub first-more : (k n : ℕ) → k < n → firstRow f place k (n - k) ≡ cond (eqb (f k) place) k (firstRow f place (k + 1) (n - (k + 1)))
