@@ -15,7 +15,8 @@ use Rattle.latitude.specs.Latitude.{Factors}
 use Rattle.satellites.specs.Satellites.{Pair}
 use Rattle.pairs.specs.Pairs as pairs
 use Rattle.pairs.specs.Pairs.{Corrected, pair}
-use Rattle.month.specs.Month.{Prepared, tooLarge, prepared, before, recordThen, recordsPrepared, argumentOf, correctionOf, constituent, frequenciesIn, monthOf}
+use Rattle.worked.specs.Worked.{argumentOf, correctionOf}
+use Rattle.month.specs.Month.{Prepared, tooLarge, prepared, before, recordThen, recordsPrepared, constituent, frequenciesIn, monthOf}
 
 module _ (most : ℕ) (none : Constituent) (z : none .frequency ≡ 0) where
   -- every frequency of a list

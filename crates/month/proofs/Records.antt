@@ -21,9 +21,10 @@ use Rattle.satellites.specs.View.{pairOf}
 use Rattle.pairs.specs.View.{correctedOf}
 use Rattle.satellites.specs.declared.Pair as code
 use Rattle.pairs.specs.declared.Corrected.the-variants.{TooLarge, Within}
-use Rattle.month.specs.Month.{Prepared, tooLarge, prepared, before, recordThen, recordsPrepared, argumentOf, correctionOf, weight, constituent}
-use Rattle.month.specs.View.{IsWorked}
-use Rattle.month.specs.declared.Worked.{Worked}
+use Rattle.worked.specs.Worked.{argumentOf, correctionOf}
+use Rattle.month.specs.Month.{Prepared, tooLarge, prepared, before, recordThen, recordsPrepared, weight, constituent}
+use Rattle.worked.specs.View.{IsWorked}
+use Rattle.worked.specs.declared.Worked.{Worked}
 
 -- what is done goes before what is left
 joined : (cs : List Constituent) (c : Constituent) (rest : Prepared) → before cs (before (c ∷ []) rest) ≡ before (cs ++ (c ∷ [])) rest

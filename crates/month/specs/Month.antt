@@ -10,32 +10,17 @@ use Rattle.table.specs.Table.{Main, Shallow, Table}
 use Rattle.prepared.specs.Prepared.{Constituent}
 use Rattle.station.specs.Station.{Station}
 use Rattle.records.specs.declared.Record.{Record}
-use Rattle.definitions.specs.Definitions.{Definition, main, shallow, undefined, definitionAt}
-use Rattle.astronomy.specs.Longitudes.{Longitudes, longitudesOn, nodal}
-use Rattle.arguments.specs.Arguments.{mainArgument, shallowArgument}
+use Rattle.definitions.specs.Definitions.{definitionAt}
+use Rattle.astronomy.specs.Longitudes.{Longitudes, longitudesOn}
 use Rattle.latitude.specs.Latitude.{Factors, factorsAt}
 use Rattle.satellites.specs.Satellites.{Pair}
 use Rattle.pairs.specs.Pairs as pairs
 use Rattle.pairs.specs.Pairs.{Corrected, pair}
-use Rattle.nodal.specs.Shallow.{mainCorrected, shallowCorrected}
+use Rattle.worked.specs.Worked.{argumentOf, correctionOf}
 
 -- "The month's instant is 00:00 on the 16th; d is its day count from 1 January 1976."
 unfoldable pub monthDay : ℕ → ℕ → ℤ
 monthDay year month = dayCount year month 16
-
--- ---- its V, and its pair X, Y
-
--- V, in ticks. (Nothing where there is no definition.)
-unfoldable pub argumentOf : Longitudes → List Main → Definition → ℕ
-argumentOf l mains (main m) = mainArgument l m
-argumentOf l mains (shallow s) = shallowArgument l mains s
-argumentOf l mains undefined = 0
-
--- the pair, or none by refusal 11. (Nothing where there is no definition.)
-unfoldable pub correctionOf : Factors → Longitudes → List Main → Definition → Corrected
-correctionOf g l mains (main m) = mainCorrected g (nodal l) m
-correctionOf g l mains (shallow s) = shallowCorrected g (nodal l) mains s
-correctionOf g l mains undefined = pair (record { x = pos 0; y = pos 0 })
 
 -- ---- a record's constituent
 

@@ -1,26 +1,19 @@
 // A station's constituents in a month: V, frequency and the weights P and Q of each record, or refusal 11.
 use angles::TURN;
 use angles::floor_div;
-use arguments::shallow_argument;
 use astronomy::Longitudes;
 use astronomy::longitudes_on;
 use calendar::day_count;
-use definitions::Found;
-use definitions::find;
 use latitude::Factors;
 use latitude::latitude_factors;
-use nodal::pair_at;
-use nodal::shallow_pair;
 use pairs::Corrected;
 use prepared::Month;
 use prepared::held;
 use prepared::no_constituents;
-use satellites::Pair;
 use station::Station;
 use table::Table;
 use table::at_u64;
-use workings::work_main;
-use workings::work_parts;
+use worked::work_out;
 ghost use mathlib.Core.Path.{_≡_};
 ghost use mathlib.Core.Bool.{true};
 ghost use Prim.Native.Nat.{_<_, _≤_, _^_};
@@ -31,12 +24,11 @@ ghost use Rattle.cosine.specs.Fixed.{IsTable};
 ghost use Rattle.table.specs.View.{tableOf};
 ghost use Rattle.records.specs.Rows.{recordsFrom};
 ghost use Rattle.station.specs.Rows.{stationOf};
-ghost use Rattle.astronomy.specs.Longitudes.{nodal};
 ghost use Rattle.astronomy.specs.View.{longitudesOf, Reduced};
 ghost use Rattle.latitude.specs.Ranges.{AreFactors, factorsOf};
-ghost use Rattle.workings.specs.Kept.{argumentAt, correctedAt, Kept};
 ghost use Rattle.month.specs.Month.{weight, recordsPrepared, monthOf};
-ghost use Rattle.month.specs.View.{preparedOf, frequenciesOf, mainsOf, shallowsOf, Ready, FromMains, IsWorked};
+ghost use Rattle.worked.specs.View.{mainsOf, shallowsOf};
+ghost use Rattle.month.specs.View.{preparedOf, frequenciesOf};
 
 // What preparing a month says: that it is ready, or the record, from 1, that is refused by 11.
 pub enum Preparation {
@@ -48,12 +40,6 @@ pub enum Preparation {
 pub struct Prepared {
     pub answer: Preparation,
     pub month: Month,
-}
-
-// What stands at a place of the table: its V, and its pair or refusal 11.
-pub struct Worked {
-    pub argument: u64,
-    pub corrected: Corrected,
 }
 
 // The weight of an amplitude, from X or Y.
@@ -73,137 +59,6 @@ fn frequency_at(speeds: &[u64; 160], frequencies: usize, place: u8) -> u64
     } else {
         0
     }
-}
-
-// Works out the mains that a constituent needs, those that are not yet.
-fn work_mains<'a>(
-    found: Found,
-    cosines: &'a [u32; 1025],
-    maincards: &'a [u16; 192],
-    mainangles: &'a [i8; 448],
-    satelliteangles: &'a [i8; 1024],
-    satelliteratios: &'a [u32; 512],
-    mains: usize,
-    shallowcards: &'a [u16; 768],
-    g: Factors,
-    l: Longitudes,
-    vs: &mut [u64; 64],
-    xs: &mut [i64; 64],
-    ys: &mut [i64; 64],
-)
-    requires { ⌜ IsTable (now cosines) ⌝ }
-    requires { ⌜ AreFactors g ⌝ }
-    requires { ⌜ Reduced l ⌝ }
-    requires { ⌜ Kept (argumentAt (longitudesOf l) (now mainangles) mains) (correctedAt (factorsOf g) (nodal (longitudesOf l)) (now maincards) (now satelliteangles) (now satelliteratios) mains) (now vs) (now xs) (now ys) ⌝ }
-    ensures { λ _. ⌜ Ready (argumentAt (longitudesOf l) (now (mainangles .entry)) mains) (correctedAt (factorsOf g) (nodal (longitudesOf l)) (now (maincards .entry)) (now (satelliteangles .entry)) (now (satelliteratios .entry)) mains) (now (shallowcards .entry)) found (now (vs .exit)) (now (xs .exit)) (now (ys .exit)) ⌝ }
-{
-    match found {
-        Found::Main(row) => {
-            work_main(
-                cosines,
-                maincards,
-                mainangles,
-                satelliteangles,
-                satelliteratios,
-                mains,
-                row,
-                g,
-                l,
-                vs,
-                xs,
-                ys,
-            );
-        }
-        Found::Shallow(row) => {
-            work_parts(
-                cosines,
-                maincards,
-                mainangles,
-                satelliteangles,
-                satelliteratios,
-                mains,
-                shallowcards,
-                row,
-                g,
-                l,
-                vs,
-                xs,
-                ys,
-            );
-        }
-        Found::Nothing => {}
-    }
-}
-
-// V and the pair of a constituent, from those of the mains.
-fn from_mains<'a>(
-    found: Found,
-    vs: &'a [u64; 64],
-    xs: &'a [i64; 64],
-    ys: &'a [i64; 64],
-    shallowcards: &'a [u16; 768],
-    coefficients: &'a [i8; 512],
-) -> Worked
-    ensures { λ r. ⌜ FromMains (now (vs .entry)) (now (xs .entry)) (now (ys .entry)) (now (shallowcards .entry)) (now (coefficients .entry)) found r ⌝ }
-{
-    match found {
-        Found::Main(row) => Worked {
-            argument: at_u64(vs, row),
-            corrected: pair_at(xs, ys, row),
-        },
-        Found::Shallow(row) => Worked {
-            argument: shallow_argument(vs, shallowcards, coefficients, row),
-            corrected: shallow_pair(xs, ys, shallowcards, coefficients, row),
-        },
-        Found::Nothing => Worked {
-            argument: 0,
-            corrected: Corrected::Within(Pair { x: 0, y: 0 }),
-        },
-    }
-}
-
-// V and the pair of what stands at a place of the table, from the table's rows.
-fn work_out<'a>(
-    cosines: &'a [u32; 1025],
-    mains: usize,
-    maincards: &'a [u16; 192],
-    mainangles: &'a [i8; 448],
-    satelliteangles: &'a [i8; 1024],
-    satelliteratios: &'a [u32; 512],
-    shallows: usize,
-    shallowcards: &'a [u16; 768],
-    coefficients: &'a [i8; 512],
-    place: u8,
-    g: Factors,
-    l: Longitudes,
-    vs: &mut [u64; 64],
-    xs: &mut [i64; 64],
-    ys: &mut [i64; 64],
-) -> Worked
-    requires { ⌜ IsTable (now cosines) ⌝ }
-    requires { ⌜ AreFactors g ⌝ }
-    requires { ⌜ Reduced l ⌝ }
-    requires { ⌜ Kept (argumentAt (longitudesOf l) (now mainangles) mains) (correctedAt (factorsOf g) (nodal (longitudesOf l)) (now maincards) (now satelliteangles) (now satelliteratios) mains) (now vs) (now xs) (now ys) ⌝ }
-    ensures { λ r. ⌜ IsWorked (factorsOf g) (longitudesOf l) (mainsOf (now (maincards .entry)) (now (mainangles .entry)) (now (satelliteangles .entry)) (now (satelliteratios .entry)) mains) (shallowsOf (now (shallowcards .entry)) (now (coefficients .entry)) shallows) place r ⌝ }
-    ensures { λ _. ⌜ Kept (argumentAt (longitudesOf l) (now (mainangles .entry)) mains) (correctedAt (factorsOf g) (nodal (longitudesOf l)) (now (maincards .entry)) (now (satelliteangles .entry)) (now (satelliteratios .entry)) mains) (now (vs .exit)) (now (xs .exit)) (now (ys .exit)) ⌝ }
-{
-    let found = find(maincards, mains, shallowcards, shallows, place);
-    work_mains(
-        found,
-        cosines,
-        maincards,
-        mainangles,
-        satelliteangles,
-        satelliteratios,
-        mains,
-        shallowcards,
-        g,
-        l,
-        vs,
-        xs,
-        ys,
-    );
-    from_mains(found, vs, xs, ys, shallowcards, coefficients)
 }
 
 // The month of n records: each in its turn, until one is refused by 11.

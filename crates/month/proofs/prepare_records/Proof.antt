@@ -20,7 +20,8 @@ use Rattle.records.specs.Rows.{recordsFrom}
 use Rattle.workings.specs.Kept.{argumentAt, correctedAt, Kept}
 use Rattle.workings.proofs.None.{none-kept}
 use Rattle.month.specs.Month.{before, prepared, weight, recordsPrepared}
-use Rattle.month.specs.View.{heldUpto, frequenciesOf, mainsOf, shallowsOf}
+use Rattle.worked.specs.View.{mainsOf, shallowsOf}
+use Rattle.month.specs.View.{heldUpto, frequenciesOf}
 use Rattle.month.proofs.Put.{Room, with-one, room-kept, stands-last}
 use Rattle.month.proofs.Records.{left, all-done, none-done, refused-at, accepted-at}
 use borrow.Author.Needs.{needs}

@@ -1,8 +1,8 @@
--- `month::work_mains` meets its contract: a case for each that can be found.
-use Rattle.month.proofs.OfRows.{ready-main, ready-shallow, ready-nothing}
+-- `worked::work_mains` meets its contract: a case for each that can be found.
+use Rattle.worked.proofs.OfRows.{ready-main, ready-shallow, ready-nothing}
 use borrow.Author.Needs.{needs}
-use Rattle.month.proofs.work_mains.Statement.{statement}
-use Rattle.month.proofs.work_mains.Tie as tie
+use Rattle.worked.proofs.work_mains.Statement.{statement}
+use Rattle.worked.proofs.work_mains.Tie as tie
 
 enum-known-found : tie.Need-enum-known-found
 enum-known-found c = search needs

@@ -1,10 +1,10 @@
--- `month::from_mains` meets its contract: a case for each that can be found.
+-- `worked::from_mains` meets its contract: a case for each that can be found.
 use mathlib.Core.Path.{refl, sym, subst}
 use lib.Dec.{lit≤}
-use Rattle.month.specs.View.{FromMains}
+use Rattle.worked.specs.View.{FromMains}
 use borrow.Author.Needs.{needs}
-use Rattle.month.proofs.from_mains.Statement.{statement}
-use Rattle.month.proofs.from_mains.Tie as tie
+use Rattle.worked.proofs.from_mains.Statement.{statement}
+use Rattle.worked.proofs.from_mains.Tie as tie
 
 enum-known-found : tie.Need-enum-known-found
 enum-known-found c = search needs

@@ -22,9 +22,9 @@ use Rattle.nodal.specs.View.{rowCorrected, pairsOf}
 use Rattle.nodal.proofs.OfTable.{main-of-row, mains-of-rows}
 use Rattle.workings.specs.Kept.{argumentAt, correctedAt, Kept, WithMain, WithParts}
 use Rattle.workings.proofs.Agree.{shallow-argument-is, shallow-pair-is}
-use Rattle.month.specs.Month.{argumentOf, correctionOf}
-use Rattle.month.specs.View.{mainsOf, shallowsOf, Ready, argumentFrom, pairFrom, FromMains, IsWorked}
-use Rattle.month.specs.declared.Worked.{Worked}
+use Rattle.worked.specs.Worked.{argumentOf, correctionOf}
+use Rattle.worked.specs.View.{mainsOf, shallowsOf, Ready, argumentFrom, pairFrom, FromMains, IsWorked}
+use Rattle.worked.specs.declared.Worked.{Worked}
 
 module _ (g : Factors) (l : Longitudes) (maincards : List ℕ) (mainangles satelliteangles : List ℤ) (satelliteratios : List ℕ) (mains : ℕ) (shallowcards : List ℕ) (coefficients : List ℤ) (vs : List ℕ) (xs ys : List ℤ) where
   -- V and the pair of what a row stands for

@@ -1,10 +1,10 @@
--- `month::work_out` meets its contract: what is found, from the mains that it needs (`OfRows`).
+-- `worked::work_out` meets its contract: what is found, from the mains that it needs (`OfRows`).
 use Rattle.astronomy.specs.View.{longitudesOf}
 use Rattle.latitude.specs.Ranges.{factorsOf}
-use Rattle.month.proofs.OfRows.{worked-out}
+use Rattle.worked.proofs.OfRows.{worked-out}
 use borrow.Author.Needs.{needs}
-use Rattle.month.proofs.work_out.Statement.{statement}
-use Rattle.month.proofs.work_out.Tie as tie
+use Rattle.worked.proofs.work_out.Statement.{statement}
+use Rattle.worked.proofs.work_out.Tie as tie
 
 find-requires : tie.Need-find-requires
 find-requires c κs = search needs
