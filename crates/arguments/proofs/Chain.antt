@@ -1,73 +1,35 @@
--- V as the code adds it up: term by term, reduced modulo T after each. From the laws of angles modulo a turn. Assumes nothing.
+-- V as the code adds it up. From the laws of angles modulo a turn. Assumes nothing.
 use mathlib.Core.Path.{_≡_, sym, ap, _∙_}
 use mathlib.Core.List.{List, [], _∷_}
-use Prim.Native.Nat.{ℕ, _+_, _-_, _≤_, _<_}
-use native.Mathlib.Nat.{one-mul, sub-zero}
+use Prim.Native.Nat.{ℕ, _+_, _-_, _≤_, _<_, _%_}
+use native.Mathlib.Nat.{sub-zero}
 use native.Mathlib.Omega.{arith}
-use lib.IntN.{ℤ, pos, negsuc, negℤ, _+ℤ_, _-ℤ_, _*ℤ_, +ℤ-assoc, +ℤ-idl, +ℤ-idr}
+use lib.IntN.{ℤ, pos, _+ℤ_, _*ℤ_, +ℤ-assoc, +ℤ-idl, +ℤ-idr}
 use lib.ListN.{getD}
 use Rattle.angles.specs.Ticks.{turn, centicycle}
 use Rattle.angles.specs.Floor.{modTurn}
-use Rattle.angles.proofs.Angles.{of-sum}
+use Rattle.angles.proofs.Angles.{of-sum, again}
 use Rattle.table.specs.View.{listed, partOf, naturals, integers, shallowOf}
 use Rattle.table.proofs.Rows.{listed-next, listed-end}
-use Rattle.arguments.specs.Longitudes.{Longitudes}
-use Rattle.arguments.specs.Arguments.{lunarTime, times, argument, sumOfParts}
-use Rattle.arguments.specs.View.{rowArgument, shallowRowArgument}
-use Rattle.arguments.proofs.Reduced.{factor-reduced}
+use Rattle.astronomy.specs.Longitudes.{Longitudes, times}
+use Rattle.arguments.specs.Arguments.{lunarTime, astronomical, argument, sumOfParts, fromParts}
+use Rattle.arguments.proofs.Reduced.{times-reduced}
 
--- an angle known modulo T, and one term more
-pub with-term : {v : ℕ} (a b : ℤ) → v ≡ modTurn a → modTurn (pos v +ℤ b) ≡ modTurn (a +ℤ b)
-with-term {v} a b e = ap (λ (n : ℕ). modTurn (pos n +ℤ b)) e ∙ of-sum a b
+seven : (a b c d e f p : ℤ) → a +ℤ b +ℤ c +ℤ d +ℤ e +ℤ f +ℤ p ≡ a +ℤ (b +ℤ (c +ℤ (d +ℤ (e +ℤ (f +ℤ pos 0))))) +ℤ p
+seven a b c d e f p = simp (+ℤ-assoc, +ℤ-idr)
 
--- h - s, and a number of times it
-lunar : (h s : ℕ) → pos h +ℤ negsuc 0 *ℤ pos s ≡ pos h -ℤ pos s
-lunar h s = ap (λ (m : ℕ). pos h +ℤ negℤ (pos m)) (one-mul s)
-
-first-term : (n : ℤ) (h s t : ℕ) → t ≡ modTurn (pos h +ℤ negsuc 0 *ℤ pos s) → modTurn (pos 0 +ℤ n *ℤ pos t) ≡ modTurn (n *ℤ (pos h -ℤ pos s))
-first-term n h s t e =
-    ap (λ (m : ℕ). modTurn (pos 0 +ℤ n *ℤ pos m)) (e ∙ ap modTurn (lunar h s)) ∙ factor-reduced (pos 0) n (pos h -ℤ pos s)
-    ∙ ap modTurn (+ℤ-idl (n *ℤ (pos h -ℤ pos s)))
-
-six : (a b c d e f p : ℤ) → a +ℤ b +ℤ c +ℤ d +ℤ e +ℤ f +ℤ p ≡ a +ℤ (b +ℤ (c +ℤ (d +ℤ (e +ℤ (f +ℤ pos 0))))) +ℤ p
-six a b c d e f p = simp (+ℤ-assoc, +ℤ-idr)
-
-module _ (l : Longitudes) (n₀ n₁ n₂ n₃ n₄ n₅ n₆ : ℤ) {t v₀ v₁ v₂ v₃ v₄ v₅ v₆ : ℕ} where
-  pub argument-chain : t ≡ modTurn (pos (l .h) +ℤ negsuc 0 *ℤ pos (l .s)) → v₀ ≡ modTurn (pos 0 +ℤ n₀ *ℤ pos t)
-      → v₁ ≡ modTurn (pos v₀ +ℤ n₁ *ℤ pos (l .s)) → v₂ ≡ modTurn (pos v₁ +ℤ n₂ *ℤ pos (l .h)) → v₃ ≡ modTurn (pos v₂ +ℤ n₃ *ℤ pos (l .p))
-      → v₄ ≡ modTurn (pos v₃ +ℤ n₄ *ℤ pos (l .n′)) → v₅ ≡ modTurn (pos v₄ +ℤ n₅ *ℤ pos (l .p′)) → v₆ ≡ modTurn (pos v₅ +ℤ n₆ *ℤ pos centicycle)
-      → v₆ ≡ argument l (n₀ ∷ n₁ ∷ n₂ ∷ n₃ ∷ n₄ ∷ n₅ ∷ []) n₆
-  unfolding argument times
-  argument-chain e e₀ e₁ e₂ e₃ e₄ e₅ e₆ =
-      e₆
-      ∙ with-term (a₀ +ℤ a₁ +ℤ a₂ +ℤ a₃ +ℤ a₄ +ℤ a₅) a₆ (e₅
-      ∙ with-term (a₀ +ℤ a₁ +ℤ a₂ +ℤ a₃ +ℤ a₄) a₅ (e₄
-      ∙ with-term (a₀ +ℤ a₁ +ℤ a₂ +ℤ a₃) a₄ (e₃
-      ∙ with-term (a₀ +ℤ a₁ +ℤ a₂) a₃ (e₂
-      ∙ with-term (a₀ +ℤ a₁) a₂ (e₁
-      ∙ with-term a₀ a₁ (e₀ ∙ first-term n₀ (l .h) (l .s) t e))))))
-      ∙ ap modTurn (six a₀ a₁ a₂ a₃ a₄ a₅ a₆)
-    where
-      a₀ : ℤ
-      a₀ = n₀ *ℤ lunarTime l
-
-      a₁ : ℤ
-      a₁ = n₁ *ℤ pos (l .s)
-
-      a₂ : ℤ
-      a₂ = n₂ *ℤ pos (l .h)
-
-      a₃ : ℤ
-      a₃ = n₃ *ℤ pos (l .p)
-
-      a₄ : ℤ
-      a₄ = n₄ *ℤ pos (l .n′)
-
-      a₅ : ℤ
-      a₅ = n₅ *ℤ pos (l .p′)
-
-      a₆ : ℤ
-      a₆ = n₆ *ℤ pos centicycle
+-- V from its seven terms, each with its angle reduced
+pub seven-terms : (l : Longitudes) (n₀ n₁ n₂ n₃ n₄ n₅ n₆ : ℤ) (t : ℕ) → t ≡ modTurn (lunarTime (l .h) (l .s))
+    → modTurn (n₀ *ℤ pos (t % turn) +ℤ n₁ *ℤ pos (l .s % turn) +ℤ n₂ *ℤ pos (l .h % turn) +ℤ n₃ *ℤ pos (l .p % turn) +ℤ n₄ *ℤ pos (l .n′ % turn) +ℤ n₅ *ℤ pos (l .p′ % turn) +ℤ n₆ *ℤ pos (centicycle % turn))
+    ≡ argument l (n₀ ∷ n₁ ∷ n₂ ∷ n₃ ∷ n₄ ∷ n₅ ∷ []) n₆
+unfolding argument times
+seven-terms l n₀ n₁ n₂ n₃ n₄ n₅ n₆ t e =
+    ap (λ (m : ℕ). modTurn (n₀ *ℤ pos m +ℤ n₁ *ℤ pos (l .s % turn) +ℤ n₂ *ℤ pos (l .h % turn) +ℤ n₃ *ℤ pos (l .p % turn) +ℤ n₄ *ℤ pos (l .n′ % turn) +ℤ n₅ *ℤ pos (l .p′ % turn) +ℤ n₆ *ℤ pos (centicycle % turn))) reduced
+    ∙ ap modTurn (seven (n₀ *ℤ pos (modTurn (lunarTime (l .h) (l .s)))) (n₁ *ℤ pos (l .s % turn)) (n₂ *ℤ pos (l .h % turn)) (n₃ *ℤ pos (l .p % turn)) (n₄ *ℤ pos (l .n′ % turn)) (n₅ *ℤ pos (l .p′ % turn)) (n₆ *ℤ pos centicycle))
+    ∙ times-reduced (n₀ ∷ n₁ ∷ n₂ ∷ n₃ ∷ n₄ ∷ n₅ ∷ []) (astronomical l) (n₆ *ℤ pos centicycle)
+  where
+    reduced : t % turn ≡ modTurn (lunarTime (l .h) (l .s))
+    reduced = ap (λ (m : ℕ). m % turn) e ∙ again (lunarTime (l .h) (l .s))
 
 -- the parts that are left, from part j on
 module _ (vs card : List ℕ) (coefficients : List ℤ) where
@@ -83,6 +45,6 @@ module _ (vs card : List ℕ) (coefficients : List ℤ) where
   parts-none v j n h small = rw (listed-end (partOf card coefficients) j n h) (ap modTurn (+ℤ-idr (pos v)) ∙ omega arith)
 
 -- all of them, from the first on
-pub parts-all : (l : Longitudes) (mains : ℕ) (angles : List ℤ) (cards : List ℕ) (coefficients : List ℤ) (k n : ℕ) → n ≡ getD (naturals 6 cards k) 1 0 → modTurn (pos 0 +ℤ sumOfParts (listed (rowArgument l angles) 0 mains) (listed (partOf (naturals 6 cards k) (integers 4 coefficients k)) 0 (n - 0))) ≡ shallowRowArgument l mains angles cards coefficients k
-unfolding shallowRowArgument shallowOf
-parts-all l mains angles cards coefficients k n e = rw (sub-zero n, e) (ap modTurn (+ℤ-idl (sumOfParts (listed (rowArgument l angles) 0 mains) (listed (partOf (naturals 6 cards k) (integers 4 coefficients k)) 0 (getD (naturals 6 cards k) 1 0)))))
+pub parts-all : (vs cards : List ℕ) (coefficients : List ℤ) (k n : ℕ) → n ≡ getD (naturals 6 cards k) 1 0 → modTurn (pos 0 +ℤ sumOfParts vs (listed (partOf (naturals 6 cards k) (integers 4 coefficients k)) 0 (n - 0))) ≡ fromParts vs (shallowOf cards coefficients k)
+unfolding fromParts shallowOf
+parts-all vs cards coefficients k n e = rw (sub-zero n, e) (ap modTurn (+ℤ-idl (sumOfParts vs (listed (partOf (naturals 6 cards k) (integers 4 coefficients k)) 0 (getD (naturals 6 cards k) 1 0)))))

@@ -1,4 +1,3 @@
 pub mod Reduced
-pub mod Rows
 pub mod Chain
 pub mod Views

@@ -1,94 +1,46 @@
--- The angles that the code reduces before it adds: `advanced` and a longitude. From the laws of angles modulo a turn. Assumes nothing.
-use mathlib.Core.Path.{_≡_, refl, sym, ap, subst, _∙_}
-use Prim.Native.Nat.{ℕ, suc, _*_, _/_, _%_, _≤_, _<_}
-use native.Mathlib.Nat.{mod-lt, mod-add-div', div-le-self}
-use native.Mathlib.Omega.{arith}
-use lib.IntN.{ℤ, pos, negsuc, negℤ, natAbs, _+ℤ_, _*ℤ_, +ℤ-assoc, *ℤ-comm, negℤ-+ℤ}
-use lib.Signed.{remZ, quotZ}
-use Rattle.angles.specs.Ticks.{turn, tenBillionth}
+-- Angles that the code reduces before it adds. From the laws of angles modulo a turn. Assumes nothing.
+use mathlib.Core.Path.{_≡_, refl, sym, ap, _∙_}
+use mathlib.Core.List.{List, [], _∷_, map}
+use Prim.Native.Nat.{ℕ, _%_}
+use native.Mathlib.Nat.{one-mul}
+use lib.IntN.{ℤ, pos, negsuc, negℤ, _+ℤ_, _-ℤ_, _*ℤ_, +ℤ-assoc, +ℤ-comm}
+use Rattle.angles.specs.Ticks.{turn}
 use Rattle.angles.specs.Floor.{modTurn}
-use Rattle.angles.proofs.Ints.{natAbs-neg, neg-mul, distrib, assoc}
-use Rattle.angles.proofs.Angles.{below-turn, periodic, of-sum, of-sum-right, of-product}
-use Rattle.arguments.specs.Longitudes.{longitude}
+use Rattle.angles.proofs.Angles.{of-sum, of-sum-right, of-product}
+use Rattle.astronomy.specs.Longitudes.{times}
 
--- ---- division toward zero: quotient and remainder
-
-pub rem-quot : (z : ℤ) (n : ℕ) → z ≡ remZ z (pos n) +ℤ quotZ z (pos n) *ℤ pos n
-rem-quot (pos a) n = ap pos (sym (mod-add-div' a n))
-rem-quot (negsuc a) n =
-    sym
-    (ap (λ (z : ℤ). negℤ (pos (suc a % n)) +ℤ z) (neg-mul (pos (suc a / n)) (pos n))
-    ∙ sym (negℤ-+ℤ (pos (suc a % n)) (pos (suc a / n * n)))
-    ∙ ap (λ (m : ℕ). negℤ (pos m)) (mod-add-div' (suc a) n))
-
-pub rem-size : (z : ℤ) (n : ℕ) → 0 < n → natAbs (remZ z (pos n)) < n
-rem-size (pos a) n h = mod-lt a h
-rem-size (negsuc a) n h = subst (λ (m : ℕ). m < n) (sym (natAbs-neg (pos (suc a % n)))) (mod-lt (suc a) h)
-
-pub quot-size : (z : ℤ) (n : ℕ) → natAbs (quotZ z (pos n)) ≤ natAbs z
-quot-size (pos a) n = div-le-self a n
-quot-size (negsuc a) n = subst (λ (m : ℕ). m ≤ suc a) (sym (natAbs-neg (pos (suc a / n)))) (div-le-self (suc a) n)
-
--- ---- an angle, and a number of times another
-
--- the other may be reduced first
-pub factor-reduced : (a n b : ℤ) → modTurn (a +ℤ n *ℤ pos (modTurn b)) ≡ modTurn (a +ℤ n *ℤ b)
-factor-reduced a n b =
+-- a factor may be reduced first, in the last term or in the first
+pub last-reduced : (a n b : ℤ) → modTurn (a +ℤ n *ℤ pos (modTurn b)) ≡ modTurn (a +ℤ n *ℤ b)
+last-reduced a n b =
     sym (of-sum-right a (n *ℤ pos (modTurn b))) ∙ ap (λ (m : ℕ). modTurn (a +ℤ pos m)) (of-product n b) ∙ of-sum-right a (n *ℤ b)
 
--- and both
-pub both-reduced : (n : ℤ) (a b : ℕ) → modTurn (pos (a % turn) +ℤ n *ℤ pos (b % turn)) ≡ modTurn (pos a +ℤ n *ℤ pos b)
-both-reduced n a b = of-sum (pos a) (n *ℤ pos (b % turn)) ∙ factor-reduced (pos a) n (pos b)
+pub first-reduced : (n b r : ℤ) → modTurn (n *ℤ pos (modTurn b) +ℤ r) ≡ modTurn (n *ℤ b +ℤ r)
+first-reduced n b r =
+    sym (of-sum (n *ℤ pos (modTurn b)) r) ∙ ap (λ (m : ℕ). modTurn (pos m +ℤ r)) (of-product n b) ∙ of-sum (n *ℤ b) r
 
--- ---- k times a number, which counts modulo T / k
+-- and in every term
+pub times-reduced : (ns angles : List ℤ) (r : ℤ) → modTurn (times ns (map (λ a. pos (modTurn a)) angles) +ℤ r) ≡ modTurn (times ns angles +ℤ r)
+unfolding times
+times-reduced [] angles r = refl
+times-reduced (n ∷ ns) [] r = refl
+times-reduced (n ∷ ns) (a ∷ angles) r =
+    ap modTurn (+ℤ-assoc (n *ℤ pos (modTurn a)) (times ns (map (λ a. pos (modTurn a)) angles)) r)
+    ∙ first-reduced n a (times ns (map (λ a. pos (modTurn a)) angles) +ℤ r)
+    ∙ ap modTurn (exchanged (n *ℤ a) (times ns (map (λ a. pos (modTurn a)) angles)) r)
+    ∙ times-reduced ns angles (n *ℤ a +ℤ r)
+    ∙ ap modTurn (sym (exchanged (n *ℤ a) (times ns angles) r) ∙ sym (+ℤ-assoc (n *ℤ a) (times ns angles) r))
+  where
+    exchanged : (a b c : ℤ) → a +ℤ (b +ℤ c) ≡ b +ℤ (a +ℤ c)
+    exchanged a b c = sym (+ℤ-assoc a b c) ∙ ap (λ (z : ℤ). z +ℤ c) (+ℤ-comm a b) ∙ +ℤ-assoc b a c
 
-module _ (k part : ℕ) (whole : part * k ≡ turn) where
-  parts-dropped : (a r q : ℤ) → modTurn (a +ℤ pos k *ℤ (r +ℤ q *ℤ pos part)) ≡ modTurn (a +ℤ pos k *ℤ r)
-  parts-dropped a r q =
-      ap (λ (z : ℤ). modTurn (a +ℤ z)) (distrib (pos k) r (q *ℤ pos part) ∙ ap (λ (z : ℤ). pos k *ℤ r +ℤ z) turns)
-      ∙ ap modTurn (sym (+ℤ-assoc a (pos k *ℤ r) (q *ℤ pos turn)))
-      ∙ periodic (a +ℤ pos k *ℤ r) q
-    where
-      turns : pos k *ℤ (q *ℤ pos part) ≡ q *ℤ pos turn
-      turns = *ℤ-comm (pos k) (q *ℤ pos part) ∙ assoc q (pos part) (pos k) ∙ ap (λ (n : ℕ). q *ℤ pos n) whole
+-- one time and minus one time
+pub once : (n : ℕ) → pos 1 *ℤ pos n ≡ pos n
+once n = ap pos (one-mul n)
 
-  -- a factor reduced modulo that, and then the product
-  pub rate-reduced : (a d : ℤ) (c : ℕ) → modTurn (a +ℤ pos k *ℤ remZ (d *ℤ pos (c % part)) (pos part)) ≡ modTurn (a +ℤ pos k *ℤ d *ℤ pos c)
-  rate-reduced a d c =
-      sym (parts-dropped a (remZ x (pos part)) (quotZ x (pos part)))
-      ∙ ap (λ (z : ℤ). modTurn (a +ℤ pos k *ℤ z)) (sym (rem-quot x part))
-      ∙ sym (parts-dropped a x (d *ℤ pos (c / part)))
-      ∙ ap (λ (z : ℤ). modTurn (a +ℤ z)) (ap (λ (z : ℤ). pos k *ℤ z) (sym parts) ∙ sym (assoc (pos k) d (pos c)))
-    where
-      x : ℤ
-      x = d *ℤ pos (c % part)
+pub minus-once : (a : ℤ) (n : ℕ) → a +ℤ negsuc 0 *ℤ pos n ≡ a -ℤ pos n
+minus-once a n = ap (λ (m : ℕ). a +ℤ negℤ (pos m)) (one-mul n)
 
-      parts : d *ℤ pos c ≡ x +ℤ d *ℤ pos (c / part) *ℤ pos part
-      parts =
-          ap (λ (n : ℕ). d *ℤ pos n) (sym (mod-add-div' c part))
-          ∙ distrib d (pos (c % part)) (pos (c / part * part))
-          ∙ ap (λ (z : ℤ). x +ℤ z) (sym (assoc d (pos (c / part)) (pos part)))
-
--- a cycle in 10^-10 cycle, and T / 216
-abbrev pub cycle : ℕ
-cycle = turn / tenBillionth
-
-abbrev pub span : ℕ
-span = turn / 216
-
--- card one counts modulo a cycle
-start-reduced : (c : ℕ) → tenBillionth * (c % cycle) % turn ≡ tenBillionth * c % turn
-start-reduced c = omega arith
-
-pub longitude-reduced : (d : ℤ) (card₁ card₂ : ℕ) → modTurn (pos (tenBillionth * (card₁ % cycle)) +ℤ pos 216 *ℤ remZ (d *ℤ pos (card₂ % span)) (pos span)) ≡ longitude d card₁ card₂
-unfolding longitude
-longitude-reduced d card₁ card₂ =
-    rate-reduced 216 span refl (pos (tenBillionth * (card₁ % cycle))) d card₂
-    ∙ sym (of-sum (pos (tenBillionth * (card₁ % cycle))) (pos 216 *ℤ d *ℤ pos card₂))
-    ∙ ap (λ (n : ℕ). modTurn (pos n +ℤ pos 216 *ℤ d *ℤ pos card₂)) (start-reduced card₁)
-    ∙ of-sum (pos (tenBillionth * card₁)) (pos 216 *ℤ d *ℤ pos card₂)
-
--- every longitude is below a turn
-pub longitude-below : (d : ℤ) (card₁ card₂ : ℕ) → longitude d card₁ card₂ < turn
-unfolding longitude
-longitude-below d card₁ card₂ = below-turn (pos (tenBillionth * card₁) +ℤ pos 216 *ℤ d *ℤ pos card₂)
+-- two angles joined: one as it is, a number of times the other
+pub joined : (n : ℤ) (a b : ℕ) → modTurn (pos 1 *ℤ pos (a % turn) +ℤ n *ℤ pos (b % turn)) ≡ modTurn (pos a +ℤ n *ℤ pos b)
+joined n a b =
+    first-reduced (pos 1) (pos a) (n *ℤ pos (b % turn)) ∙ ap (λ (z : ℤ). modTurn (z +ℤ n *ℤ pos (b % turn))) (once a) ∙ last-reduced (pos a) n (pos b)

@@ -6,21 +6,15 @@ use lib.ListN.{getD}
 use Rattle.angles.specs.Ticks.{centicycle}
 use Rattle.angles.specs.Floor.{modTurn}
 use Rattle.table.specs.Table.{Main, Part, Shallow}
-use Rattle.arguments.specs.Longitudes.{Longitudes}
+use Rattle.astronomy.specs.Longitudes.{Longitudes, times}
 
 -- "Lunar time at midnight is h - s."
-abbrev pub lunarTime : Longitudes → ℤ
-lunarTime l = pos (l .h) -ℤ pos (l .s)
+abbrev pub lunarTime : ℕ → ℕ → ℤ
+lunarTime h s = pos h -ℤ pos s
 
 -- "(lunar time, s, h, p, N', p')"
 abbrev pub astronomical : Longitudes → List ℤ
-astronomical l = lunarTime l ∷ pos (l .s) ∷ pos (l .h) ∷ pos (l .p) ∷ pos (l .n′) ∷ pos (l .p′) ∷ []
-
--- whole numbers times angles, added up
-unfoldable pub times : List ℤ → List ℤ → ℤ
-times [] angles = pos 0
-times (n ∷ ns) [] = pos 0
-times (n ∷ ns) (a ∷ angles) = n *ℤ a +ℤ times ns angles
+astronomical l = lunarTime (l .h) (l .s) ∷ pos (l .s) ∷ pos (l .h) ∷ pos (l .p) ∷ pos (l .n′) ∷ pos (l .p′) ∷ []
 
 -- "V is the Doodson numbers times (lunar time, s, h, p, N', p'), plus phase, modulo T." The phase is in hundredths of a cycle.
 unfoldable pub argument : Longitudes → List ℤ → ℤ → ℕ
@@ -36,5 +30,8 @@ sumOfParts vs [] = pos 0
 sumOfParts vs (part ∷ parts) = part .coefficient *ℤ pos (getD vs (part .main) 0) +ℤ sumOfParts vs parts
 
 -- modulo T, as every V
-unfoldable pub shallowArgument : Longitudes → List Main → Shallow → ℕ
-shallowArgument l mains s = modTurn (sumOfParts (map (mainArgument l) mains) (s .parts))
+unfoldable pub fromParts : List ℕ → Shallow → ℕ
+fromParts vs s = modTurn (sumOfParts vs (s .parts))
+
+abbrev pub shallowArgument : Longitudes → List Main → Shallow → ℕ
+shallowArgument l mains s = fromParts (map (mainArgument l) mains) s

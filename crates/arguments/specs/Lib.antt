@@ -1,3 +1,2 @@
-pub mod Longitudes
 pub mod Arguments
 pub mod View

@@ -9,8 +9,8 @@ use lib.IntN.{ℤ, pos, negsuc, negℤ, _*ℤ_, *ℤ-one, *ℤ-zero, *ℤ-negsuc
 use Rattle.cosine.specs.Fraction.{factorial, arc, unit, term, added, taken, whole, base}
 use Rattle.cosine.specs.Fixed.{one, entry, fixedBase, fixedCosine}
 use Rattle.calendar.specs.Calendar.{isFourth, monthDays, monthsDays, yearsDays, dayCount}
-use Rattle.arguments.specs.Longitudes.{longitude, longitudesOn}
-use Rattle.arguments.specs.Arguments.{times, argument}
+use Rattle.astronomy.specs.Longitudes.{longitude, longitudesOn, times}
+use Rattle.arguments.specs.Arguments.{argument}
 use Rattle.satellites.specs.Satellites.{sumOver, mainPair}
 use Rattle.month.specs.Month.{constituent}
 use Rattle.heights.specs.Height.{heightAt}

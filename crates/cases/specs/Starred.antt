@@ -9,12 +9,12 @@ use Rattle.angles.specs.Ticks.{tenBillionth}
 use Rattle.angles.specs.Floor.{modTurn}
 use Rattle.cosine.specs.Fixed.{step, entry}
 use Rattle.calendar.specs.Calendar.{dayCount}
-use Rattle.arguments.specs.Longitudes.{Longitudes, longitudesOn}
+use Rattle.astronomy.specs.Longitudes.{Longitudes, longitudesOn, nodal}
 use Rattle.arguments.specs.Arguments.{argument}
 use Rattle.prepared.specs.Prepared.{Constituent}
 use Rattle.latitude.specs.Latitude.{factorsAt}
 use Rattle.satellites.specs.Satellites.{mainPair}
-use Rattle.month.specs.Month.{nodal, constituent}
+use Rattle.month.specs.Month.{constituent}
 use Rattle.minuteangle.specs.Angle.{angle}
 use Rattle.heights.specs.Height.{heightAt}
 use Rattle.tides.specs.Stride.{strideBy}

@@ -1,6 +1,4 @@
-pub mod Search
 pub mod Put
-pub mod OfRows
 pub mod Records
 pub mod Whole
 pub mod Ranges

@@ -1,14 +1,16 @@
 -- A constituent put at place k stands after those before it. By recursion on the places before k, from the laws of stores in lists.
-use mathlib.Core.Path.{_≡_, ap}
+use mathlib.Core.Path.{_≡_, ap, _∙_}
 use mathlib.Core.List.{List, [], _∷_, _++_}
 use Prim.Native.Nat.{ℕ, zero, suc, _+_, _<_}
 use native.Mathlib.Numerals.{add-one}
 use native.Mathlib.Omega.{arith}
 use lib.IntN.{ℤ, pos}
-use lib.ListN.{length, set}
+use lib.ListN.{length, set, length-set}
 use lib.Seq.{getD-set-same, getD-set-other}
 use Rattle.prepared.specs.Prepared.{Constituent}
 use Rattle.prepared.specs.View.{constituentAt, constituentsAfter}
+use Rattle.prepared.specs.declared.Month.{Month}
+use Rattle.month.specs.View.{heldUpto}
 
 module _ (arguments lags frequencies : List ℕ) (ps qs : List ℤ) (k : ℕ) (argument lag frequency : ℕ) (p q : ℤ) where
   -- the five lists with the new numbers, from place j on
@@ -28,3 +30,31 @@ module _ (arguments lags frequencies : List ℕ) (ps qs : List ℤ) (k : ℕ) (a
 
     pub put-last : stored 0 (k + 1) ≡ constituentsAfter arguments lags frequencies ps qs 0 k ++ (record { argument = argument; lag = lag; frequency = frequency; p = p; q = q } ∷ [])
     put-last = rw (add-one k) (put-from 0 k (omega arith))
+
+-- a month's arrays have 146 places
+pub record Room (m : Month) : Type 0 where
+  pub arguments : length (m .arguments) ≡ 146
+  pub lags : length (m .lags) ≡ 146
+  pub frequencies : length (m .frequencies) ≡ 146
+  pub ps : length (m .ps) ≡ 146
+  pub qs : length (m .qs) ≡ 146
+
+-- a month with a constituent at place k
+module _ (m : Month) (k argument lag frequency : ℕ) (p q : ℤ) (r : Room m) where
+  abbrev pub with-one : Month
+  with-one = record { count = m .count; arguments = set (m .arguments) k argument; lags = set (m .lags) k lag; frequencies = set (m .frequencies) k frequency; ps = set (m .ps) k p; qs = set (m .qs) k q }
+
+  pub room-kept : Room with-one
+  room-kept =
+      record {
+        arguments = length-set (m .arguments) k argument ∙ r .arguments;
+        lags = length-set (m .lags) k lag ∙ r .lags;
+        frequencies = length-set (m .frequencies) k frequency ∙ r .frequencies;
+        ps = length-set (m .ps) k p ∙ r .ps;
+        qs = length-set (m .qs) k q ∙ r .qs;
+      }
+
+  pub stands-last : k < 146 → heldUpto with-one (k + 1) ≡ heldUpto m k ++ (record { argument = argument; lag = lag; frequency = frequency; p = p; q = q } ∷ [])
+  stands-last h =
+      put-last (m .arguments) (m .lags) (m .frequencies) (m .ps) (m .qs) k argument lag frequency p q
+      (omega (arith, r .arguments)) (omega (arith, r .lags)) (omega (arith, r .frequencies)) (omega (arith, r .ps)) (omega (arith, r .qs))

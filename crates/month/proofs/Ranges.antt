@@ -9,12 +9,14 @@ use Rattle.table.specs.Table.{Table, Frequency, Main, Shallow}
 use Rattle.prepared.specs.Prepared.{Constituent}
 use Rattle.station.specs.Station.{Station}
 use Rattle.records.specs.declared.Record.{Record}
-use Rattle.arguments.specs.Longitudes.{Longitudes}
+use Rattle.astronomy.specs.Longitudes.{Longitudes}
+use Rattle.definitions.specs.Definitions.{definitionAt}
 use Rattle.latitude.specs.Latitude.{Factors}
 use Rattle.satellites.specs.Satellites.{Pair}
-use Rattle.nodal.specs.Shallow as pairs
-use Rattle.nodal.specs.Shallow.{Corrected, pair}
-use Rattle.month.specs.Month.{Prepared, tooLarge, prepared, before, recordThen, recordsPrepared, definitionAt, argumentOf, correctionOf, constituent, frequenciesIn, monthOf}
+use Rattle.pairs.specs.Pairs as pairs
+use Rattle.pairs.specs.Pairs.{Corrected, pair}
+use Rattle.worked.specs.Worked.{argumentOf, correctionOf}
+use Rattle.month.specs.Month.{Prepared, tooLarge, prepared, before, recordThen, recordsPrepared, constituent, frequenciesIn, monthOf}
 
 module _ (most : ℕ) (none : Constituent) (z : none .frequency ≡ 0) where
   -- every frequency of a list

@@ -9,20 +9,22 @@ use lib.ListN.{getD}
 use Rattle.table.specs.Table.{Main, Shallow}
 use Rattle.prepared.specs.Prepared.{Constituent}
 use Rattle.records.specs.Rows.{recordFrom, recordsFrom}
-use Rattle.arguments.specs.Longitudes.{Longitudes}
+use Rattle.astronomy.specs.Longitudes.{Longitudes}
+use Rattle.definitions.specs.Definitions.{definitionAt}
 use Rattle.latitude.specs.Latitude.{Factors}
 use Rattle.satellites.specs.Satellites.{Pair}
-use Rattle.nodal.specs.Shallow as pairs
-use Rattle.nodal.specs.Shallow.{pair}
-use Rattle.nodal.specs.Ranges.{Small}
+use Rattle.pairs.specs.Pairs as pairs
+use Rattle.pairs.specs.Pairs.{pair}
+use Rattle.pairs.specs.Ranges.{Small}
 use Rattle.satellites.specs.Ranges.{Sized}
 use Rattle.satellites.specs.View.{pairOf}
-use Rattle.nodal.specs.View.{correctedOf}
+use Rattle.pairs.specs.View.{correctedOf}
 use Rattle.satellites.specs.declared.Pair as code
-use Rattle.nodal.specs.declared.Corrected.the-variants.{TooLarge, Within}
-use Rattle.month.specs.Month.{Prepared, tooLarge, prepared, before, recordThen, recordsPrepared, definitionAt, argumentOf, correctionOf, weight, constituent}
-use Rattle.month.specs.View.{IsWorked}
-use Rattle.month.specs.declared.Worked.{Worked}
+use Rattle.pairs.specs.declared.Corrected.the-variants.{TooLarge, Within}
+use Rattle.worked.specs.Worked.{argumentOf, correctionOf}
+use Rattle.month.specs.Month.{Prepared, tooLarge, prepared, before, recordThen, recordsPrepared, weight, constituent}
+use Rattle.worked.specs.View.{IsWorked}
+use Rattle.worked.specs.declared.Worked.{Worked}
 
 -- what is done goes before what is left
 joined : (cs : List Constituent) (c : Constituent) (rest : Prepared) → before cs (before (c ∷ []) rest) ≡ before (cs ++ (c ∷ [])) rest

@@ -1,9 +1,7 @@
 -- 01, Arguments and Satellites and weights: a station's constituents in a prepared month, or refusal 11. All of it follows from the table,
 -- the latitude, the records and the date.
 use Prim.Native.Nat.{ℕ, _+_}
-use mathlib.Core.Bool.{cond}
 use mathlib.Core.List.{List, [], _∷_, _++_, map}
-use lib.Dec.{eqb}
 use lib.IntN.{ℤ, pos, _*ℤ_}
 use lib.ListN.{getD}
 use Rattle.angles.specs.Floor.{floorDiv}
@@ -12,52 +10,17 @@ use Rattle.table.specs.Table.{Main, Shallow, Table}
 use Rattle.prepared.specs.Prepared.{Constituent}
 use Rattle.station.specs.Station.{Station}
 use Rattle.records.specs.declared.Record.{Record}
-use Rattle.arguments.specs.Longitudes.{Longitudes, longitudesOn}
-use Rattle.arguments.specs.Arguments.{mainArgument, shallowArgument}
+use Rattle.definitions.specs.Definitions.{definitionAt}
+use Rattle.astronomy.specs.Longitudes.{Longitudes, longitudesOn}
 use Rattle.latitude.specs.Latitude.{Factors, factorsAt}
 use Rattle.satellites.specs.Satellites.{Pair}
-use Rattle.nodal.specs.Shallow as pairs
-use Rattle.nodal.specs.Shallow.{Corrected, pair, mainCorrected, shallowCorrected}
+use Rattle.pairs.specs.Pairs as pairs
+use Rattle.pairs.specs.Pairs.{Corrected, pair}
+use Rattle.worked.specs.Worked.{argumentOf, correctionOf}
 
 -- "The month's instant is 00:00 on the 16th; d is its day count from 1 January 1976."
 unfoldable pub monthDay : ℕ → ℕ → ℤ
 monthDay year month = dayCount year month 16
-
--- ---- what stands at a place of the table
-
--- "Every frequency name needs exactly one definition": the main or the shallow constituent that has a place.
--- (No accepted table leaves one of its places undefined.)
-pub data Definition : Type 0 where
-  main : Main → Definition
-  shallow : Shallow → Definition
-  undefined : Definition
-
--- the first of a list that has the place, or what else there is
-unfoldable pub firstWith : {A : Type 0} → (A → ℕ) → ℕ → (A → Definition) → Definition → List A → Definition
-firstWith placeOf place found otherwise [] = otherwise
-firstWith placeOf place found otherwise (x ∷ xs) = cond (eqb (placeOf x) place) (found x) (firstWith placeOf place found otherwise xs)
-
-unfoldable pub definitionAt : List Main → List Shallow → ℕ → Definition
-definitionAt mains shallows place =
-    firstWith (λ m. m .place) place main (firstWith (λ s. s .place) place shallow undefined shallows) mains
-
--- ---- its V, and its pair X, Y
-
--- V, in ticks. (Nothing where there is no definition.)
-unfoldable pub argumentOf : Longitudes → List Main → Definition → ℕ
-argumentOf l mains (main m) = mainArgument l m
-argumentOf l mains (shallow s) = shallowArgument l mains s
-argumentOf l mains undefined = 0
-
--- "(p, N', p')"
-abbrev pub nodal : Longitudes → List ℕ
-nodal l = l .p ∷ l .n′ ∷ l .p′ ∷ []
-
--- the pair, or none by refusal 11. (Nothing where there is no definition.)
-unfoldable pub correctionOf : Factors → Longitudes → List Main → Definition → Corrected
-correctionOf g l mains (main m) = mainCorrected g (nodal l) m
-correctionOf g l mains (shallow s) = shallowCorrected g (nodal l) mains s
-correctionOf g l mains undefined = pair (record { x = pos 0; y = pos 0 })
 
 -- ---- a record's constituent
 

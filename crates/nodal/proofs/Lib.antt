@@ -1,3 +1,2 @@
-pub mod Beyond
 pub mod Multiplying
 pub mod OfTable

@@ -1,36 +1,21 @@
--- The pairs by rows of the code's arrays are those of 01's table: what the layer above cites to pass from rows to `tableOf`.
--- By the definitions, and entry by entry. Assumes nothing.
-use mathlib.Core.Path.{_≡_, refl, ap}
-use mathlib.Core.List.{List, _∷_, map}
-use Prim.Native.Nat.{ℕ, zero, suc}
+-- The pairs by rows of the code's arrays are those of 01's table. By the definitions, and entry by entry. Assumes nothing.
+use mathlib.Core.Path.{_≡_, refl}
+use mathlib.Core.List.{List, map}
+use Prim.Native.Nat.{ℕ}
 use lib.IntN.{ℤ}
-use Rattle.table.specs.View.{listed, mainOf, shallowOf, tableOf}
-use Rattle.table.specs.declared.Table.{Table}
+use Rattle.table.specs.View.{listed, mainOf}
+use Rattle.entries.proofs.Beyond.{listed-map}
 use Rattle.latitude.specs.Latitude.{Factors}
-use Rattle.nodal.specs.Shallow.{mainCorrected, one, timesParts, shallowCorrected}
-use Rattle.nodal.specs.View.{rowSatellites, rowCorrected, shallowRowCorrected}
+use Rattle.nodal.specs.Shallow.{mainCorrected}
+use Rattle.nodal.specs.View.{rowSatellites, rowCorrected}
 
-map-listed : {A B : Type 0} (f : A → B) (entry : ℕ → A) (k n : ℕ) → map f (listed entry k n) ≡ listed (λ j. f (entry j)) k n
-unfolding listed
-map-listed f entry k zero = refl
-map-listed f entry k (suc n) = ap (λ l. f (entry k) ∷ l) (map-listed f entry (suc k) n)
-
-module _ (g : Factors) (longitudes : List ℕ) where
+module _ (g : Factors) (longitudes : List ℕ) (cards : List ℕ) (angles satelliteangles : List ℤ) (ratios : List ℕ) where
   -- a main's row
-  pub main-of-row : (cards : List ℕ) (angles satelliteangles : List ℤ) (ratios : List ℕ) (k : ℕ)
-      → mainCorrected g longitudes (mainOf cards angles satelliteangles ratios k) ≡ rowCorrected g longitudes cards satelliteangles ratios k
+  pub main-of-row : (k : ℕ) → mainCorrected g longitudes (mainOf cards angles satelliteangles ratios k) ≡ rowCorrected g longitudes cards satelliteangles ratios k
   unfolding mainCorrected mainOf rowCorrected rowSatellites
-  main-of-row cards angles satelliteangles ratios k = refl
+  main-of-row k = refl
 
-  -- all mains of a table
-  pub mains-of-table : (t : Table)
-      → map (mainCorrected g longitudes) (tableOf t .mains) ≡ listed (rowCorrected g longitudes (t .maincards) (t .satelliteangles) (t .satelliteratios)) 0 (t .mains)
-  unfolding tableOf mainCorrected mainOf rowCorrected rowSatellites
-  mains-of-table t = map-listed (mainCorrected g longitudes) (mainOf (t .maincards) (t .mainangles) (t .satelliteangles) (t .satelliteratios)) 0 (t .mains)
-
-  -- a shallow constituent's row
-  pub shallow-of-table : (t : Table) (k : ℕ)
-      → shallowCorrected g longitudes (tableOf t .mains) (shallowOf (t .shallowcards) (t .coefficients) k)
-      ≡ shallowRowCorrected (listed (rowCorrected g longitudes (t .maincards) (t .satelliteangles) (t .satelliteratios)) 0 (t .mains)) (t .shallowcards) (t .coefficients) k
-  unfolding shallowCorrected shallowRowCorrected
-  shallow-of-table t k = ap (λ ms. timesParts ms one (shallowOf (t .shallowcards) (t .coefficients) k .parts)) (mains-of-table t)
+  -- all mains
+  pub mains-of-rows : (n : ℕ) → map (mainCorrected g longitudes) (listed (mainOf cards angles satelliteangles ratios) 0 n) ≡ listed (rowCorrected g longitudes cards satelliteangles ratios) 0 n
+  unfolding mainCorrected mainOf rowCorrected rowSatellites
+  mains-of-rows n = listed-map (mainCorrected g longitudes) (mainOf cards angles satelliteangles ratios) 0 n

@@ -1,3 +1,2 @@
 pub mod Shallow
-pub mod Ranges
 pub mod View

@@ -1,55 +1,17 @@
--- 01, "Satellites and weights": a shallow-water constituent's pair, and refusal 11.
+-- 01, "Satellites and weights": the pair of a main and of a shallow-water constituent, by refusal 11.
 -- Assumes nothing.
-use Prim.Native.Nat.{ℕ, zero, suc, _^_}
-use mathlib.Core.Bool.{cond}
+use Prim.Native.Nat.{ℕ}
 use mathlib.Core.List.{List, [], _∷_, map}
-use lib.Dec.{ltb}
-use lib.IntN.{ℤ, pos, negsuc, negℤ, natAbs, _+ℤ_, _-ℤ_, _*ℤ_}
+use lib.IntN.{natAbs}
 use lib.ListN.{getD}
-use Rattle.angles.specs.Floor.{floorDiv}
 use Rattle.table.specs.Table.{Main, Part, Shallow}
 use Rattle.latitude.specs.Latitude.{Factors}
 use Rattle.satellites.specs.Satellites.{Pair, mainPair}
-
--- A constituent's pair, or none, by refusal 11.
-pub data Corrected : Type 0 where
-  tooLarge : Corrected
-  pair : Pair → Corrected
-
--- 11: "size of X or Y over 2^22"
-unfoldable pub checked : Pair → Corrected
-checked p = cond (ltb (2 ^ 22) (natAbs (p .x))) tooLarge (cond (ltb (2 ^ 22) (natAbs (p .y))) tooLarge (pair p))
-
--- What follows a pair that is not too large.
-abbrev pub andThen : Corrected → (Pair → Corrected) → Corrected
-andThen tooLarge next = tooLarge
-andThen (pair p) next = next p
+use Rattle.pairs.specs.Pairs.{Corrected, pair, checked, andThen, turned, timesOften, one}
 
 -- 11: ".. for a main when summed"
 unfoldable pub mainCorrected : Factors → List ℕ → Main → Corrected
 mainCorrected g longitudes m = checked (mainPair g longitudes (m .satellites))
-
--- "X = floor((X·x - Y·y)/2^20), Y = floor((X·y + Y·x)/2^20), from old X and Y"
-unfoldable pub timesPair : Pair → Pair → Pair
-timesPair P p =
-    record {
-      x = floorDiv (P .x *ℤ p .x -ℤ P .y *ℤ p .y) (2 ^ 20);
-      y = floorDiv (P .x *ℤ p .y +ℤ P .y *ℤ p .x) (2 ^ 20);
-    }
-
--- ".. with y negated for a negative coefficient"
-unfoldable pub turned : ℤ → Pair → Pair
-turned (pos coefficient) p = p
-turned (negsuc coefficient) p = record { x = p .x; y = negℤ (p .y) }
-
--- ".. as often as its coefficient's size"; 11: ".. or after any shallow multiplication"
-unfoldable pub timesOften : ℕ → Pair → Pair → Corrected
-timesOften zero P p = pair P
-timesOften (suc n) P p = andThen (checked (timesPair P p)) (λ Q. timesOften n Q p)
-
--- "A shallow pair starts at (2^20, 0)"
-abbrev pub one : Pair
-one = record { x = pos (2 ^ 20); y = pos 0 }
 
 -- ".. and is multiplied by each part's pair"; 11: ".. for a shallow record of its parts' mains too".
 -- `mains` are the pairs of all mains. (A position past the last, which no accepted part has, counts as (2^20, 0).)
@@ -61,5 +23,9 @@ unfoldable pub timesParts : List Corrected → Pair → List Part → Corrected
 timesParts mains P [] = pair P
 timesParts mains P (q ∷ qs) = andThen (timesPart mains P q) (λ Q. timesParts mains Q qs)
 
-unfoldable pub shallowCorrected : Factors → List ℕ → List Main → Shallow → Corrected
-shallowCorrected g longitudes mains s = timesParts (map (mainCorrected g longitudes) mains) one (s .parts)
+-- from (2^20, 0), with the pairs of all mains
+unfoldable pub fromParts : List Corrected → Shallow → Corrected
+fromParts mains s = timesParts mains one (s .parts)
+
+abbrev pub shallowCorrected : Factors → List ℕ → List Main → Shallow → Corrected
+shallowCorrected g longitudes mains s = fromParts (map (mainCorrected g longitudes) mains) s

@@ -2,23 +2,18 @@
 -- `longitudes` are the three that satellites go by, (p, N', p') in ticks: N' is the negative of the node already, and stands as it is.
 -- Assumes nothing.
 use Prim.Native.Nat.{ℕ, _^_}
-use mathlib.Core.List.{List, [], _∷_}
+use mathlib.Core.List.{List, [], _∷_, map}
 use lib.IntN.{ℤ, pos, _+ℤ_, _*ℤ_}
 use Rattle.angles.specs.Ticks.{centicycle}
 use Rattle.angles.specs.Floor.{floorDiv, modTurn}
 use Rattle.cosine.specs.Fixed.{fixedCosine, fixedSine}
 use Rattle.table.specs.Table.{Mark, unmarked, diurnal, semidiurnal, Satellite}
+use Rattle.astronomy.specs.Longitudes.{times}
 use Rattle.latitude.specs.Latitude.{Factors}
-
--- Whole numbers times longitudes, added up.
-unfoldable pub times : List ℤ → List ℕ → ℤ
-times [] ls = pos 0
-times (n ∷ ns) [] = pos 0
-times (n ∷ ns) (l ∷ ls) = n *ℤ pos l +ℤ times ns ls
 
 -- "A satellite's angle is its differences times (p, N', p') plus its phase."
 unfoldable pub satelliteAngle : List ℕ → Satellite → ℕ
-satelliteAngle longitudes s = modTurn (times (s .differences) longitudes +ℤ s .phase *ℤ pos centicycle)
+satelliteAngle longitudes s = modTurn (times (s .differences) (map pos longitudes) +ℤ s .phase *ℤ pos centicycle)
 
 -- "With its ratio in ten-thousandths, its terms are floor(ratio × fixed cosine / 10,240,000) and the same with sine;"
 unfoldable pub plainTerm : ℕ → ℤ → ℤ

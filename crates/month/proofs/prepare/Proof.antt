@@ -1,21 +1,24 @@
 -- `month::prepare` meets its contract: a date in range is within 2^15 days of 1976, and the month of the rows is that of the table.
-use borrow.Author.Needs.{needs}
+use borrow.Author.Needs.{needs, length-unmapped}
 use Rattle.month.proofs.prepare.Statement.{statement}
 use Rattle.month.proofs.prepare.Tie as tie
 use mathlib.Core.Path.{_≡_, _∙_}
 use native.Mathlib.Omega.{arith}
 use lib.Dec.{lit≤}
+use lib.ListN.{length}
 use mir.Syntax.{w32, w64}
 use mir.Val.{SFits}
 use mir.ValLaws.{toZ-ofZ}
+use Rattle.angles.proofs.Machine.{fits-below}
 use Rattle.calendar.proofs.Days.{count-small}
-use Rattle.arguments.specs.Longitudes.{longitudesOn}
-use Rattle.arguments.specs.View.{longitudesOf}
+use Rattle.astronomy.specs.Longitudes.{longitudesOn}
+use Rattle.astronomy.specs.View.{longitudesOf}
+use Rattle.astronomy.proofs.Reduced.{are-reduced}
 use Rattle.latitude.specs.Latitude.{factorsAt}
 use Rattle.latitude.specs.Ranges.{factorsOf}
 use Rattle.station.specs.Rows.{stationOf}
 use Rattle.month.specs.Month.{monthDay}
-use Rattle.month.proofs.Whole.{rows-are-month, are-reduced}
+use Rattle.month.proofs.Whole.{rows-are-month}
 
 day-count-requires : tie.Need-day-count-requires
 day-count-requires c κs = search needs
@@ -34,19 +37,22 @@ held-requires c κs = search needs
 
 prepare-records-requires : tie.Need-prepare-records-requires
 prepare-records-requires c κs =
-    let a = c .before .before .before .before .before .before .before .before .before .before .before .before .args in
-    (c .before .before .before .before .before .before .before .before .before .before .before .before .pre .0, (c .before .before .before .before .before .latitude-factors .ensures .1, (are-reduced (c .before .before .before .before .before .before .before .longitudes-on .result) _ (a .t2 .longitudes) (a .t2 .increases) (c .before .before .before .before .before .before .before .longitudes-on .ensures), omega (arith, c .before .before .before .before .held .ensures))))
+    let a = c .before .before .before .before .before .before .before .before .before .before .before .before .before .before .before .before .before .before .before .before .args in
+    let table = c .before .before .before .before .before .before .before .before .before .before .before .before .before .before .before .before .before .before .before .before .good .1 .0 in
+    let angles : length (a .t2 .mainangles) ≡ 448 = length-unmapped _ (a .t2 .mainangles) 448 (table .1 .1 .1 .1 .1 .1 .1 .1 .1 .0 .1 .0 .1) in
+    let cards : length (a .t2 .maincards) ≡ 192 = length-unmapped _ (a .t2 .maincards) 192 (table .1 .1 .1 .1 .1 .1 .1 .1 .0 .1 .0 .1) in
+    (c .before .before .before .before .before .before .before .before .before .before .before .before .before .before .before .before .before .before .before .before .pre .0, (c .before .before .before .before .before .before .before .before .before .before .before .before .before .latitude-factors .ensures .1, (are-reduced (c .before .before .before .before .before .before .before .before .before .before .before .before .before .before .before .longitudes-on .result) _ (a .t2 .longitudes) (a .t2 .increases) (c .before .before .before .before .before .before .before .before .before .before .before .before .before .before .before .longitudes-on .ensures), (omega (arith, c .before .before .before .before .before .before .before .before .before .before .before .before .held .ensures), angles, cards))))
 
 returns : tie.Need-returns
 unfolding monthDay stationOf
 returns c =
-    let a = c .before .before .before .before .before .before .before .before .before .before .before .before .before .args in
-    let f : SFits w64 (c .before .before .before .before .before .before .before .before .before .before .before .before .day-count .result) = search needs in
-    let h : SFits w32 (a .t3 .latitude) = search needs in
-    let e : longitudesOf (c .before .before .before .before .before .before .before .before .longitudes-on .result) ≡ longitudesOn (monthDay (a .year) (a .month)) (a .t2 .longitudes) (a .t2 .increases) =
-    rw (toZ-ofZ w64 (c .before .before .before .before .before .before .before .before .before .before .before .before .day-count .result) f, c .before .before .before .before .before .before .before .before .before .before .before .before .day-count .ensures) at (c .before .before .before .before .before .before .before .before .longitudes-on .ensures) in
-    let g : factorsOf (c .before .before .before .before .before .before .latitude-factors .result) ≡ factorsAt (a .t3 .latitude) = rw (toZ-ofZ w32 (a .t3 .latitude) h) at (c .before .before .before .before .before .before .latitude-factors .ensures .0) in
-    rw (g, e, c .before .before .before .before .before .held .ensures) at (c .prepare-records .ensures) ∙ rows-are-month (a .t2) (stationOf (a .t3)) (a .year) (a .month)
+    let a = c .before .before .before .before .before .before .before .before .before .before .before .before .before .before .before .before .before .before .before .before .before .args in
+    let f : SFits w64 (c .before .before .before .before .before .before .before .before .before .before .before .before .before .before .before .before .before .before .before .before .day-count .result) = fits-below (c .before .before .before .before .before .before .before .before .before .before .before .before .before .before .before .before .before .before .before .before .day-count .result) (rw (c .before .before .before .before .before .before .before .before .before .before .before .before .before .before .before .before .before .before .before .before .day-count .ensures) (omega (arith, count-small (a .year) (a .month) 16 (c .before .before .before .before .before .before .before .before .before .before .before .before .before .before .before .before .before .before .before .before .before .pre .1) (lit≤ tt)))) in
+    let h : SFits w32 (a .t3 .latitude) = record { sfits = c .before .before .before .before .before .before .before .before .before .before .before .before .before .before .before .struct-told .given .0 .1 } in
+    let e : longitudesOf (c .before .before .before .before .before .before .before .before .before .before .before .before .before .before .before .before .longitudes-on .result) ≡ longitudesOn (monthDay (a .year) (a .month)) (a .t2 .longitudes) (a .t2 .increases) =
+    rw (toZ-ofZ w64 (c .before .before .before .before .before .before .before .before .before .before .before .before .before .before .before .before .before .before .before .before .day-count .result) f, c .before .before .before .before .before .before .before .before .before .before .before .before .before .before .before .before .before .before .before .before .day-count .ensures) at (c .before .before .before .before .before .before .before .before .before .before .before .before .before .before .before .before .longitudes-on .ensures) in
+    let g : factorsOf (c .before .before .before .before .before .before .before .before .before .before .before .before .before .before .latitude-factors .result) ≡ factorsAt (a .t3 .latitude) = rw (toZ-ofZ w32 (a .t3 .latitude) h) at (c .before .before .before .before .before .before .before .before .before .before .before .before .before .before .latitude-factors .ensures .0) in
+    rw (g, e, c .before .before .before .before .before .before .before .before .before .before .before .before .before .held .ensures) at (c .prepare-records .ensures) ∙ rows-are-month (a .t2) (stationOf (a .t3)) (a .year) (a .month)
 
 pub prepare-spec : {M : Type 1} → statement M
 prepare-spec =

@@ -4,40 +4,38 @@ use mathlib.Core.Path.{_≡_, sym, _∙_, ap, subst}
 use Prim.Native.Nat.{_-_, _<_, _^_}
 use native.Mathlib.Omega.{arith}
 use native.Mathlib.Nat.{sub-zero}
-use borrow.Author.Needs.{needs}
 use lib.Dec.{lit≤}
 use Rattle.table.specs.View.{listed, naturals, integers, partOf, shallowOf}
-use Rattle.nodal.specs.Shallow.{tooLarge, pair, timesParts}
 use Rattle.satellites.specs.Ranges.{Sized}
-use Rattle.nodal.specs.Ranges.{Small}
-use Rattle.latitude.specs.Ranges.{factorsOf}
-use Rattle.satellites.specs.View.{longitudesOf, pairOf}
-use Rattle.nodal.specs.View.{correctedOf, rowCorrected, shallowRowCorrected}
+use Rattle.satellites.specs.View.{pairOf}
+use Rattle.pairs.specs.Pairs.{tooLarge, pair}
+use Rattle.pairs.specs.Ranges.{Small}
+use Rattle.pairs.specs.View.{correctedOf}
+use Rattle.nodal.specs.Shallow.{timesParts, fromParts}
+use Rattle.nodal.specs.View.{pairsOf}
 use Rattle.nodal.proofs.Multiplying.{parts-next, parts-none}
+use borrow.Author.Needs.{needs}
 use Rattle.nodal.proofs.shallow_pair.Statement.{statement}
 use Rattle.nodal.proofs.shallow_pair.Tie as tie
 
 abbrev Inv-loop : tie.InvT-loop
-Inv-loop cosines cards angles ratios mains parts coefficients k g l count p₀ j₀ p j =
-    (timesParts (listed (rowCorrected (factorsOf g) (longitudesOf l) cards angles ratios) 0 mains) (pairOf p) (listed (partOf (naturals 6 parts k) (integers 4 coefficients k)) j (count - j))
-    ≡ shallowRowCorrected (listed (rowCorrected (factorsOf g) (longitudesOf l) cards angles ratios) 0 mains) parts coefficients k)
-    × Sized (2 ^ 22) p × (count < 2 ^ 16)
+Inv-loop xs ys cards coefficients k count p₀ j₀ p j = (timesParts (pairsOf xs ys) (pairOf p) (listed (partOf (naturals 6 cards k) (integers 4 coefficients k)) j (count - j)) ≡ fromParts (pairsOf xs ys) (shallowOf cards coefficients k)) × Sized (2 ^ 22) p × (count < 2 ^ 16)
 
 abbrev μ-loop : tie.MeasureT-loop
-μ-loop cosines cards angles ratios mains parts coefficients k g l count p₀ j₀ p j = count - j
+μ-loop xs ys cards coefficients k count p₀ j₀ p j = count - j
 
-card-at-requires : tie.Need-card-at-requires Inv-loop μ-loop
-card-at-requires c κs = search needs
+natural-at-requires : tie.Need-natural-at-requires Inv-loop μ-loop
+natural-at-requires c κs = search needs
 
 index-requires : tie.Need-index-requires Inv-loop μ-loop
 index-requires c κs = search needs
 
 loop-holds : tie.Need-loop-holds Inv-loop μ-loop
-unfolding shallowRowCorrected shallowOf
-loop-holds c = (rw (sub-zero, c .index .ensures .0 ∙ c .before .card-at .ensures), record { x = lit≤ tt; y = lit≤ tt }, c .index .ensures .1)
+unfolding fromParts shallowOf
+loop-holds c = (rw (sub-zero, c .index .ensures .0 ∙ c .before .natural-at .ensures), record { x = lit≤ tt; y = lit≤ tt }, c .index .ensures .1)
 
 times-row-part-requires : tie.Need-times-row-part-requires Inv-loop μ-loop
-times-row-part-requires c κs = (c .before .before .before .before .before .pre .0, (c .before .before .before .before .before .pre .1 .0, (c .before .before .before .before .before .pre .1 .1, (omega (arith, c .before .loop .inv .2, c .loop-test .taken), c .before .loop .inv .1))))
+times-row-part-requires c κs = (omega (arith, c .before .loop .inv .2, c .loop-test .taken), c .before .loop .inv .1)
 
 enum-told : tie.Need-enum-told Inv-loop μ-loop
 enum-told c = search needs
@@ -46,7 +44,7 @@ returns : tie.Need-returns Inv-loop μ-loop
 returns c =
     let s = c .before .before .before .before .loop in
     let a = c .before .before .before .before .before .before .before .before .args in (
-      parts-next (listed (rowCorrected (factorsOf (a .g)) (longitudesOf (a .l)) (a .cards .now) (a .angles .now) (a .ratios .now)) 0 (a .mains)) (partOf (naturals 6 (a .parts .now) (a .k)) (integers 4 (a .coefficients .now) (a .k)))
+      parts-next (pairsOf (a .xs .now) (a .ys .now)) (partOf (naturals 6 (a .cards .now) (a .k)) (integers 4 (a .coefficients .now) (a .k)))
           (s .j) (c .before .before .before .before .before .index .result) (pairOf (s .p)) tooLarge (c .before .before .before .loop-test .taken)
           (sym (ap correctedOf (c .enum-told .given .1)) ∙ c .before .before .times-row-part .ensures .0) ∙ s .inv .0,
       tt,
@@ -66,7 +64,7 @@ loop-again c =
     let s = c .before .before .before .before .before .loop in
     let a = c .before .before .before .before .before .before .before .before .before .args in
     let q = c .before .c .given .0 .0 in (
-      parts-next (listed (rowCorrected (factorsOf (a .g)) (longitudesOf (a .l)) (a .cards .now) (a .angles .now) (a .ratios .now)) 0 (a .mains)) (partOf (naturals 6 (a .parts .now) (a .k)) (integers 4 (a .coefficients .now) (a .k)))
+      parts-next (pairsOf (a .xs .now) (a .ys .now)) (partOf (naturals 6 (a .cards .now) (a .k)) (integers 4 (a .coefficients .now) (a .k)))
           (s .j) (c .before .before .before .before .before .before .index .result) (pairOf (s .p)) (pair (pairOf q)) (c .before .before .before .before .loop-test .taken)
           (sym (ap correctedOf (c .before .c .given .1)) ∙ c .before .before .before .times-row-part .ensures .0) ∙ s .inv .0,
       subst Small (c .before .c .given .1) (c .before .before .before .times-row-part .ensures .1),
@@ -77,8 +75,7 @@ returns-2 : tie.Need-returns-2 Inv-loop μ-loop
 returns-2 c =
     let s = c .before .loop in
     let a = c .before .before .before .before .before .args in (
-      parts-none (listed (rowCorrected (factorsOf (a .g)) (longitudesOf (a .l)) (a .cards .now) (a .angles .now) (a .ratios .now)) 0 (a .mains)) (partOf (naturals 6 (a .parts .now) (a .k)) (integers 4 (a .coefficients .now) (a .k)))
-          (s .j) (c .before .before .index .result) (pairOf (s .p)) (c .loop-test .left) ∙ s .inv .0,
+      parts-none (pairsOf (a .xs .now) (a .ys .now)) (partOf (naturals 6 (a .cards .now) (a .k)) (integers 4 (a .coefficients .now) (a .k))) (s .j) (c .before .before .index .result) (pairOf (s .p)) (c .loop-test .left) ∙ s .inv .0,
       s .inv .1,
     )
 
@@ -88,7 +85,7 @@ shallow-pair-spec =
     (tie.spec
     Inv-loop
     μ-loop
-    card-at-requires
+    natural-at-requires
     index-requires
     loop-holds
     times-row-part-requires

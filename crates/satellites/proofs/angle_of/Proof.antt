@@ -12,7 +12,8 @@ use Rattle.angles.specs.Ticks.{centicycle}
 use Rattle.angles.specs.Floor.{modTurn}
 use Rattle.angles.proofs.Machine.{held}
 use Rattle.angles.proofs.Known.{Known, read, fits, kept, plus}
-use Rattle.satellites.specs.Satellites.{times, satelliteAngle}
+use Rattle.astronomy.specs.Longitudes.{times}
+use Rattle.satellites.specs.Satellites.{satelliteAngle}
 use Rattle.satellites.proofs.angle_of.Statement.{statement}
 use Rattle.satellites.proofs.angle_of.Tie as tie
 

@@ -1,0 +1,2 @@
+pub mod Longitudes
+pub mod View

@@ -1,0 +1,40 @@
+-- `workings::sum_of` meets its contract: the sum over the satellites that the main's row names, or (2^20, 0) past the mains.
+use mathlib.Core.Path.{ap, ap₂, _∙_}
+use Prim.Native.Nat.{ℕ}
+use Rattle.table.specs.View.{listed, satelliteOf}
+use Rattle.entries.proofs.Beyond.{past-entries, entry-at}
+use Rattle.latitude.specs.Ranges.{factorsOf}
+use Rattle.satellites.specs.Satellites.{mainPair}
+use Rattle.satellites.specs.View.{longitudesOf}
+use Rattle.pairs.specs.Pairs.{checked, pair, one}
+use Rattle.nodal.specs.View.{rowSatellites, rowCorrected}
+use borrow.Author.Needs.{needs}
+use Rattle.workings.proofs.sum_of.Statement.{statement}
+use Rattle.workings.proofs.sum_of.Tie as tie
+
+returns : tie.Need-returns
+unfolding checked
+returns c =
+    let a = c .before .args in
+    past-entries (pair one) (rowCorrected (factorsOf (a .g)) (longitudesOf (a .l)) (a .cards .now) (a .angles .now) (a .ratios .now)) (a .mains) (a .k) (c .if1 .taken)
+
+natural-at-requires : tie.Need-natural-at-requires
+natural-at-requires c κs = search needs
+
+natural-at-requires-2 : tie.Need-natural-at-requires-2
+natural-at-requires-2 c κs = search needs
+
+main-sum-requires : tie.Need-main-sum-requires
+main-sum-requires c κs = search needs
+
+returns-2 : tie.Need-returns-2
+unfolding rowCorrected rowSatellites
+returns-2 c =
+    let a = c .before .before .before .before .before .before .args in
+    ap checked (c .main-sum .ensures .0 ∙ ap₂ (λ (first count : ℕ). mainPair (factorsOf (a .g)) (longitudesOf (a .l)) (listed (satelliteOf (a .angles .now) (a .ratios .now)) first count)) (c .before .before .before .natural-at .ensures) (c .before .natural-at2 .ensures))
+    ∙ entry-at (pair one) (rowCorrected (factorsOf (a .g)) (longitudesOf (a .l)) (a .cards .now) (a .angles .now) (a .ratios .now)) (a .mains) (a .k) (c .before .before .before .before .before .if1 .left)
+
+pub sum-of-spec : {M : Type 1} → statement M
+sum-of-spec =
+    tie.close
+    (tie.spec returns natural-at-requires natural-at-requires-2 main-sum-requires returns-2)
