@@ -6,7 +6,7 @@ use lib.ListN.{length}
 use lib.IntN.{ℤ}
 use Rattle.cards.specs.Cards as cards
 use Rattle.onecall.specs.Satellites.{satellitesIn}
-use Rattle.clock.specs.Returned.{Returned, accepted, heightIs, turnsAre, refused}
+use Rattle.calls.specs.Returned.{Returned, accepted, heightIs, turnsAre, refused}
 use Rattle.cuvalimodo_c.specs.declared.Verdict.{Verdict}
 use Rattle.cuvalimodo_c.specs.declared.Counts.{Counts}
 use Rattle.cuvalimodo_c.specs.declared.Turnings.{Turnings}

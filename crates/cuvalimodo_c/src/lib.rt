@@ -6,7 +6,8 @@
 ghost use mathlib.Core.Path.{_≡_};
 ghost use mathlib.Core.Bool.{false};
 ghost use Rattle.cards.specs.Cards.{readCards};
-ghost use Rattle.clock.specs.Returned.{answerReturned, turnsReturned};
+ghost use Rattle.calls.specs.Returned.{answerReturned};
+ghost use Rattle.clock.specs.Returned.{turnsReturned};
 ghost use Rattle.cuvalimodo_c.specs.Answers.{verdictOf, countsOf, turningsOf};
 ghost use Rattle.cuvalimodo_c.specs.OneCall.{seriesOnce, turnsOnce, SeriesPost, TurnsPost};
 ghost use Rattle.onecall.specs.Setting.{settingReturned};

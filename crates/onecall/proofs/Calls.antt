@@ -16,12 +16,12 @@ use Rattle.records.specs.Rows.{recordsFrom, rowsUpto}
 use Rattle.records.specs.Rows.{recordsOf}
 use Rattle.records.proofs.Copies.{records-length}
 use Rattle.clock.specs.declared.Clock.{Clock}
-use Rattle.clock.specs.State.{State, nothing}
-use Rattle.clock.specs.Returned.{Returned, answerReturned}
-use Rattle.clock.specs.Calls.{cardsReturns, cardsLeaves, stationReturns, stationLeaves, dateReturns, dateLeaves}
+use Rattle.calls.specs.State.{State, nothing}
+use Rattle.calls.specs.Returned.{Returned, answerReturned}
+use Rattle.calls.specs.Calls.{cardsReturns, cardsLeaves, stationReturns, stationLeaves, dateReturns, dateLeaves}
 use Rattle.clock.specs.View.{view}
 use Rattle.clock.specs.Posts.{NewPost, CardsPost, StationPost, DatePost}
-use Rattle.clock.proofs.Lent.{lent-post}
+use Rattle.clock.proofs.Stations.{lent-post}
 use Rattle.onecall.specs.Setting.{recordsIn, oneLength, lacking, firstRefusal, stateAfter, setReturns, setOnce}
 use Rattle.onecall.specs.Posts.{SetPost, ReadyPost}
 use Rattle.onecall.specs.declared.Setting.{Setting}

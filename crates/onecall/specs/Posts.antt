@@ -6,7 +6,7 @@ use mathlib.Core.Path.{_≡_}
 use lib.IntN.{ℤ}
 use Rattle.refusals.specs.declared.Answer.{Answer}
 use Rattle.records.specs.declared.Record.{Record}
-use Rattle.clock.specs.Returned.{accepted, answerReturned}
+use Rattle.calls.specs.Returned.{accepted, answerReturned}
 use Rattle.clock.specs.View.{view, Made}
 use Rattle.clock.specs.declared.Clock.{Clock}
 use Rattle.onecall.specs.Setting.{recordsIn, setReturns, stateAfter, setOnce, settingReturned}

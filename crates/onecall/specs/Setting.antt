@@ -10,9 +10,9 @@ use lib.IntN.{ℤ}
 use Rattle.refusals.specs.Outcome.{numberOf}
 use Rattle.records.specs.declared.Record.{Record}
 use Rattle.records.specs.Rows.{recordsFrom}
-use Rattle.clock.specs.State.{State, nothing}
-use Rattle.clock.specs.Returned.{Returned, accepted, heightIs, turnsAre, refused}
-use Rattle.clock.specs.Calls.{cardsReturns, cardsLeaves, stationReturns, stationLeaves, dateReturns, dateLeaves}
+use Rattle.calls.specs.State.{State, nothing}
+use Rattle.calls.specs.Returned.{Returned, accepted, heightIs, turnsAre, refused}
+use Rattle.calls.specs.Calls.{cardsReturns, cardsLeaves, stationReturns, stationLeaves, dateReturns, dateLeaves}
 use Rattle.onecall.specs.declared.Setting.{Setting}
 use Rattle.onecall.specs.declared.Setting.the-variants.{Uneven, Accepted, Refused}
 

@@ -5,7 +5,7 @@ ghost use Prim.Native.Nat.{_≤_, _<_, min};
 ghost use lib.ListN.{length};
 ghost use Rattle.table.specs.View.{tableOf};
 ghost use Rattle.records.specs.Rows.{rowsUpto, putRow, noRows};
-ghost use Rattle.clock.specs.Returned.{answerReturned};
+ghost use Rattle.calls.specs.Returned.{answerReturned};
 ghost use Rattle.onecall.specs.Satellites.{satellitesIn};
 ghost use Rattle.onecall.specs.Setting.{oneLength, lacking, recordsIn, firstRefusal};
 ghost use Rattle.onecall.specs.Posts.{SetPost, ReadyPost};

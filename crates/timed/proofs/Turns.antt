@@ -5,9 +5,9 @@ use Prim.Native.Nat.{ℕ, _+_, _%_}
 use native.Mathlib.Numerals.{unary-clauses}
 use lib.ListN.{getD, set}
 use lib.IntN.{ℤ}
-use Rattle.clock.specs.State.{State}
-use Rattle.clock.specs.Returned.{Returned}
-use Rattle.clock.specs.Calls.{cardsLeaves, dateLeaves, heightReturns, SeriesGiven, seriesGives, TurnsGiven, turnsGives}
+use Rattle.calls.specs.State.{State}
+use Rattle.calls.specs.Returned.{Returned}
+use Rattle.calls.specs.Calls.{cardsLeaves, dateLeaves, heightReturns, SeriesGiven, seriesGives, TurnsGiven, turnsGives}
 use Rattle.timed.specs.Often.{readOften, datedOften, seriesOften, turnsOften, heightOrZero, heightsAt}
 
 module _ (k : State) (file : List ℕ) where

@@ -8,9 +8,9 @@ use lib.IntN.{ℤ, pos}
 use Rattle.records.specs.declared.Record.{Record}
 use Rattle.records.specs.declared.Rows.{Rows}
 use Rattle.records.specs.Rows.{recordsOf}
-use Rattle.clock.specs.State.{State, nothing}
-use Rattle.clock.specs.Returned.{Returned, accepted, heightIs, turnsAre, refused}
-use Rattle.clock.specs.Calls.{cardsLeaves, stationLeaves, dateLeaves, heightReturns, SeriesGiven, seriesGives, TurnsGiven, turnsGives}
+use Rattle.calls.specs.State.{State, nothing}
+use Rattle.calls.specs.Returned.{Returned, accepted, heightIs, turnsAre, refused}
+use Rattle.calls.specs.Calls.{cardsLeaves, stationLeaves, dateLeaves, heightReturns, SeriesGiven, seriesGives, TurnsGiven, turnsGives}
 
 -- a station's records, the first n of the lent arrays
 abbrev pub recordsIn : List ℕ → List ℕ → List ℕ → ℕ → List Record

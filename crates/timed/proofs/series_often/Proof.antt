@@ -2,7 +2,7 @@
 use native.Mathlib.Omega.{arith}
 use mathlib.Core.Path.{_∙_, ap, _≡_, refl}
 use Prim.Native.Nat.{ℕ, _-_, _≤_}
-use Rattle.clock.specs.Calls.{SeriesGiven}
+use Rattle.calls.specs.Calls.{SeriesGiven}
 use Rattle.timed.proofs.Turns.{series-none, series-more}
 use borrow.Author.Needs.{needs}
 use Rattle.clock.specs.View.{view}

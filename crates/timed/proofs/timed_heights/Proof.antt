@@ -2,7 +2,7 @@
 use mathlib.Core.Path.{_∙_, ap}
 use mir.Syntax.{w32}
 use mir.ValLaws.{toZ-ofZ}
-use Rattle.clock.specs.State.{State}
+use Rattle.calls.specs.State.{State}
 use Prim.Native.Nat.{min}
 use lib.ListN.{length}
 use Rattle.timed.specs.Often.{heightsAt}

@@ -2,8 +2,8 @@
 use mathlib.Core.Path.{_∙_, ap}
 use mir.Syntax.{w32}
 use mir.ValLaws.{toZ-ofZ}
-use Rattle.clock.specs.State.{State}
-use Rattle.clock.specs.Calls.{TurnsGiven}
+use Rattle.calls.specs.State.{State}
+use Rattle.calls.specs.Calls.{TurnsGiven}
 use Rattle.timed.specs.Often.{recordsIn, dated, turnsOften, firstHigh}
 use borrow.Author.Needs.{needs}
 use Rattle.timed.proofs.timed_turns.Statement.{statement}

@@ -12,7 +12,6 @@ use lib.Signed.{ltZ}
 use borrow.Author.Tests.{ltb-false}
 use Rattle.refusals.specs.Outcome as outcome
 use Rattle.refusals.specs.Outcome.{Outcome, refuseIf}
-use Rattle.refusals.specs.declared.Answer.{Answer}
 use Rattle.table.specs.Table.{Table}
 use Rattle.station.specs.Station.{stationOutcome}
 use Rattle.records.specs.Rows.{rowsUpto}
@@ -20,12 +19,9 @@ use Rattle.records.specs.Rows.{recordsOf}
 use Rattle.records.specs.declared.Record.{Record}
 use Rattle.records.specs.declared.Rows.{Rows}
 use Rattle.records.proofs.Copies.{records-length, lent-is}
-use Rattle.clock.specs.declared.Clock.{Clock}
-use Rattle.clock.specs.State.{Maybe, none, some, State}
-use Rattle.clock.specs.Returned.{refused, told, onAccepted}
-use Rattle.clock.specs.Calls.{asks, stationReturns, stationLeaves}
-use Rattle.clock.specs.View.{view}
-use Rattle.clock.specs.Posts.{StationPost}
+use Rattle.calls.specs.State.{Maybe, none, some, State}
+use Rattle.calls.specs.Returned.{refused, told, onAccepted}
+use Rattle.calls.specs.Calls.{asks, stationReturns, stationLeaves}
 
 -- an outcome by which nothing new is left
 abbrev Turned : Outcome → Type 0
@@ -68,22 +64,21 @@ leaves-same k latitude records many = asked-turned (k .table) latitude records m
 
 -- ---- the records lent
 
-module _ (c : Clock) (latitude : ℤ) (records : List Record) (answer : Answer) (left : Clock) where
-  crowd-post : (rs : List Record) → Crowd records → Crowd rs → StationPost c latitude rs answer left → StationPost c latitude records answer left
-  crowd-post rs many many′ p =
-      record {
-        made = p .made;
-        returns = p .returns ∙ returns-agree (view c) latitude rs records many′ many;
-        leaves = p .leaves ∙ leaves-same (view c) latitude rs many′ ∙ sym (leaves-same (view c) latitude records many);
-      }
+module _ (k : State) (latitude : ℤ) (records : List Record) where
+  -- the rows' records give and leave what those lent do
+  abbrev Same : List Record → Type 0
+  Same rs = (stationReturns k latitude rs ≡ stationReturns k latitude records) × (stationLeaves k latitude rs ≡ stationLeaves k latitude records)
+
+  crowd-same : (rs : List Record) → Crowd records → Crowd rs → Same rs
+  crowd-same rs many many′ =
+      (returns-agree k latitude rs records many′ many, leaves-same k latitude rs many′ ∙ sym (leaves-same k latitude records many))
 
   rows-of-few : length records ≤ 146 → recordsOf (rowsUpto records (min (length records) 146)) (length records) ≡ records
   rows-of-few h = let all : min (length records) 146 ≡ length records = omega arith in rw all (lent-is records h)
 
-  posts-by : (b : Bool) → ltb 146 (length records) ≡ b → StationPost c latitude (recordsOf (rowsUpto records (min (length records) 146)) (length records)) answer left → StationPost c latitude records answer left
-  posts-by true e p = crowd-post _ e (ap (ltb 146) (records-length _ _ _ 0 (length records)) ∙ e) p
-  posts-by false e p = subst (λ (rs : List Record). StationPost c latitude rs answer left) (rows-of-few (ltb-false 146 (length records) e)) p
+  same-by : (b : Bool) → ltb 146 (length records) ≡ b → Same (recordsOf (rowsUpto records (min (length records) 146)) (length records))
+  same-by true e = crowd-same _ e (ap (ltb 146) (records-length _ _ _ 0 (length records)) ∙ e)
+  same-by false e = subst Same (sym (rows-of-few (ltb-false 146 (length records) e))) (refl, refl)
 
-  -- what holds of the rows' records holds of those lent
-  pub lent-post : (rows : Rows) → rows ≡ rowsUpto records (min (length records) 146) → StationPost c latitude (recordsOf rows (length records)) answer left → StationPost c latitude records answer left
-  lent-post rows e p = posts-by (ltb 146 (length records)) refl (subst (λ (x : Rows). StationPost c latitude (recordsOf x (length records)) answer left) e p)
+  pub lent-same : (rows : Rows) → rows ≡ rowsUpto records (min (length records) 146) → Same (recordsOf rows (length records))
+  lent-same rows e = subst (λ (x : Rows). Same (recordsOf x (length records))) (sym e) (same-by (ltb 146 (length records)) refl)

@@ -6,6 +6,8 @@ use mathlib.Core.List.{List, [], _∷_}
 use lib.ListN.{length}
 use lib.Dec.{ltb}
 use lib.IntN.{ℤ}
+use Rattle.refusals.specs.Outcome as outcome
+use Rattle.refusals.specs.Outcome.{Outcome, refuseIf}
 use Rattle.table.specs.Table.{Table}
 use Rattle.cards.specs.Cards as cards
 use Rattle.cards.specs.Cards.{readCards}
@@ -19,8 +21,8 @@ use Rattle.search.specs.Search.{turnsOf}
 use Rattle.turns.specs.Written as written
 use Rattle.strides.specs.Strides.{stationStride}
 use Rattle.asked.specs.Asked.{lastMinute, stepOutside}
-use Rattle.clock.specs.State.{Maybe, none, some, Month, State}
-use Rattle.clock.specs.Returned.{Returned, accepted, heightIs, turnsAre, refused, told, onAccepted}
+use Rattle.calls.specs.State.{Maybe, none, some, Month, State}
+use Rattle.calls.specs.Returned.{Returned, accepted, heightIs, turnsAre, refused, told, onAccepted}
 
 -- ---- what the state is asked
 
@@ -56,6 +58,10 @@ cardsLeaves k file = fileLeaves (readCards file) k
 
 -- ---- a station: "A station asks 21"
 
+-- what is asked of a station, where a table is there or not: 21, then its records
+unfoldable pub stationAsked : Bool → ℕ → ℤ → List Record → Outcome
+stationAsked tabled frequencies latitude records = refuseIf (not tabled) 21 0 (stationOutcome frequencies latitude records)
+
 unfoldable pub stationReturns : State → ℤ → List Record → Returned
 stationReturns k latitude records =
     asks (k .table) (refused 21 0) λ table. told (stationOutcome (length (table .frequencies)) latitude records)
@@ -67,6 +73,11 @@ stationLeaves k latitude records =
     (record { table = k .table; station = some (record { latitude = latitude; records = records }); month = none }) k
 
 -- ---- a date: "a month [asks] 21 and 22", then 8, then 11
+
+-- what is asked of a date before its month is prepared, where table and station are there or not
+unfoldable pub dateAsked : Bool → Bool → ℕ → ℕ → Outcome
+dateAsked tabled stationed year month =
+    refuseIf (not tabled) 21 0 (refuseIf (not stationed) 22 0 (refuseIf (not (inRange year month)) 8 0 outcome.accepted))
 
 abbrev pub preparedReturns : Prepared → Returned
 preparedReturns (tooLarge place) = refused 11 place
