@@ -1,10 +1,10 @@
-use Rattle.onecall.proofs.Lengths.{lacking-fits}
+use Rattle.recordarrays.proofs.Lengths.{lacking-fits}
 use borrow.Author.Needs.{needs}
-use Rattle.onecall.proofs.lacking_record.Statement.{statement}
-use Rattle.onecall.proofs.lacking_record.Tie as tie
-use Rattle.onecall.proofs.lacking_record.Reads as reads
-use Rattle.onecall.proofs.lacking_record.Lts as lts
-use Rattle.onecall.proofs.shorter.Reads as shorter-reads
+use Rattle.recordarrays.proofs.lacking_record.Statement.{statement}
+use Rattle.recordarrays.proofs.lacking_record.Tie as tie
+use Rattle.recordarrays.proofs.lacking_record.Reads as reads
+use Rattle.recordarrays.proofs.lacking_record.Lts as lts
+use Rattle.recordarrays.proofs.shorter.Reads as shorter-reads
 
 -- src/lib.rt:152:21
 shorter-requires : tie.Need-shorter-requires

@@ -1,5 +1,5 @@
-use Rattle.onecall.proofs.Records.{rows-more}
-use Rattle.onecall.specs.Setting.{recordsIn}
+use Rattle.recordarrays.proofs.Records.{rows-more}
+use Rattle.recordarrays.specs.Arrays.{recordsIn}
 use Rattle.records.specs.Rows.{rowsUpto, putRow}
 use Rattle.records.specs.declared.Rows.{Rows}
 use borrow.Author.Needs.{needs}
@@ -7,13 +7,13 @@ use lib.ListN.{length}
 use native.Mathlib.Omega.{arith}
 use Prim.Native.Nat.{_+_, _-_, _≤_, _<_, min}
 use mathlib.Core.Path.{_≡_, refl, sym, ap, _∙_}
-use Rattle.onecall.proofs.rows_in.Statement.{statement}
-use Rattle.onecall.proofs.rows_in.Tie as tie
-use Rattle.onecall.proofs.rows_in.Reads as reads
-use Rattle.onecall.proofs.rows_in.Lts as lts
-use Rattle.onecall.proofs.no_rows.Reads as no-rows-reads
-use Rattle.onecall.proofs.shorter.Reads as shorter-reads
-use Rattle.onecall.proofs.with_record.Reads as with-record-reads
+use Rattle.recordarrays.proofs.rows_in.Statement.{statement}
+use Rattle.recordarrays.proofs.rows_in.Tie as tie
+use Rattle.recordarrays.proofs.rows_in.Reads as reads
+use Rattle.recordarrays.proofs.rows_in.Lts as lts
+use Rattle.recordarrays.proofs.no_rows.Reads as no-rows-reads
+use Rattle.recordarrays.proofs.shorter.Reads as shorter-reads
+use Rattle.recordarrays.proofs.with_record.Reads as with-record-reads
 
 abbrev Inv-loop : tie.InvT-loop
 Inv-loop places amplitudes phases most rows₀ k₀ rows k = (rows ≡ rowsUpto (recordsIn places amplitudes phases) k) × (k ≤ most) × (most ≡ min (length places) 146)

@@ -1,11 +1,11 @@
-use Rattle.cuvalimodo_c.proofs.Counted.{counts-accepted, counts-refused}
+use Rattle.cardcounts.proofs.Counted.{counts-accepted, counts-refused}
 use borrow.Author.Needs.{needs}
-use Rattle.cuvalimodo_c.proofs.cuvalimodo_check_cards.Statement.{statement}
-use Rattle.cuvalimodo_c.proofs.cuvalimodo_check_cards.Tie as tie
-use Rattle.cuvalimodo_c.proofs.cuvalimodo_check_cards.Reads as reads
-use Rattle.cuvalimodo_c.proofs.cuvalimodo_check_cards.Lts as lts
+use Rattle.cardcounts.proofs.check_cards.Statement.{statement}
+use Rattle.cardcounts.proofs.check_cards.Tie as tie
+use Rattle.cardcounts.proofs.check_cards.Reads as reads
+use Rattle.cardcounts.proofs.check_cards.Lts as lts
 use Rattle.cardfile.proofs.read_cards.Reads as read-cards-reads
-use Rattle.onecall.proofs.satellites_of.Reads as satellites-of-reads
+use Rattle.cardcounts.proofs.satellites_of.Reads as satellites-of-reads
 use Rattle.refusals.proofs.number_of.Reads as number-of-reads
 
 -- src/lib.rt:207:9
@@ -36,8 +36,8 @@ returns c = counts-accepted (c .before .before .before .before .before .before .
 returns-2 : tie.Need-returns-2
 returns-2 c = counts-refused (c .before .before .before .before .before .before .before .args .file .now) (c .before .before .before .before .before .read-cards .result) (c .before .before .before .before .before .read-cards .ensures) _ (c .before .before .answer .given .0 .0) (c .before .before .answer .given .0 .1 .0) (c .before .before .answer .given .1) (c .number-of .ensures)
 
-pub cuvalimodo-check-cards-spec : {M : Type 1} → statement M
-cuvalimodo-check-cards-spec =
+pub check-cards-spec : {M : Type 1} → statement M
+check-cards-spec =
     tie.close
     (tie.spec
     read-cards-requires

@@ -13,9 +13,9 @@ use Rattle.table.proofs.Rows.{listed-length}
 use Rattle.cards.specs.Cards.{Outcome, accepted, refused, readCards}
 use Rattle.cardfile.specs.Read.{gives, outcomeOf}
 use Rattle.cardfile.specs.declared.Read.{Read}
-use Rattle.onecall.specs.Satellites.{satellitesIn}
-use Rattle.cuvalimodo_c.specs.Answers.{countsOf}
-use Rattle.cuvalimodo_c.specs.declared.Counts.{Counts}
+use Rattle.cardcounts.specs.Satellites.{satellitesIn}
+use Rattle.cardcounts.specs.Counts.{countsOf}
+use Rattle.cardcounts.specs.declared.Counts.{Counts}
 
 frequencies-count : (t : Table) → length (tableOf t .frequencies) ≡ t .frequencies
 unfolding tableOf

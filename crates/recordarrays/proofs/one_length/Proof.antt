@@ -1,8 +1,8 @@
 use borrow.Author.Tests.{eq-eqb, ne-eqb}
-use Rattle.onecall.proofs.one_length.Statement.{statement}
-use Rattle.onecall.proofs.one_length.Tie as tie
-use Rattle.onecall.proofs.one_length.Reads as reads
-use Rattle.onecall.proofs.one_length.Lts as lts
+use Rattle.recordarrays.proofs.one_length.Statement.{statement}
+use Rattle.recordarrays.proofs.one_length.Tie as tie
+use Rattle.recordarrays.proofs.one_length.Reads as reads
+use Rattle.recordarrays.proofs.one_length.Lts as lts
 
 -- src/lib.rt:135:1
 returns : tie.Need-returns

@@ -10,7 +10,7 @@ use lib.ListN.{length, getD}
 use Rattle.records.specs.declared.Record.{Record}
 use Rattle.records.specs.declared.Rows.{Rows}
 use Rattle.records.specs.Rows.{blank, recordFrom, recordsFrom, rowsUpto, putRow}
-use Rattle.onecall.specs.Setting.{recordsIn}
+use Rattle.recordarrays.specs.Arrays.{recordsIn}
 
 record-at : (ps ms fs : List ℕ) (k n i : ℕ) → i < n → getD (recordsFrom ps ms fs k n) i blank ≡ recordFrom ps ms fs (k + i)
 unfolding recordsFrom

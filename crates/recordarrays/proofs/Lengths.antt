@@ -6,7 +6,7 @@ use mathlib.Core.Bool.{Bool, true, false, _&&_}
 use native.Mathlib.Omega.{arith}
 use lib.Dec.{eqb}
 use borrow.Author.Tests.{eqb-true, eqb-false}
-use Rattle.onecall.specs.Setting.{oneLength, lacking}
+use Rattle.recordarrays.specs.Arrays.{oneLength, lacking}
 
 -- where the lengths differ, the shortest is shorter than another, so one more fits where all of them do
 pub lacking-fits : (most a b c : ℕ) → a < most → b < most → c < most → oneLength a b c ≡ false → lacking a b c < most

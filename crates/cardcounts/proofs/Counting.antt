@@ -14,7 +14,7 @@ use Rattle.table.specs.Table.{Main}
 use Rattle.table.specs.View.{listed, rowOf, naturals, mainOf, satelliteOf, tableOf}
 use Rattle.table.specs.declared.Table.{Table}
 use Rattle.table.proofs.Rows.{listed-length, listed-at, listed-next, listed-end}
-use Rattle.onecall.specs.Satellites.{satellitesIn}
+use Rattle.cardcounts.specs.Satellites.{satellitesIn}
 
 -- main k of a table's struct
 abbrev mainIn : Table → ℕ → Main

@@ -1,16 +1,16 @@
-use Rattle.onecall.proofs.Counting.{satellitesFrom, satellites-next, satellites-least, satellites-all}
-use Rattle.onecall.specs.Satellites.{satellitesIn}
+use Rattle.cardcounts.proofs.Counting.{satellitesFrom, satellites-next, satellites-least, satellites-all}
+use Rattle.cardcounts.specs.Satellites.{satellitesIn}
 use Rattle.table.specs.View.{tableOf}
 use borrow.Author.Needs.{needs}
 use native.Mathlib.Omega.{arith}
 use Prim.Native.Nat.{_+_, _-_, _*_, _≤_, min}
 use mathlib.Core.Path.{_≡_}
-use Rattle.onecall.proofs.satellites_of.Statement.{statement}
-use Rattle.onecall.proofs.satellites_of.Tie as tie
-use Rattle.onecall.proofs.satellites_of.Reads as reads
-use Rattle.onecall.proofs.satellites_of.Lts as lts
-use Rattle.onecall.proofs.shorter.Reads as shorter-reads
-use Rattle.onecall.proofs.wide.Reads as wide-reads
+use Rattle.cardcounts.proofs.satellites_of.Statement.{statement}
+use Rattle.cardcounts.proofs.satellites_of.Tie as tie
+use Rattle.cardcounts.proofs.satellites_of.Reads as reads
+use Rattle.cardcounts.proofs.satellites_of.Lts as lts
+use Rattle.cardcounts.proofs.shorter.Reads as shorter-reads
+use Rattle.cardcounts.proofs.wide.Reads as wide-reads
 
 abbrev Inv-loop : tie.InvT-loop
 Inv-loop table most total₀ k₀ total k = (total + satellitesFrom table k ≡ satellitesIn (tableOf table .mains)) × (total ≤ 65_535 * k) × (k ≤ most) × (most ≡ min (table .mains) 64)
