@@ -14,11 +14,12 @@ use Rattle.records.specs.Rows.{recordsOf, rowsUpto}
 use Rattle.records.specs.declared.Rows.{Rows}
 use Rattle.station.specs.Rows.{stationOf}
 use Rattle.station.specs.declared.Taken.{Taken}
+use Rattle.settings.specs.Posts.{TakenPost}
 use Rattle.calls.proofs.Stations.{station-accepted, station-refused}
 use Rattle.calls.proofs.Lent.{lent-same}
 use Rattle.clock.specs.declared.Clock.{Clock}
 use Rattle.clock.specs.View.{view, monthIn, Made}
-use Rattle.clock.specs.Posts.{TakenPost, StationPost}
+use Rattle.clock.specs.Posts.{StationPost}
 use Rattle.clock.specs.Parts.{withStation}
 
 module _ (c : Clock) (latitude : ℤ) (n : ℕ) (rows : Rows) (made : Made c) (taken : Taken) (says : TakenPost (c .tabled) (c .table) latitude n rows taken) where

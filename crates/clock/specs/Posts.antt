@@ -1,18 +1,11 @@
 -- What each call promises: one record for each. What it returns and leaves equals the definition of `Calls`.
 -- Assumes nothing.
 use Prim.Native.Nat.{ℕ}
-use mathlib.Core.Bool.{Bool}
 use mathlib.Core.List.{List}
 use mathlib.Core.Path.{_≡_}
-use lib.ListN.{length}
 use lib.IntN.{ℤ}
-use Rattle.refusals.specs.Outcome.{accepted, outcomeOf}
 use Rattle.refusals.specs.declared.Answer.{Answer}
 use Rattle.records.specs.declared.Record.{Record}
-use Rattle.records.specs.declared.Rows.{Rows}
-use Rattle.records.specs.Rows.{recordsOf}
-use Rattle.table.specs.declared.Table.{Table}
-use Rattle.station.specs.declared.Taken.{Taken}
 use Rattle.calls.specs.State.{State, nothing}
 use Rattle.calls.specs.Returned.{onAccepted, answerReturned}
 use Rattle.clock.specs.Returned.{heightReturned, turnsReturned}
@@ -20,7 +13,7 @@ use Rattle.table.specs.View.{tableOf}
 use Rattle.station.specs.Rows.{stationOf}
 use Rattle.calendar.specs.Calendar.{monthMinutes}
 use Rattle.month.specs.Month.{monthOf}
-use Rattle.calls.specs.Calls.{stationAsked, preparedReturns, monthLeft, cardsReturns, cardsLeaves, stationReturns, stationLeaves, dateReturns, dateLeaves, heightReturns, seriesGives, turnsGives}
+use Rattle.calls.specs.Calls.{preparedReturns, monthLeft, cardsReturns, cardsLeaves, stationReturns, stationLeaves, dateReturns, dateLeaves, heightReturns, seriesGives, turnsGives}
 use Rattle.clock.specs.View.{view, Made}
 use Rattle.clock.specs.declared.Clock.{Clock}
 use Rattle.clock.specs.declared.HeightAnswer.{HeightAnswer}
@@ -34,11 +27,6 @@ pub record CardsPost (c : Clock) (file : List ℕ) (answer : Answer) (left : Clo
   pub made : Made left
   pub returns : answerReturned answer ≡ cardsReturns file
   pub leaves : view left ≡ cardsLeaves (view c) file
-
--- what a station comes to, where a table is there or not
-pub record TakenPost (tabled : Bool) (table : Table) (latitude : ℤ) (n : ℕ) (rows : Rows) (r : Taken) : Type 0 where
-  pub says : outcomeOf (r .answer) ≡ stationAsked tabled (length (tableOf table .frequencies)) latitude (recordsOf rows n)
-  pub keeps : outcomeOf (r .answer) ≡ accepted → stationOf (r .station) ≡ record { latitude = latitude; records = recordsOf rows n }
 
 pub record StationPost (c : Clock) (latitude : ℤ) (records : List Record) (answer : Answer) (left : Clock) : Type 0 where
   pub made : Made left

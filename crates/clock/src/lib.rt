@@ -9,16 +9,13 @@ ghost use Rattle.station.specs.Rows.{stationOf};
 ghost use Rattle.month.specs.Month.{monthOf};
 ghost use Rattle.calendar.specs.Calendar.{inRange};
 ghost use Rattle.clock.specs.View.{Made};
-ghost use Rattle.clock.specs.Posts.{NewPost, CardsPost, StationPost, DatePost, HeightPost, SeriesPost, TurnsPost, TakenPost, PreparedPost};
+ghost use Rattle.clock.specs.Posts.{NewPost, CardsPost, StationPost, DatePost, HeightPost, SeriesPost, TurnsPost, PreparedPost};
 ghost use Rattle.records.specs.Rows.{recordsOf};
-ghost use Rattle.refusals.specs.Outcome.{outcomeOf};
 ghost use Rattle.month.specs.View.{preparedOf};
 ghost use Rattle.turns.specs.Written.{returnedOf};
-ghost use Rattle.calls.specs.Returned.{answerReturned};
-ghost use Rattle.calls.specs.Calls.{preparedReturns, dateAsked, searchReturns};
+ghost use Rattle.calls.specs.Calls.{searchReturns};
 ghost use Rattle.clock.specs.Returned.{turnsReturned};
 ghost use Rattle.clock.specs.Parts.{accepts, withTable, withStation, withMonth};
-use month::Preparation;
 use month::Prepared;
 use prepared::Month;
 use records::Record;
@@ -26,7 +23,6 @@ use records::Rows;
 use refusals::Answer;
 use refusals::Refusal;
 use station::Station;
-use station::Taken;
 use table::Table;
 use turns::Searched;
 
@@ -156,25 +152,12 @@ pub fn load_cards(clock: Clock, file: &[u8]) -> After
     }
 }
 
-// What a station comes to: 21 where there is no table, else what its records come to.
-fn station_answer(tabled: bool, table: Table, latitude: i32, n: usize, rows: Rows) -> Taken
-    ensures { λ r. ⌜ TakenPost tabled table latitude n rows r ⌝ }
-{
-    if !tabled {
-        return Taken {
-            answer: Answer::Refused(Refusal::NoTable, 0),
-            station: station::no_station(latitude),
-        };
-    }
-    station::take_station(table.frequencies, latitude, n, rows)
-}
-
 // A station as `set_station` takes it, for a caller whose records lie in plain arrays: n records, of which the first 146 are in the rows.
 pub fn place_station(clock: Clock, latitude: i32, n: usize, rows: Rows) -> After
     requires { ⌜ Made clock ⌝ }
     ensures { λ r. ⌜ StationPost clock latitude (recordsOf rows n) (r .answer) (r .clock) ⌝ }
 {
-    let taken = station_answer(clock.tabled, clock.table, latitude, n, rows);
+    let taken = settings::station_answer(clock.tabled, clock.table, latitude, n, rows);
     let answer = taken.answer;
     match answer {
         Answer::Accepted => {
@@ -197,17 +180,6 @@ pub fn set_station(clock: Clock, latitude: i32, records: &[Record]) -> After
     place_station(clock, latitude, n, rows)
 }
 
-// What a prepared month says: that it is accepted, or 11 and the record.
-fn month_answer(prepared: Prepared) -> Answer
-    ensures { λ r. ⌜ answerReturned r ≡ preparedReturns (preparedOf prepared) ⌝ }
-{
-    let answer = prepared.answer;
-    match answer {
-        Preparation::Ready => Answer::Accepted,
-        Preparation::TooLarge(place) => Answer::Refused(Refusal::TooLarge, place),
-    }
-}
-
 // The month of a date that is in range, worked out.
 fn prepared_month(clock: Clock, year: u32, month: u32) -> Prepared
     requires { ⌜ Made clock × (inRange year month ≡ true) ⌝ }
@@ -223,7 +195,7 @@ fn prepare_month(clock: Clock, year: u32, month: u32) -> After
 {
     let last = calendar::month_minutes(year, month) as u64;
     let prepared = prepared_month(clock, year, month);
-    let answer = month_answer(prepared);
+    let answer = settings::month_answer(prepared);
     match answer {
         Answer::Accepted => {
             return with_month(clock, last, prepared.month);
@@ -234,28 +206,12 @@ fn prepare_month(clock: Clock, year: u32, month: u32) -> After
     }
 }
 
-// What a date asks before its month is prepared: 21, 22, 8.
-fn date_answer(tabled: bool, stationed: bool, year: u32, month: u32) -> Answer
-    ensures { λ r. ⌜ outcomeOf r ≡ dateAsked tabled stationed year month ⌝ }
-{
-    if !tabled {
-        return Answer::Refused(Refusal::NoTable, 0);
-    }
-    if !stationed {
-        return Answer::Refused(Refusal::NoStation, 0);
-    }
-    if !calendar::in_range(year, month) {
-        return Answer::Refused(Refusal::BadDate, 0);
-    }
-    Answer::Accepted
-}
-
 // A date: its month is prepared, in place of any before; or it is refused.
 pub fn set_date(clock: Clock, year: u32, month: u32) -> After
     requires { ⌜ Made clock ⌝ }
     ensures { λ r. ⌜ DatePost clock year month (r .answer) (r .clock) ⌝ }
 {
-    let answer = date_answer(clock.tabled, clock.stationed, year, month);
+    let answer = settings::date_answer(clock.tabled, clock.stationed, year, month);
     match answer {
         Answer::Accepted => {
             return prepare_month(clock, year, month);

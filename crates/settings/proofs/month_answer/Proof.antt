@@ -1,7 +1,7 @@
--- `clock::month_answer` meets its contract: by the preparation's two cases. Assumes nothing.
+-- `settings::month_answer` meets its contract: by the preparation's two cases. Assumes nothing.
 use borrow.Author.Needs.{needs}
-use Rattle.clock.proofs.month_answer.Statement.{statement}
-use Rattle.clock.proofs.month_answer.Tie as tie
+use Rattle.settings.proofs.month_answer.Statement.{statement}
+use Rattle.settings.proofs.month_answer.Tie as tie
 
 enum-told : tie.Need-enum-told
 enum-told c = search needs

@@ -1,7 +1,7 @@
--- `clock::date_answer` meets its contract: 21, 22 and 8, in this order. Assumes nothing.
+-- `settings::date_answer` meets its contract: 21, 22 and 8, in this order. Assumes nothing.
 use borrow.Author.Needs.{needs}
-use Rattle.clock.proofs.date_answer.Statement.{statement}
-use Rattle.clock.proofs.date_answer.Tie as tie
+use Rattle.settings.proofs.date_answer.Statement.{statement}
+use Rattle.settings.proofs.date_answer.Tie as tie
 use borrow.Author.Tests.{not-true, not-false}
 use mathlib.Core.Path.{sym, _∙_}
 use Rattle.calls.specs.Calls.{dateAsked}

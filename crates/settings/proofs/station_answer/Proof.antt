@@ -1,7 +1,7 @@
--- `clock::station_answer` meets its contract: 21 where there is no table, else what its records come to. Assumes nothing.
+-- `settings::station_answer` meets its contract: 21 where there is no table, else what its records come to. Assumes nothing.
 use borrow.Author.Needs.{needs}
-use Rattle.clock.proofs.station_answer.Statement.{statement}
-use Rattle.clock.proofs.station_answer.Tie as tie
+use Rattle.settings.proofs.station_answer.Statement.{statement}
+use Rattle.settings.proofs.station_answer.Tie as tie
 use mathlib.Core.Path.{refl}
 use mir.Syntax.{w32}
 use mir.ValLaws.{toZ-ofZ}
@@ -9,7 +9,7 @@ use borrow.Author.Tests.{not-true, not-false}
 use Rattle.refusals.specs.declared.Refusal.the-variants.{NoTable}
 use Rattle.station.proofs.Laws.{not-accepted}
 use Rattle.calls.specs.Calls.{stationAsked}
-use Rattle.clock.proofs.Tables.{frequencies-count}
+use Rattle.settings.proofs.Tables.{frequencies-count}
 
 no-station-requires : tie.Need-no-station-requires
 no-station-requires c κs = search needs
