@@ -1,15 +1,15 @@
--- `timed::series_often` meets its contract: before each turn the places are what the turns so far leave. The measure is the turns left. Assumes nothing.
+-- `often::series_often` meets its contract: before each turn the places are what the turns so far leave. The measure is the turns left. Assumes nothing.
 use native.Mathlib.Omega.{arith}
 use mathlib.Core.Path.{_∙_, ap, _≡_, refl}
 use Prim.Native.Nat.{ℕ, _-_, _≤_}
 use Rattle.calls.specs.Calls.{SeriesGiven}
-use Rattle.timed.proofs.Turns.{series-none, series-more}
+use Rattle.often.proofs.Turns.{series-none, series-more}
 use borrow.Author.Needs.{needs}
 use Rattle.clock.specs.View.{view}
 use lib.ListN.{length}
-use Rattle.timed.specs.Often.{seriesOften}
-use Rattle.timed.proofs.series_often.Statement.{statement}
-use Rattle.timed.proofs.series_often.Tie as tie
+use Rattle.often.specs.Often.{seriesOften}
+use Rattle.often.proofs.series_often.Statement.{statement}
+use Rattle.often.proofs.series_often.Tie as tie
 
 abbrev Inv-loop : tie.InvT-loop
 Inv-loop clock repeats heights₀ turn₀ heights turn = (turn ≤ repeats) × ((length heights ≡ length heights₀) × (heights ≡ seriesOften (view clock) turn heights₀))

@@ -1,14 +1,14 @@
--- `timed::height_or_zero` meets its contract, case by case. Assumes nothing.
+-- `often::height_or_zero` meets its contract, case by case. Assumes nothing.
 use mathlib.Core.Path.{_∙_, sym, ap}
 use mir.Syntax.{w64}
 use mir.Val.{SFits}
 use mir.ValLaws.{toZ-ofZ}
 use Rattle.clock.specs.declared.HeightAnswer.{HeightAnswer}
 use Rattle.clock.specs.Returned.{heightReturned}
-use Rattle.timed.specs.Often.{heightOrZero}
+use Rattle.often.specs.Often.{heightOrZero}
 use borrow.Author.Needs.{needs}
-use Rattle.timed.proofs.height_or_zero.Statement.{statement}
-use Rattle.timed.proofs.height_or_zero.Tie as tie
+use Rattle.often.proofs.height_or_zero.Statement.{statement}
+use Rattle.often.proofs.height_or_zero.Tie as tie
 
 enum-known-answer : tie.Need-enum-known-answer
 enum-known-answer c = search needs

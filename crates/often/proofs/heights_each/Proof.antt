@@ -1,4 +1,4 @@
--- `timed::heights_each` meets its contract: before place i the first i heights stand. The measure is the places left. Assumes nothing.
+-- `often::heights_each` meets its contract: before place i the first i heights stand. The measure is the places left. Assumes nothing.
 use Rattle.clock.specs.Returned.{heightReturned}
 use Prim.Native.Nat.{min, ℕ, _-_, _≤_}
 use lib.ListN.{set, length}
@@ -9,10 +9,10 @@ use mathlib.Core.Path.{_≡_, refl, _∙_, ap}
 use borrow.Author.Needs.{needs}
 use native.Mathlib.Omega.{arith}
 use Rattle.clock.specs.View.{view}
-use Rattle.timed.specs.Often.{heightsAt}
-use Rattle.timed.proofs.Turns.{places-none, places-more}
-use Rattle.timed.proofs.heights_each.Statement.{statement}
-use Rattle.timed.proofs.heights_each.Tie as tie
+use Rattle.often.specs.Often.{heightsAt}
+use Rattle.often.proofs.Turns.{places-none, places-more}
+use Rattle.often.proofs.heights_each.Statement.{statement}
+use Rattle.often.proofs.heights_each.Tie as tie
 
 abbrev Inv-loop : tie.InvT-loop
 Inv-loop clock minutes heights₀ n i₀ heights i = (i ≤ n) × ((n ≤ length minutes) × ((n ≤ length heights₀) × ((length heights ≡ length heights₀) × (heights ≡ heightsAt (view clock) minutes i heights₀))))

@@ -1,15 +1,15 @@
--- `timed::turns_often` meets its contract: before each turn the buffers are what the turns so far leave. The measure is the turns left. Assumes nothing.
+-- `often::turns_often` meets its contract: before each turn the buffers are what the turns so far leave. The measure is the turns left. Assumes nothing.
 use native.Mathlib.Omega.{arith}
 use mathlib.Core.Path.{_∙_, ap, _≡_, refl}
 use Prim.Native.Nat.{ℕ, _-_, _≤_}
 use Rattle.calls.specs.Calls.{TurnsGiven}
-use Rattle.timed.proofs.Turns.{minutes-none, heights-none, turns-more}
+use Rattle.often.proofs.Turns.{minutes-none, heights-none, turns-more}
 use borrow.Author.Needs.{needs}
 use Rattle.clock.specs.View.{view}
 use lib.ListN.{length}
-use Rattle.timed.specs.Often.{turnsOften}
-use Rattle.timed.proofs.turns_often.Statement.{statement}
-use Rattle.timed.proofs.turns_often.Tie as tie
+use Rattle.often.specs.Often.{turnsOften}
+use Rattle.often.proofs.turns_often.Statement.{statement}
+use Rattle.often.proofs.turns_often.Tie as tie
 
 abbrev Inv-loop : tie.InvT-loop
 Inv-loop clock last repeats minutes₀ heights₀ turn₀ minutes heights turn = (turn ≤ repeats) × ((length minutes ≡ length minutes₀) × ((length heights ≡ length heights₀) × ((minutes ≡ turnsOften (view clock) last turn minutes₀ heights₀ .minutes) × (heights ≡ turnsOften (view clock) last turn minutes₀ heights₀ .heights))))

@@ -8,7 +8,7 @@ use lib.IntN.{ℤ}
 use Rattle.calls.specs.State.{State}
 use Rattle.calls.specs.Returned.{Returned}
 use Rattle.calls.specs.Calls.{cardsLeaves, dateLeaves, heightReturns, SeriesGiven, seriesGives, TurnsGiven, turnsGives}
-use Rattle.timed.specs.Often.{readOften, datedOften, seriesOften, turnsOften, heightOrZero, heightsAt}
+use Rattle.often.specs.Often.{readOften, datedOften, seriesOften, turnsOften, heightOrZero, heightsAt}
 
 module _ (k : State) (file : List ℕ) where
   pub read-none : k ≡ readOften k file 0
