@@ -11,9 +11,9 @@ use borrow.Fn.World.{World, w₀}
 use Rattle.refusals.specs.declared.Answer.the-variants.{Refused}
 use Rattle.refusals.specs.declared.Refusal.the-variants.{NoTable}
 use Rattle.clock.specs.declared.Clock.{Clock}
-use Rattle.clock.specs.State.{State}
-use Rattle.clock.specs.Returned.{refused}
-use Rattle.clock.specs.Calls.{dateReturns, dateLeaves}
+use Rattle.calls.specs.State.{State}
+use Rattle.calls.specs.Returned.{refused}
+use Rattle.calls.specs.Calls.{dateReturns, dateLeaves}
 use Rattle.clock.specs.Posts.{NewPost, DatePost}
 use Rattle.claim.specs.Document.{Date, told}
 use Rattle.claim.specs.Calls.{Keeps, Calls, dates, done, _then_}

@@ -14,10 +14,10 @@ use Rattle.cards.specs.Cards.{readCards}
 use Rattle.records.specs.declared.Record.{Record}
 use Rattle.records.specs.Rows.{recordsOf}
 use Rattle.clock.specs.declared.Clock.{Clock}
-use Rattle.clock.specs.State as state
-use Rattle.clock.specs.State.{State, some, none}
-use Rattle.clock.specs.Returned.{Returned, accepted, heightIs, turnsAre, refused, onAccepted}
-use Rattle.clock.specs.Calls.{cardsReturns, cardsLeaves, fileReturns, fileLeaves, stationReturns, stationLeaves, dateReturns, dateLeaves, heightReturns, seriesGives, turnsGives}
+use Rattle.calls.specs.State as state
+use Rattle.calls.specs.State.{State, some, none}
+use Rattle.calls.specs.Returned.{Returned, accepted, heightIs, turnsAre, refused, onAccepted}
+use Rattle.calls.specs.Calls.{cardsReturns, cardsLeaves, fileReturns, fileLeaves, stationReturns, stationLeaves, dateReturns, dateLeaves, heightReturns, seriesGives, turnsGives}
 use Rattle.clock.specs.View.{view, Made}
 use Rattle.clock.specs.Posts.{NewPost, CardsPost, StationPost, DatePost, HeightPost, SeriesPost, TurnsPost}
 use Rattle.claim.specs.Calls.{Keeps, New, news, Call, loads, stations, placed, dates, heights, serieses, searches, Calls, done, _then_}

@@ -7,7 +7,7 @@ use mathlib.Core.Path.{_≡_, refl, ap, sym, _∙_}
 use mathlib.Core.HLevel.{Discrete, hedberg, ×-discrete}
 use native.Mathlib.Decide.{ℕ-discrete}
 use lib.IntN.{ℤ, pos, negsuc, natAbs, ℤ-discrete}
-use Rattle.clock.specs.Returned.{Returned, accepted, heightIs, turnsAre, refused}
+use Rattle.calls.specs.Returned.{Returned, accepted, heightIs, turnsAre, refused}
 use Rattle.claim.specs.Document.{Gave, told, wrote, found}
 
 -- what has a code that can be read back can be told apart where the codes can

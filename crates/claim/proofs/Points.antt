@@ -21,10 +21,10 @@ use Rattle.search.specs.Search.{Turn, turnsOf}
 use Rattle.strides.specs.Strides.{stationStride}
 use Rattle.turns.specs.Written as written
 use Rattle.search.specs.Search.{firstHigh, minutesOf}
-use Rattle.clock.specs.State as state
-use Rattle.clock.specs.State.{Maybe, State}
-use Rattle.clock.specs.Returned.{Returned, accepted, heightIs, turnsAre, refused}
-use Rattle.clock.specs.Calls.{heightReturns, SeriesGiven, seriesRefused, seriesGives, TurnsGiven, turnsRefused, turnsGives, searched}
+use Rattle.calls.specs.State as state
+use Rattle.calls.specs.State.{Maybe, State}
+use Rattle.calls.specs.Returned.{Returned, accepted, heightIs, turnsAre, refused}
+use Rattle.calls.specs.Calls.{heightReturns, SeriesGiven, seriesRefused, seriesGives, TurnsGiven, turnsRefused, turnsGives, searched}
 use Rattle.asked.specs.Asked.{stepOutside, lastMinute}
 use Rattle.claim.specs.Document.{Request, Cards, Station, Date, Height, Series, Turns, Gave, told, wrote, found, Last, workedOut, after, gives, givesAll, Point, heightPoints, pointsFrom, seriesPoints, pointsOf, turnsPoints, points, constituentsIn, constituentsOf, AllNear, nil, cons, EachNear, end, next}
 

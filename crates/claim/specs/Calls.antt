@@ -10,7 +10,8 @@ use denote.Triple.Clauses.{AtExit}
 use borrow.Fn.World.{World, ArgsD, ResD}
 use Rattle.records.specs.Rows.{recordsOf}
 use Rattle.clock.specs.declared.Clock.{Clock}
-use Rattle.clock.specs.Returned.{answerReturned, heightReturned, turnsReturned}
+use Rattle.calls.specs.Returned.{answerReturned}
+use Rattle.clock.specs.Returned.{heightReturned, turnsReturned}
 use Rattle.claim.specs.Document.{Request, Cards, Station, Date, Height, Series, Turns, Gave, told, wrote, found}
 use Rattle.clock.proofs.new as new
 use Rattle.clock.proofs.load_cards as load

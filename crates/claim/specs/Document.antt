@@ -13,10 +13,10 @@ use Rattle.records.specs.declared.Record.{Record}
 use Rattle.station.specs.Station as station
 use Rattle.prepared.specs.Prepared.{Constituent}
 use Rattle.distance.specs.Exact.{Near}
-use Rattle.clock.specs.State as state
-use Rattle.clock.specs.State.{Maybe, none, some, State}
-use Rattle.clock.specs.Returned.{Returned, accepted, heightIs, turnsAre, refused, onAccepted}
-use Rattle.clock.specs.Calls.{cardsReturns, stationReturns, dateReturns, monthFor, heightReturns, SeriesGiven, seriesGives, TurnsGiven, turnsGives}
+use Rattle.calls.specs.State as state
+use Rattle.calls.specs.State.{Maybe, none, some, State}
+use Rattle.calls.specs.Returned.{Returned, accepted, heightIs, turnsAre, refused, onAccepted}
+use Rattle.calls.specs.Calls.{cardsReturns, stationReturns, dateReturns, monthFor, heightReturns, SeriesGiven, seriesGives, TurnsGiven, turnsGives}
 
 -- "The calls are a card file, a station, a date, a height, a series and turns", each with all that is lent to it
 pub data Request : Type 0 where

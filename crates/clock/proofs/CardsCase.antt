@@ -6,30 +6,32 @@ use Rattle.refusals.specs.Outcome.{numberOf}
 use Rattle.refusals.specs.declared.Refusal.{Refusal}
 use Rattle.refusals.specs.declared.Answer.the-variants.{Accepted, Refused}
 use Rattle.table.specs.View.{tableOf}
+use Rattle.station.specs.Rows.{stationOf}
 use Rattle.cards.specs.Cards.{readCards, accepted, refused}
 use Rattle.cardfile.specs.Read.{outcomeOf}
 use Rattle.cardfile.specs.declared.Read.{Read}
 use Rattle.cardfile.proofs.Ranges.{accepted-in-range}
+use Rattle.calls.proofs.Files.{file-accepted, file-refused}
 use Rattle.clock.specs.declared.Clock.{Clock}
-use Rattle.clock.specs.Calls.{cardsReturns, cardsLeaves}
-use Rattle.clock.specs.View.{view, Made}
+use Rattle.clock.specs.View.{view, monthIn, Made}
 use Rattle.clock.specs.Posts.{CardsPost}
 use Rattle.clock.specs.Parts.{withTable}
 use Rattle.clock.proofs.Tables.{in-range}
 
 module _ (c : Clock) (file : List ℕ) (read : Read) (made : Made c) (reads : outcomeOf read ≡ readCards file) where
-  pub file-accepted : read .answer ≡ Accepted → CardsPost c file (read .answer) (withTable c (read .table))
-  unfolding cardsReturns cardsLeaves view
-  file-accepted e =
+  pub cards-accepted : read .answer ≡ Accepted → CardsPost c file Accepted (withTable c (read .table))
+  unfolding view
+  cards-accepted e =
       let table : readCards file ≡ accepted (tableOf (read .table)) = rw e at (sym reads) in
+      let law = file-accepted (view c) file (tableOf (read .table)) table (stationOf (c .station)) (monthIn c) in
       record {
         made = record { cosines = made .cosines; table = in-range (read .table) (λ none z k. accepted-in-range file _ none z table k); count = made .count; last = made .last; month = made .month };
-        returns = rw (e, table);
-        leaves = rw table;
+        returns = law .0;
+        leaves = law .1;
       }
 
-  pub file-refused : (r : Refusal) (line : ℕ) → read .answer ≡ Refused r line → CardsPost c file (read .answer) c
-  unfolding cardsReturns cardsLeaves
-  file-refused r line e =
+  pub cards-refused : (r : Refusal) (line : ℕ) → read .answer ≡ Refused r line → CardsPost c file (read .answer) c
+  cards-refused r line e =
       let no : readCards file ≡ refused (numberOf r) line = rw e at (sym reads) in
-      record { made = made; returns = rw (e, no); leaves = rw no }
+      let law = file-refused (view c) file (numberOf r) line no in
+      record { made = made; returns = rw e (law .0); leaves = law .1 }

@@ -8,24 +8,31 @@ use native.Mathlib.Nat.{zero-add, add-zero}
 use native.Mathlib.Numerals.{add-one}
 use lib.ListN.{length, getD}
 use lib.IntN.{ℤ, pos}
-use Rattle.refusals.specs.declared.Refusal.the-variants.{TooLarge}
+use Rattle.refusals.specs.Outcome as outcome
+use Rattle.refusals.specs.Outcome.{outcomeOf, numberOf}
+use Rattle.refusals.specs.declared.Refusal.{Refusal}
+use Rattle.refusals.specs.declared.Answer.{Answer}
 use Rattle.refusals.specs.declared.Answer.the-variants.{Accepted, Refused}
 use Rattle.table.specs.View.{tableOf}
 use Rattle.station.specs.Rows.{stationOf}
 use Rattle.prepared.specs.Prepared.{Constituent}
+use Rattle.prepared.specs.declared.Month.{Month}
 use Rattle.prepared.specs.View.{constituentAt, constituentsAfter, constituentsFrom, constituentsOf}
 use Rattle.calendar.specs.Calendar.{monthMinutes}
 use Rattle.calendar.proofs.Months.{minutes-short}
-use Rattle.month.specs.Month as specs
-use Rattle.month.specs.Month.{monthOf, tooLarge, prepared}
-use Rattle.month.specs.View.{preparedOf}
+use Rattle.month.specs.Month.{monthOf, prepared}
+use Rattle.month.specs.View.{answeredWith, preparedOf}
 use Rattle.month.specs.declared.Prepared.{Prepared}
+use Rattle.month.specs.declared.Preparation.{Preparation}
 use Rattle.month.specs.declared.Preparation.the-variants as preparation
 use Rattle.month.proofs.Ranges.{prepared-in-range}
 use Rattle.slopes.specs.Slope.{InRange}
 use Rattle.clock.specs.declared.Clock.{Clock}
-use Rattle.clock.specs.View.{view, Made}
-use Rattle.clock.specs.Posts.{PreparedPost}
+use Rattle.calls.specs.Returned.{accepted, answerReturned}
+use Rattle.calls.specs.Calls.{preparedReturns, dateAsked}
+use Rattle.calls.proofs.Dates.{date-refused, date-prepared}
+use Rattle.clock.specs.View.{view, monthIn, Made}
+use Rattle.clock.specs.Posts.{PreparedPost, DatePost}
 use Rattle.clock.specs.Parts.{withMonth}
 use Rattle.clock.proofs.Tables.{frequencies-within}
 
@@ -38,11 +45,17 @@ frequency-at vs ls fs ps qs k (suc n) zero none h = ap (λ (j : ℕ). getD fs j 
 frequency-at vs ls fs ps qs k (suc n) (suc i) none h =
     frequency-at vs ls fs ps qs (k + 1) n i none (omega arith) ∙ ap (λ (j : ℕ). getD fs j 0) (let e : k + 1 + i ≡ k + suc i = omega arith in e)
 
-module _ (c : Clock) (year month : ℕ) (p : Prepared) (made : Made c) (prepares : preparedOf p ≡ monthOf (tableOf (c .table)) (stationOf (c .station)) year month) where
-  pub month-ready : p .answer ≡ preparation.Ready → PreparedPost c year month Accepted (withMonth c (monthMinutes year month) (p .month))
+-- accepted is what is ready
+ready-by : (answer : Preparation) (m : Month) → preparedReturns (answeredWith answer m) ≡ accepted → answeredWith answer m ≡ prepared (constituentsOf m)
+ready-by preparation.Ready m e = refl
+ready-by (preparation.TooLarge place) m e = let z : _≡_ {A = ℕ} 0 1 = cc in absurd (omega arith)
+
+module _ (c : Clock) (year month : ℕ) (p : Prepared) (answer : Answer) (made : Made c)
+    (prepares : preparedOf p ≡ monthOf (tableOf (c .table)) (stationOf (c .station)) year month) (says : answerReturned answer ≡ preparedReturns (preparedOf p)) where
+  pub month-ready : answer ≡ Accepted → PreparedPost c year month Accepted (withMonth c (monthMinutes year month) (p .month))
   unfolding view
   month-ready e =
-      let ready : monthOf (tableOf (c .table)) (stationOf (c .station)) year month ≡ prepared (constituentsOf (p .month)) = rw e at (sym prepares) in
+      let ready : monthOf (tableOf (c .table)) (stationOf (c .station)) year month ≡ prepared (constituentsOf (p .month)) = sym prepares ∙ ready-by (p .answer) (p .month) (sym says ∙ ap answerReturned e) in
       let none : Constituent = record { argument = 0; lag = 0; frequency = 0; p = pos 0; q = pos 0 } in
       let m = p .month in
       record {
@@ -57,7 +70,20 @@ module _ (c : Clock) (year month : ℕ) (p : Prepared) (made : Made c) (prepares
         leaves = rw ready;
       }
 
-  pub month-refused : (place : ℕ) → p .answer ≡ preparation.TooLarge place → PreparedPost c year month (Refused TooLarge place) c
-  month-refused place e =
-      let large : monthOf (tableOf (c .table)) (stationOf (c .station)) year month ≡ tooLarge place = rw e at (sym prepares) in
-      record { made = made; returns = rw large; leaves = refl }
+  pub month-refused : (r : Refusal) (place : ℕ) → answer ≡ Refused r place → PreparedPost c year month answer c
+  month-refused r place e = record { made = made; returns = rw (← prepares) says; leaves = rw e }
+
+-- a date that passes returns and leaves what its month says
+pub date-post : (c : Clock) (year month : ℕ) → dateAsked (c .tabled) (c .stationed) year month ≡ outcome.accepted
+    → (answer : Answer) (left : Clock) → PreparedPost c year month answer left → DatePost c year month answer left
+unfolding view
+date-post c year month e answer left p =
+    let law = date-prepared (tableOf (c .table)) (stationOf (c .station)) (c .dated) (monthIn c) year month (c .tabled) (c .stationed) e (answerReturned answer) (p .returns) in
+    record { made = p .made; returns = law .0; leaves = p .leaves ∙ law .1 }
+
+pub date-post-refused : (c : Clock) (year month : ℕ) → Made c → (answer : Answer) → outcomeOf answer ≡ dateAsked (c .tabled) (c .stationed) year month
+    → (r : Refusal) (place : ℕ) → answer ≡ Refused r place → DatePost c year month answer c
+unfolding view
+date-post-refused c year month made answer says r place e =
+    let law = date-refused (tableOf (c .table)) (stationOf (c .station)) (c .dated) (monthIn c) year month (c .tabled) (c .stationed) (numberOf r) place (sym says ∙ ap outcomeOf e) in
+    record { made = made; returns = rw e (law .0); leaves = law .1 }

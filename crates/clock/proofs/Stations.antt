@@ -1,49 +1,47 @@
--- A station's cases: 21, accepted and refused, from what the check of its records promises. Assumes nothing.
+-- A station's two cases, accepted and refused, from what the check of its records promises. Assumes nothing.
 use mathlib.Core.Path.{_≡_, refl, sym, ap, _∙_}
-use Prim.Native.Nat.{ℕ}
-use mathlib.Core.Bool.{true, false}
+use Prim.Native.Nat.{ℕ, min}
+use mathlib.Core.List.{List}
 use lib.ListN.{length}
 use lib.IntN.{ℤ}
 use Rattle.refusals.specs.Outcome.{outcomeOf, numberOf}
-use Rattle.refusals.specs.Outcome as outcome
 use Rattle.refusals.specs.declared.Refusal.{Refusal}
-use Rattle.refusals.specs.declared.Refusal.the-variants.{NoTable}
 use Rattle.refusals.specs.declared.Answer.{Answer}
 use Rattle.refusals.specs.declared.Answer.the-variants.{Accepted, Refused}
 use Rattle.table.specs.View.{tableOf}
-use Rattle.station.specs.Station.{stationOutcome}
-use Rattle.station.specs.Posts as station
-use Rattle.records.specs.Rows.{recordsOf}
+use Rattle.records.specs.declared.Record.{Record}
+use Rattle.records.specs.Rows.{recordsOf, rowsUpto}
 use Rattle.records.specs.declared.Rows.{Rows}
+use Rattle.station.specs.Rows.{stationOf}
 use Rattle.station.specs.declared.Taken.{Taken}
+use Rattle.settings.specs.Posts.{TakenPost}
+use Rattle.calls.proofs.Stations.{station-accepted, station-refused}
+use Rattle.calls.proofs.Lent.{lent-same}
 use Rattle.clock.specs.declared.Clock.{Clock}
-use Rattle.clock.specs.Calls.{stationReturns, stationLeaves}
-use Rattle.clock.specs.View.{view, Made}
+use Rattle.clock.specs.View.{view, monthIn, Made}
 use Rattle.clock.specs.Posts.{StationPost}
 use Rattle.clock.specs.Parts.{withStation}
-use Rattle.clock.proofs.Tables.{frequencies-count}
 
-module _ (c : Clock) (latitude : ℤ) (n : ℕ) (rows : Rows) (made : Made c) where
-  pub station-21 : c .tabled ≡ false → StationPost c latitude (recordsOf rows n) (Refused NoTable 0) c
-  unfolding stationReturns stationLeaves view
-  station-21 t = record { made = made; returns = simp t; leaves = simp t }
+module _ (c : Clock) (latitude : ℤ) (n : ℕ) (rows : Rows) (made : Made c) (taken : Taken) (says : TakenPost (c .tabled) (c .table) latitude n rows taken) where
+  pub taken-accepted : taken .answer ≡ Accepted → StationPost c latitude (recordsOf rows n) Accepted (withStation c (taken .station))
+  unfolding view
+  taken-accepted e =
+      let law = station-accepted (tableOf (c .table)) (c .stationed) (stationOf (c .station)) (c .dated) (monthIn c) latitude (recordsOf rows n) (c .tabled) (sym (says .says) ∙ ap outcomeOf e) in
+      record {
+        made = record { cosines = made .cosines; table = made .table; count = made .count; last = made .last; month = made .month };
+        returns = law .0;
+        leaves = rw (says .keeps (ap outcomeOf e)) (law .1);
+      }
 
-  module _ (t : c .tabled ≡ true) (taken : Taken) (says : station.StationPost (c .table .frequencies) latitude n rows taken) where
-    asked : outcomeOf (taken .answer) ≡ stationOutcome (length (tableOf (c .table) .frequencies)) latitude (recordsOf rows n)
-    asked = rw (frequencies-count (c .table)) (says .says)
+  pub taken-refused : (r : Refusal) (place : ℕ) → taken .answer ≡ Refused r place → StationPost c latitude (recordsOf rows n) (taken .answer) c
+  unfolding view
+  taken-refused r place e =
+      let law = station-refused (tableOf (c .table)) (c .stationed) (stationOf (c .station)) (c .dated) (monthIn c) latitude (recordsOf rows n) (c .tabled) (numberOf r) place (sym (says .says) ∙ ap outcomeOf e) in
+      record { made = made; returns = rw e (law .0); leaves = law .1 }
 
-    pub station-accepted : taken .answer ≡ Accepted → StationPost c latitude (recordsOf rows n) (taken .answer) (withStation c (taken .station))
-    unfolding stationReturns stationLeaves view
-    station-accepted e =
-        let yes′ : stationOutcome (length (tableOf (c .table) .frequencies)) latitude (recordsOf rows n) ≡ outcome.accepted = sym asked ∙ ap outcomeOf e in
-        record {
-          made = record { cosines = made .cosines; table = made .table; count = made .count; last = made .last; month = made .month };
-          returns = simp (t, yes′, e);
-          leaves = simp (t, yes′, says .keeps (ap outcomeOf e));
-        }
-
-    pub station-refused : (r : Refusal) (place : ℕ) → taken .answer ≡ Refused r place → StationPost c latitude (recordsOf rows n) (taken .answer) c
-    unfolding stationReturns stationLeaves view
-    station-refused r place e =
-        let no′ : stationOutcome (length (tableOf (c .table) .frequencies)) latitude (recordsOf rows n) ≡ outcome.refused (numberOf r) place = sym asked ∙ ap outcomeOf e in
-        record { made = made; returns = simp (t, no′, e); leaves = simp (t, no′) }
+-- what holds of the rows' records holds of those lent
+pub lent-post : (c : Clock) (latitude : ℤ) (records : List Record) (answer : Answer) (left : Clock) (rows : Rows) → rows ≡ rowsUpto records (min (length records) 146)
+    → StationPost c latitude (recordsOf rows (length records)) answer left → StationPost c latitude records answer left
+lent-post c latitude records answer left rows e p =
+    let same = lent-same (view c) latitude records rows e in
+    record { made = p .made; returns = p .returns ∙ same .0; leaves = p .leaves ∙ same .1 }

@@ -1,4 +1,4 @@
--- What the table's struct has of its document's table: how many frequencies, and that these are in range.
+-- What the table's struct has of its document's table: frequencies in range.
 -- Rests on the laws of rows. Assumes nothing.
 use mathlib.Core.Path.{_≡_, refl, sym, ap, subst, _∙_}
 use Prim.Native.Nat.{ℕ, zero, suc, _+_, _≤_, _<_}
@@ -15,11 +15,7 @@ use Rattle.table.specs.View.{tableOf, listed, frequencyOf}
 use Rattle.table.specs.declared.Table.{Table}
 use Rattle.table.proofs.Rows.{listed-length, listed-at}
 use Rattle.slopes.specs.Slope.{InRange}
-
--- as many frequencies as the struct counts
-pub frequencies-count : (t : Table) → length (tableOf t .frequencies) ≡ t .frequencies
-unfolding tableOf
-frequencies-count t = listed-length (frequencyOf (t .names) (t .speeds)) 0 (t .frequencies)
+use Rattle.settings.proofs.Tables.{frequencies-count}
 
 -- a table of no cards has none
 pub none-in-range : (t : Table) → tableOf t ≡ noCards → InRange (t .frequencies) (t .speeds)

@@ -5,7 +5,13 @@ use mathlib.Core.Bool.{true, false}
 use Rattle.table.specs.declared.Table.{Table}
 use Rattle.station.specs.declared.Station.{Station}
 use Rattle.prepared.specs.declared.Month.{Month}
+use Rattle.refusals.specs.declared.Answer.the-variants.{Accepted}
 use Rattle.clock.specs.declared.Clock.{Clock}
+use Rattle.clock.specs.declared.After.{After}
+
+-- what an accepted call leaves
+abbrev pub accepts : Clock → After
+accepts c = record { answer = Accepted; clock = c }
 
 abbrev pub withTable : Clock → Table → Clock
 withTable c t =

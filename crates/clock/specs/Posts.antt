@@ -6,13 +6,14 @@ use mathlib.Core.Path.{_≡_}
 use lib.IntN.{ℤ}
 use Rattle.refusals.specs.declared.Answer.{Answer}
 use Rattle.records.specs.declared.Record.{Record}
-use Rattle.clock.specs.State.{State, nothing}
-use Rattle.clock.specs.Returned.{onAccepted, answerReturned, heightReturned, turnsReturned}
+use Rattle.calls.specs.State.{State, nothing}
+use Rattle.calls.specs.Returned.{onAccepted, answerReturned}
+use Rattle.clock.specs.Returned.{heightReturned, turnsReturned}
 use Rattle.table.specs.View.{tableOf}
 use Rattle.station.specs.Rows.{stationOf}
 use Rattle.calendar.specs.Calendar.{monthMinutes}
 use Rattle.month.specs.Month.{monthOf}
-use Rattle.clock.specs.Calls.{preparedReturns, monthLeft, cardsReturns, cardsLeaves, stationReturns, stationLeaves, dateReturns, dateLeaves, heightReturns, seriesGives, turnsGives}
+use Rattle.calls.specs.Calls.{preparedReturns, monthLeft, cardsReturns, cardsLeaves, stationReturns, stationLeaves, dateReturns, dateLeaves, heightReturns, seriesGives, turnsGives}
 use Rattle.clock.specs.View.{view, Made}
 use Rattle.clock.specs.declared.Clock.{Clock}
 use Rattle.clock.specs.declared.HeightAnswer.{HeightAnswer}

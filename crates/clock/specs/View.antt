@@ -1,7 +1,6 @@
 -- The state that the code's struct stands for, and what a clock call makes sure of for the next.
 -- Assumes nothing.
 use Prim.Native.Nat.{ℕ, _≤_, min}
-use mathlib.Core.Bool.{Bool, true, false}
 use mathlib.Core.List.{List}
 use Rattle.cosine.specs.Fixed.{IsTable}
 use Rattle.table.specs.View.{tableOf}
@@ -9,25 +8,19 @@ use Rattle.station.specs.Rows.{stationOf}
 use Rattle.prepared.specs.Prepared.{Constituent}
 use Rattle.prepared.specs.View.{constituentsFrom}
 use Rattle.slopes.specs.Slope.{InRange}
-use Rattle.clock.specs.State.{Maybe, none, some, Month, State}
+use Rattle.calls.specs.State.{Month, State, stateOf}
 use Rattle.clock.specs.declared.Clock.{Clock}
-
--- what a flag says is there
-abbrev pub when : {A : Type 0} → Bool → A → Maybe A
-when true a = some a
-when false a = none
 
 -- the prepared constituents
 abbrev pub constituentsIn : Clock → List Constituent
 constituentsIn c = constituentsFrom (c .arguments) (c .lags) (c .frequencies) (c .ps) (c .qs) (c .count)
 
+-- the prepared month
+abbrev pub monthIn : Clock → Month
+monthIn c = record { last = c .last; constituents = constituentsIn c }
+
 unfoldable pub view : Clock → State
-view c =
-    record {
-      table = when (c .tabled) (tableOf (c .table));
-      station = when (c .stationed) (stationOf (c .station));
-      month = when (c .dated) (record { last = c .last; constituents = constituentsIn c });
-    }
+view c = stateOf (c .tabled) (tableOf (c .table)) (c .stationed) (stationOf (c .station)) (c .dated) (monthIn c)
 
 -- A clock that a clock call made: its table of cosines is the table, and its numbers are in their ranges.
 pub record Made (c : Clock) : Type 0 where

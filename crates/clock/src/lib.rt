@@ -4,12 +4,19 @@
 // No call asks anything of its caller but a clock that `new` or another call made.
 ghost use mathlib.Core.Path.{_≡_};
 ghost use mathlib.Core.Bool.{true};
+ghost use Rattle.table.specs.View.{tableOf};
+ghost use Rattle.station.specs.Rows.{stationOf};
+ghost use Rattle.month.specs.Month.{monthOf};
 ghost use Rattle.calendar.specs.Calendar.{inRange};
 ghost use Rattle.clock.specs.View.{Made};
 ghost use Rattle.clock.specs.Posts.{NewPost, CardsPost, StationPost, DatePost, HeightPost, SeriesPost, TurnsPost, PreparedPost};
 ghost use Rattle.records.specs.Rows.{recordsOf};
-ghost use Rattle.clock.specs.Parts.{withTable, withStation, withMonth};
-use month::Preparation;
+ghost use Rattle.month.specs.View.{preparedOf};
+ghost use Rattle.turns.specs.Written.{returnedOf};
+ghost use Rattle.calls.specs.Calls.{searchReturns};
+ghost use Rattle.clock.specs.Returned.{turnsReturned};
+ghost use Rattle.clock.specs.Parts.{accepts, withTable, withStation, withMonth};
+use month::Prepared;
 use prepared::Month;
 use records::Record;
 use records::Rows;
@@ -76,47 +83,56 @@ pub fn new() -> Clock
 }
 
 // The clock with a new table, and no station or month.
-fn with_table(clock: Clock, table: Table) -> Clock
-    ensures { λ r. ⌜ r ≡ withTable clock table ⌝ }
+fn with_table(clock: Clock, table: Table) -> After
+    ensures { λ r. ⌜ r ≡ accepts (withTable clock table) ⌝ }
 {
     let mut next = clock;
     next.tabled = true;
     next.table = table;
     next.stationed = false;
     next.dated = false;
-    next
+    After {
+        answer: Answer::Accepted,
+        clock: next,
+    }
 }
 
 // The clock with a new station, and no month.
-fn with_station(clock: Clock, station: Station) -> Clock
-    ensures { λ r. ⌜ r ≡ withStation clock station ⌝ }
+fn with_station(clock: Clock, station: Station) -> After
+    ensures { λ r. ⌜ r ≡ accepts (withStation clock station) ⌝ }
 {
     let mut next = clock;
     next.stationed = true;
     next.station = station;
     next.dated = false;
-    next
+    After {
+        answer: Answer::Accepted,
+        clock: next,
+    }
 }
 
 // The clock with a new month.
-fn with_month(clock: Clock, last: u64, month: Month) -> Clock
-    ensures { λ r. ⌜ r ≡ withMonth clock last month ⌝ }
+fn with_month(clock: Clock, last: u64, month: Month) -> After
+    ensures { λ r. ⌜ r ≡ accepts (withMonth clock last month) ⌝ }
 {
     let mut next = clock;
     next.dated = true;
     next.last = last;
     next.count = prepared::held(month.count);
     let arguments = month.arguments;
-    let lags = month.lags;
-    let frequencies = month.frequencies;
-    let ps = month.ps;
-    let qs = month.qs;
     next.arguments = arguments;
+    let lags = month.lags;
     next.lags = lags;
+    let frequencies = month.frequencies;
     next.frequencies = frequencies;
+    let ps = month.ps;
     next.ps = ps;
+    let qs = month.qs;
     next.qs = qs;
-    next
+    After {
+        answer: Answer::Accepted,
+        clock: next,
+    }
 }
 
 // A card file: its table takes the place of the old one, with no station and no month; or it is refused.
@@ -128,14 +144,11 @@ pub fn load_cards(clock: Clock, file: &[u8]) -> After
     let answer = read.answer;
     match answer {
         Answer::Accepted => {
-            let table = read.table;
-            let next = with_table(clock, table);
-            After {
-                answer,
-                clock: next,
-            }
+            return with_table(clock, read.table);
         }
-        Answer::Refused(_, _) => After { answer, clock },
+        Answer::Refused(_, _) => {
+            return After { answer, clock };
+        }
     }
 }
 
@@ -144,25 +157,15 @@ pub fn place_station(clock: Clock, latitude: i32, n: usize, rows: Rows) -> After
     requires { ⌜ Made clock ⌝ }
     ensures { λ r. ⌜ StationPost clock latitude (recordsOf rows n) (r .answer) (r .clock) ⌝ }
 {
-    if !clock.tabled {
-        return After {
-            answer: Answer::Refused(Refusal::NoTable, 0),
-            clock,
-        };
-    }
-    let table = clock.table;
-    let taken = station::take_station(table.frequencies, latitude, n, rows);
+    let taken = settings::station_answer(clock.tabled, clock.table, latitude, n, rows);
     let answer = taken.answer;
     match answer {
         Answer::Accepted => {
-            let station = taken.station;
-            let next = with_station(clock, station);
-            After {
-                answer,
-                clock: next,
-            }
+            return with_station(clock, taken.station);
         }
-        Answer::Refused(_, _) => After { answer, clock },
+        Answer::Refused(_, _) => {
+            return After { answer, clock };
+        }
     }
 }
 
@@ -177,29 +180,29 @@ pub fn set_station(clock: Clock, latitude: i32, records: &[Record]) -> After
     place_station(clock, latitude, n, rows)
 }
 
+// The month of a date that is in range, worked out.
+fn prepared_month(clock: Clock, year: u32, month: u32) -> Prepared
+    requires { ⌜ Made clock × (inRange year month ≡ true) ⌝ }
+    ensures { λ r. ⌜ preparedOf r ≡ monthOf (tableOf (clock .table)) (stationOf (clock .station)) year month ⌝ }
+{
+    month::prepare(&clock.cosines, clock.table, clock.station, year, month)
+}
+
 // The month of a date that is in range.
 fn prepare_month(clock: Clock, year: u32, month: u32) -> After
     requires { ⌜ Made clock × (inRange year month ≡ true) ⌝ }
     ensures { λ r. ⌜ PreparedPost clock year month (r .answer) (r .clock) ⌝ }
 {
-    let table = clock.table;
-    let station = clock.station;
     let last = calendar::month_minutes(year, month) as u64;
-    let prepared = month::prepare(&clock.cosines, table, station, year, month);
-    let answer = prepared.answer;
+    let prepared = prepared_month(clock, year, month);
+    let answer = settings::month_answer(prepared);
     match answer {
-        Preparation::Ready => {
-            let constituents = prepared.month;
-            let next = with_month(clock, last, constituents);
-            After {
-                answer: Answer::Accepted,
-                clock: next,
-            }
+        Answer::Accepted => {
+            return with_month(clock, last, prepared.month);
         }
-        Preparation::TooLarge(place) => After {
-            answer: Answer::Refused(Refusal::TooLarge, place),
-            clock,
-        },
+        Answer::Refused(_, _) => {
+            return After { answer, clock };
+        }
     }
 }
 
@@ -208,25 +211,15 @@ pub fn set_date(clock: Clock, year: u32, month: u32) -> After
     requires { ⌜ Made clock ⌝ }
     ensures { λ r. ⌜ DatePost clock year month (r .answer) (r .clock) ⌝ }
 {
-    if !clock.tabled {
-        return After {
-            answer: Answer::Refused(Refusal::NoTable, 0),
-            clock,
-        };
+    let answer = settings::date_answer(clock.tabled, clock.stationed, year, month);
+    match answer {
+        Answer::Accepted => {
+            return prepare_month(clock, year, month);
+        }
+        Answer::Refused(_, _) => {
+            return After { answer, clock };
+        }
     }
-    if !clock.stationed {
-        return After {
-            answer: Answer::Refused(Refusal::NoStation, 0),
-            clock,
-        };
-    }
-    if !calendar::in_range(year, month) {
-        return After {
-            answer: Answer::Refused(Refusal::BadDate, 0),
-            clock,
-        };
-    }
-    prepare_month(clock, year, month)
 }
 
 // The height at a minute of the month, in tenths of a millimetre; or a refusal.
@@ -242,17 +235,21 @@ pub fn height(clock: Clock, minute: u32) -> HeightAnswer
         minute as u64,
     );
     match asked {
-        Answer::Accepted => HeightAnswer::Height(heights::height(
-            &clock.cosines,
-            &clock.arguments,
-            &clock.lags,
-            &clock.frequencies,
-            &clock.ps,
-            &clock.qs,
-            clock.count,
-            minute as u64,
-        )),
-        Answer::Refused(refusal, _) => HeightAnswer::Refused(refusal, 0),
+        Answer::Accepted => {
+            return HeightAnswer::Height(heights::height(
+                &clock.cosines,
+                &clock.arguments,
+                &clock.lags,
+                &clock.frequencies,
+                &clock.ps,
+                &clock.qs,
+                clock.count,
+                minute as u64,
+            ));
+        }
+        Answer::Refused(refusal, _) => {
+            return HeightAnswer::Refused(refusal, 0);
+        }
     }
 }
 
@@ -284,9 +281,21 @@ pub fn series(clock: Clock, start: u32, step: u32, heights: &mut [i64]) -> Answe
                 step as u64,
                 heights,
             );
-            Answer::Accepted
+            return asked;
         }
-        Answer::Refused(refusal, _) => Answer::Refused(refusal, 0),
+        Answer::Refused(refusal, _) => {
+            return Answer::Refused(refusal, 0);
+        }
+    }
+}
+
+// What a search says: how many turns, and whether the first is high; or 10.
+fn found_turns(found: Searched) -> TurnsAnswer
+    ensures { λ r. ⌜ turnsReturned r ≡ searchReturns (returnedOf found) ⌝ }
+{
+    match found {
+        Searched::Found(s) => TurnsAnswer::Turns(s.count, s.high),
+        Searched::TooMany => TurnsAnswer::Refused(Refusal::TooManyTurns, 0),
     }
 }
 
@@ -311,9 +320,7 @@ pub fn turns(
     );
     match asked {
         Answer::Accepted => {
-            let table = clock.table;
-            let station = clock.station;
-            let stride = strides::station_stride(table, station);
+            let stride = strides::station_stride(clock.table, clock.station);
             let found = turns::turns(
                 &clock.cosines,
                 &clock.arguments,
@@ -328,11 +335,10 @@ pub fn turns(
                 minutes,
                 heights,
             );
-            match found {
-                Searched::Found(s) => TurnsAnswer::Turns(s.count, s.high),
-                Searched::TooMany => TurnsAnswer::Refused(Refusal::TooManyTurns, 0),
-            }
+            return found_turns(found);
         }
-        Answer::Refused(refusal, _) => TurnsAnswer::Refused(refusal, 0),
+        Answer::Refused(refusal, _) => {
+            return TurnsAnswer::Refused(refusal, 0);
+        }
     }
 }

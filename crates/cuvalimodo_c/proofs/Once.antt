@@ -7,11 +7,13 @@ use lib.IntN.{ℤ}
 use Rattle.refusals.specs.declared.Answer.{Answer}
 use Rattle.clock.specs.declared.Clock.{Clock}
 use Rattle.clock.specs.declared.TurnsAnswer.{TurnsAnswer}
-use Rattle.clock.specs.State.{State}
-use Rattle.clock.specs.Returned.{Returned, accepted, refused, answerReturned, turnsReturned}
-use Rattle.clock.specs.Calls.{SeriesGiven, seriesGives, TurnsGiven, turnsGives}
+use Rattle.calls.specs.State.{State}
+use Rattle.calls.specs.Returned.{Returned, accepted, refused, answerReturned}
+use Rattle.clock.specs.Returned.{turnsReturned}
+use Rattle.calls.specs.Calls.{SeriesGiven, seriesGives, TurnsGiven, turnsGives}
 use Rattle.clock.specs.Posts as clock
-use Rattle.onecall.specs.Setting.{recordsIn, stateAfter, setOnce, settingReturned}
+use Rattle.recordarrays.specs.Arrays.{recordsIn}
+use Rattle.onecall.specs.Setting.{stateAfter, setOnce, settingReturned}
 use Rattle.onecall.specs.Posts.{ReadyPost}
 use Rattle.onecall.specs.declared.Ready.{Ready}
 use Rattle.cuvalimodo_c.specs.Answers.{verdictOf, turningsOf}

@@ -6,10 +6,13 @@
 ghost use mathlib.Core.Path.{_≡_};
 ghost use mathlib.Core.Bool.{false};
 ghost use Rattle.cards.specs.Cards.{readCards};
-ghost use Rattle.clock.specs.Returned.{answerReturned, turnsReturned};
-ghost use Rattle.cuvalimodo_c.specs.Answers.{verdictOf, countsOf, turningsOf};
+ghost use Rattle.cardcounts.specs.Counts.{countsOf};
+ghost use Rattle.calls.specs.Returned.{answerReturned};
+ghost use Rattle.clock.specs.Returned.{turnsReturned};
+ghost use Rattle.cuvalimodo_c.specs.Answers.{verdictOf, turningsOf};
 ghost use Rattle.cuvalimodo_c.specs.OneCall.{seriesOnce, turnsOnce, SeriesPost, TurnsPost};
 ghost use Rattle.onecall.specs.Setting.{settingReturned};
+use cardcounts::Counts;
 use clock::TurnsAnswer;
 use onecall::Setting;
 use refusals::Answer;
@@ -19,17 +22,6 @@ use refusals::Answer;
 pub struct Verdict {
     pub number: u32,
     pub place: usize,
-}
-
-// What a card file comes to: the counts of an accepted file, or the refusal's number and line.
-#[repr(C)]
-pub struct Counts {
-    pub number: u32,
-    pub line: usize,
-    pub frequencies: usize,
-    pub mains: usize,
-    pub satellites: usize,
-    pub shallows: usize,
 }
 
 // What a search for turns comes to: how many, and whether the first is high; or the refusal's number and place.
@@ -111,27 +103,7 @@ fn no_turns(verdict: Verdict) -> Turnings
 pub extern "C" fn cuvalimodo_check_cards(file: &[u8]) -> Counts
     ensures { λ r. ⌜ r ≡ countsOf (readCards (now (file .entry))) ⌝ }
 {
-    let read = cardfile::read_cards(file);
-    let answer = read.answer;
-    let table = read.table;
-    match answer {
-        Answer::Accepted => Counts {
-            number: 0,
-            line: 0,
-            frequencies: table.frequencies,
-            mains: table.mains,
-            satellites: onecall::satellites_of(table),
-            shallows: table.shallows,
-        },
-        Answer::Refused(refusal, line) => Counts {
-            number: refusals::number_of(refusal),
-            line,
-            frequencies: 0,
-            mains: 0,
-            satellites: 0,
-            shallows: 0,
-        },
-    }
+    cardcounts::check_cards(file)
 }
 
 // One height for each lent place, at start, start + step and so on, of a card file, a station and a month; or a refusal.
@@ -154,12 +126,14 @@ pub extern "C" fn cuvalimodo_series(
     let setting = ready.setting;
     match setting {
         Setting::Accepted => {
-            let clock = ready.clock;
-            let said = clock::series(clock, start, step, heights);
-            told(said)
+            return told(clock::series(ready.clock, start, step, heights));
         }
-        Setting::Refused(_, _) => unset(setting),
-        Setting::Uneven(_) => unset(setting),
+        Setting::Refused(_, _) => {
+            return unset(setting);
+        }
+        Setting::Uneven(_) => {
+            return unset(setting);
+        }
     }
 }
 
@@ -184,11 +158,13 @@ pub extern "C" fn cuvalimodo_turns(
     let setting = ready.setting;
     match setting {
         Setting::Accepted => {
-            let clock = ready.clock;
-            let said = clock::turns(clock, first, last, minutes, heights);
-            told_turns(said)
+            return told_turns(clock::turns(ready.clock, first, last, minutes, heights));
         }
-        Setting::Refused(_, _) => no_turns(unset(setting)),
-        Setting::Uneven(_) => no_turns(unset(setting)),
+        Setting::Refused(_, _) => {
+            return no_turns(unset(setting));
+        }
+        Setting::Uneven(_) => {
+            return no_turns(unset(setting));
+        }
     }
 }

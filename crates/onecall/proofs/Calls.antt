@@ -7,25 +7,25 @@ use mathlib.Core.Bool.{Bool, true, false}
 use mathlib.Core.List.{List}
 use lib.ListN.{length}
 use lib.IntN.{ℤ}
-use Rattle.refusals.specs.declared.Refusal.{Refusal}
 use Rattle.refusals.specs.declared.Answer.{Answer}
-use Rattle.refusals.specs.declared.Answer.the-variants as answers
 use Rattle.records.specs.declared.Record.{Record}
 use Rattle.records.specs.declared.Rows.{Rows}
-use Rattle.records.specs.Rows.{recordsFrom, rowsUpto}
-use Rattle.records.specs.Rows.{recordsOf}
+use Rattle.records.specs.Rows.{rowsUpto, recordsOf}
 use Rattle.records.proofs.Copies.{records-length}
 use Rattle.clock.specs.declared.Clock.{Clock}
-use Rattle.clock.specs.State.{State, nothing}
-use Rattle.clock.specs.Returned.{Returned, answerReturned}
-use Rattle.clock.specs.Calls.{cardsReturns, cardsLeaves, stationReturns, stationLeaves, dateReturns, dateLeaves}
+use Rattle.calls.specs.State.{State, nothing}
+use Rattle.calls.specs.Returned.{accepted, refused, answerReturned}
+use Rattle.calls.specs.Calls.{cardsReturns, cardsLeaves, stationReturns, stationLeaves, dateReturns, dateLeaves}
 use Rattle.clock.specs.View.{view}
 use Rattle.clock.specs.Posts.{NewPost, CardsPost, StationPost, DatePost}
-use Rattle.clock.proofs.Lent.{lent-post}
-use Rattle.onecall.specs.Setting.{recordsIn, oneLength, lacking, firstRefusal, stateAfter, setReturns, setOnce}
-use Rattle.onecall.specs.Posts.{SetPost, ReadyPost}
+use Rattle.clock.proofs.Stations.{lent-post}
+use Rattle.clock.specs.declared.After.{After}
+use Rattle.recordarrays.specs.Arrays.{recordsIn, oneLength, lacking}
+use Rattle.onecall.specs.Setting.{firstRefusal, stateAfter, setReturns, setOnce, settingReturned}
+use Rattle.onecall.specs.Posts.{DatedPost, SetPost, ReadyPost}
+use Rattle.onecall.specs.declared.Ready.{Ready}
 use Rattle.onecall.specs.declared.Setting.{Setting}
-use Rattle.onecall.specs.declared.Setting.the-variants.{Uneven, Accepted, Refused}
+use Rattle.onecall.specs.declared.Setting.the-variants.{Uneven}
 
 -- a station whose records lie in three arrays
 pub placed : (c : Clock) (latitude : ℤ) (ps ms fs : List ℕ) (rows : Rows) (answer : Answer) (left : Clock)
@@ -35,50 +35,51 @@ placed c latitude ps ms fs rows answer left e p =
     let long : length (recordsIn ps ms fs) ≡ length ps = records-length ps ms fs 0 (length ps) in
     lent-post c latitude (recordsIn ps ms fs) answer left rows (rw long e) (rw long p)
 
+-- a date after a station: the first refusal is said
+pub dated : (carded : Answer) (stationed after : After) (year month : ℕ) (later answer : Answer) (setting : Setting)
+    → DatePost (stationed .clock) year month (after .answer) (after .clock)
+    → answerReturned later ≡ firstRefusal (answerReturned (stationed .answer)) (answerReturned (after .answer))
+    → answerReturned answer ≡ firstRefusal (answerReturned carded) (answerReturned later)
+    → settingReturned setting ≡ answerReturned answer
+    → DatedPost carded stationed year month (record { setting = setting; clock = after .clock })
+dated carded stationed after year month later answer setting date second first said =
+    record {
+      made = date .made;
+      returns = said ∙ first ∙ ap (firstRefusal (answerReturned carded)) (second ∙ ap (firstRefusal (answerReturned (stationed .answer))) (date .returns));
+      leaves = date .leaves;
+    }
+
 module _ (file : List ℕ) (latitude : ℤ) (records : List Record) (year month : ℕ) where
-  pub ready : (c₀ c₁ c₂ c₃ : Clock) (a₁ a₂ a₃ later answer : Answer)
-      → NewPost c₀ → CardsPost c₀ file a₁ c₁ → StationPost c₁ latitude records a₂ c₂ → DatePost c₂ year month a₃ c₃
-      → answerReturned later ≡ firstRefusal (answerReturned a₂) (answerReturned a₃)
-      → answerReturned answer ≡ firstRefusal (answerReturned a₁) (answerReturned later)
-      → SetPost file latitude records year month answer c₃
+  pub ready : (c : Clock) (cards station : After) (r : Ready)
+      → NewPost c → CardsPost c file (cards .answer) (cards .clock) → StationPost (cards .clock) latitude records (station .answer) (station .clock)
+      → DatedPost (cards .answer) station year month r → SetPost file latitude records year month r
   unfolding stateAfter setReturns
-  ready c₀ c₁ c₂ c₃ a₁ a₂ a₃ later answer fresh carded stationed dated second first =
+  ready c cards station r fresh carded stationed date =
       record {
-        made = dated .made;
-        returns = first ∙ ap₂ firstRefusal (carded .returns) (second ∙ ap₂ firstRefusal (stationed .returns ∙ ap (λ (k : State). stationReturns k latitude records) after-cards) (dated .returns ∙ ap (λ (k : State). dateReturns k year month) after-station));
-        leaves = dated .leaves ∙ ap (λ (k : State). dateLeaves k year month) after-station;
+        made = date .made;
+        returns = date .returns ∙ ap₂ firstRefusal (carded .returns) (ap₂ firstRefusal (stationed .returns ∙ ap (λ (k : State). stationReturns k latitude records) after-cards) (ap (λ (k : State). dateReturns k year month) after-station));
+        leaves = date .leaves ∙ ap (λ (k : State). dateLeaves k year month) after-station;
       }
     where
-      after-cards : view c₁ ≡ cardsLeaves nothing file
+      after-cards : view (cards .clock) ≡ cardsLeaves nothing file
       after-cards = carded .leaves ∙ ap (λ (k : State). cardsLeaves k file) (fresh .leaves)
 
-      after-station : view c₂ ≡ stationLeaves (cardsLeaves nothing file) latitude records
+      after-station : view (station .clock) ≡ stationLeaves (cardsLeaves nothing file) latitude records
       after-station = stationed .leaves ∙ ap (λ (k : State). stationLeaves k latitude records) after-cards
 
 -- ---- with the records in three arrays
 
-module _ (file : List ℕ) (latitude : ℤ) (ps ms fs : List ℕ) (year month : ℕ) where
+module _ (file : List ℕ) (latitude : ℤ) (ps ms fs : List ℕ) (year month : ℕ) (r : Ready) where
   abbrev Even : Bool → Type 0
   Even b = oneLength (length ps) (length ms) (length fs) ≡ b
 
-  abbrev Promised : Setting → Clock → Type 0
-  Promised s c = ReadyPost file latitude ps ms fs year month (record { setting = s; clock = c })
-
-  pub ready-uneven : (c : Clock) → NewPost c → Even false → (place : ℕ) → place ≡ lacking (length ps) (length ms) (length fs) → Promised (Uneven place) c
+  pub ready-uneven : Even false → (place : ℕ) → place ≡ lacking (length ps) (length ms) (length fs) → r .setting ≡ Uneven place → NewPost (r .clock)
+      → ReadyPost file latitude ps ms fs year month r
   unfolding setOnce
-  ready-uneven c fresh e place is =
-      record { made = fresh .made; returns = rw (e, is); leaves = λ no. let z : _≡_ {A = ℕ} 0 1 = cc in absurd (omega arith) }
+  ready-uneven e place is says fresh =
+      let told : settingReturned (r .setting) ≡ refused 100 place = ap settingReturned says in
+      record { made = fresh .made; returns = rw (e, ← is) told; leaves = λ no. let odd : refused 100 place ≡ accepted = sym told ∙ no in let z : _≡_ {A = ℕ} 0 1 = cc in absurd (omega arith) }
 
-  module _ (e : Even true) (answer : Answer) (c : Clock) (p : SetPost file latitude (recordsIn ps ms fs) year month answer c) where
-    pub ready-accepted : answer ≡ answers.Accepted → Promised Accepted c
-    unfolding setOnce
-    ready-accepted is = record { made = p .made; returns = rw e (sym (ap answerReturned is) ∙ p .returns); leaves = λ yes. p .leaves }
-
-    pub ready-refused : (r : Refusal) (place : ℕ) → answer ≡ answers.Refused r place → Promised (Refused r place) c
-    unfolding setOnce
-    ready-refused r place is =
-        record {
-          made = p .made;
-          returns = rw e (sym (ap answerReturned is) ∙ p .returns);
-          leaves = λ no. let z : _≡_ {A = ℕ} 0 1 = cc in absurd (omega arith);
-        }
+  pub ready-even : Even true → SetPost file latitude (recordsIn ps ms fs) year month r → ReadyPost file latitude ps ms fs year month r
+  unfolding setOnce
+  ready-even e p = record { made = p .made; returns = rw e (p .returns); leaves = λ yes. p .leaves }

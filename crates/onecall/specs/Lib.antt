@@ -1,3 +1,2 @@
-pub mod Satellites
 pub mod Setting
 pub mod Posts

@@ -6,17 +6,25 @@ use mathlib.Core.Path.{_≡_}
 use lib.IntN.{ℤ}
 use Rattle.refusals.specs.declared.Answer.{Answer}
 use Rattle.records.specs.declared.Record.{Record}
-use Rattle.clock.specs.Returned.{accepted, answerReturned}
+use Rattle.calls.specs.Returned.{accepted, answerReturned}
 use Rattle.clock.specs.View.{view, Made}
-use Rattle.clock.specs.declared.Clock.{Clock}
-use Rattle.onecall.specs.Setting.{recordsIn, setReturns, stateAfter, setOnce, settingReturned}
+use Rattle.calls.specs.Calls.{dateReturns, dateLeaves}
+use Rattle.clock.specs.declared.After.{After}
+use Rattle.recordarrays.specs.Arrays.{recordsIn}
+use Rattle.onecall.specs.Setting.{firstRefusal, setReturns, stateAfter, setOnce, settingReturned}
 use Rattle.onecall.specs.declared.Ready.{Ready}
 
+-- a date, after what a card file said and what a station said and left
+pub record DatedPost (carded : Answer) (stationed : After) (year month : ℕ) (r : Ready) : Type 0 where
+  pub made : Made (r .clock)
+  pub returns : settingReturned (r .setting) ≡ firstRefusal (answerReturned carded) (firstRefusal (answerReturned (stationed .answer)) (dateReturns (view (stationed .clock)) year month))
+  pub leaves : view (r .clock) ≡ dateLeaves (view (stationed .clock)) year month
+
 -- what the three calls return, and the state that they leave
-pub record SetPost (file : List ℕ) (latitude : ℤ) (records : List Record) (year month : ℕ) (answer : Answer) (clock : Clock) : Type 0 where
-  pub made : Made clock
-  pub returns : answerReturned answer ≡ setReturns file latitude records year month
-  pub leaves : view clock ≡ stateAfter file latitude records year month
+pub record SetPost (file : List ℕ) (latitude : ℤ) (records : List Record) (year month : ℕ) (r : Ready) : Type 0 where
+  pub made : Made (r .clock)
+  pub returns : settingReturned (r .setting) ≡ setReturns file latitude records year month
+  pub leaves : view (r .clock) ≡ stateAfter file latitude records year month
 
 -- the same of records in three arrays; a clock that could not be set is any
 pub record ReadyPost (file : List ℕ) (latitude : ℤ) (places amplitudes phases : List ℕ) (year month : ℕ) (r : Ready) : Type 0 where

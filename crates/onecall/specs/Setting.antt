@@ -1,34 +1,19 @@
 -- A card file, a station and a date in one call: 01's three calls, in this order, of a clock with no table, station or month.
 -- The first refusal is the answer.
 -- Assumes nothing.
-use Prim.Native.Nat.{ℕ, _+_, min}
-use mathlib.Core.Bool.{Bool, cond, _&&_}
+use Prim.Native.Nat.{ℕ}
+use mathlib.Core.Bool.{cond}
 use mathlib.Core.List.{List}
 use lib.ListN.{length}
-use lib.Dec.{eqb}
 use lib.IntN.{ℤ}
 use Rattle.refusals.specs.Outcome.{numberOf}
 use Rattle.records.specs.declared.Record.{Record}
-use Rattle.records.specs.Rows.{recordsFrom}
-use Rattle.clock.specs.State.{State, nothing}
-use Rattle.clock.specs.Returned.{Returned, accepted, heightIs, turnsAre, refused}
-use Rattle.clock.specs.Calls.{cardsReturns, cardsLeaves, stationReturns, stationLeaves, dateReturns, dateLeaves}
+use Rattle.recordarrays.specs.Arrays.{recordsIn, oneLength, lacking}
+use Rattle.calls.specs.State.{State, nothing}
+use Rattle.calls.specs.Returned.{Returned, accepted, heightIs, turnsAre, refused}
+use Rattle.calls.specs.Calls.{cardsReturns, cardsLeaves, stationReturns, stationLeaves, dateReturns, dateLeaves}
 use Rattle.onecall.specs.declared.Setting.{Setting}
 use Rattle.onecall.specs.declared.Setting.the-variants.{Uneven, Accepted, Refused}
-
--- ---- the station's records, lent as three arrays
-
--- "lent as one row of records: place, amplitude, phase": record k has place, amplitude and phase number k
-abbrev pub recordsIn : List ℕ → List ℕ → List ℕ → List Record
-recordsIn places amplitudes phases = recordsFrom places amplitudes phases 0 (length places)
-
--- one row: the three arrays are as long as each other
-abbrev pub oneLength : ℕ → ℕ → ℕ → Bool
-oneLength places amplitudes phases = eqb places amplitudes && eqb places phases
-
--- the first record, from 1, that one of the arrays lacks
-abbrev pub lacking : ℕ → ℕ → ℕ → ℕ
-lacking places amplitudes phases = min places (min amplitudes phases) + 1
 
 -- ---- cards, station and date
 

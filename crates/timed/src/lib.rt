@@ -4,14 +4,11 @@ ghost use mathlib.Core.Path.{_≡_};
 ghost use Prim.Native.Nat.{min};
 ghost use lib.ListN.{length};
 ghost use Rattle.records.specs.Rows.{recordsOf};
-ghost use Rattle.clock.specs.State.{nothing};
-ghost use Rattle.clock.specs.Returned.{heightReturned, turnsReturned};
-ghost use Rattle.clock.specs.Calls.{stationLeaves, dateLeaves, seriesGives, turnsGives};
+ghost use Rattle.calls.specs.State.{nothing};
+ghost use Rattle.calls.specs.Calls.{stationLeaves, dateLeaves, seriesGives, turnsGives};
 ghost use Rattle.clock.specs.View.{view, Made};
-ghost use Rattle.timed.specs.Often.{recordsIn, readOften, datedOften, seriesOften, turnsOften, lastTurns, heightOrZero, heightsAt, stationed, dated, firstHigh};
+ghost use Rattle.often.specs.Often.{recordsIn, readOften, datedOften, seriesOften, lastTurns, heightsAt, stationed, dated, firstHigh};
 use clock::Clock;
-use clock::HeightAnswer;
-use clock::TurnsAnswer;
 use records::Rows;
 
 // A station's rows, from the lent arrays.
@@ -53,105 +50,6 @@ fn with_month(
     dated.clock
 }
 
-// The clock after a card file, so often.
-fn read_often(clock: Clock, file: &[u8], repeats: u32) -> Clock
-    requires { ⌜ Made clock ⌝ }
-    ensures { λ r. ⌜ Made r ⌝ }
-    ensures { λ r. ⌜ view r ≡ readOften (view clock) (now (file .entry)) repeats ⌝ }
-{
-    let mut next = clock;
-    let mut turn = 0;
-    while turn < repeats {
-        let after = clock::load_cards(next, file);
-        next = after.clock;
-        turn += 1;
-    }
-    next
-}
-
-// The clock after so many months of a year, January first.
-fn date_often(clock: Clock, year: u32, repeats: u32) -> Clock
-    requires { ⌜ Made clock ⌝ }
-    ensures { λ r. ⌜ Made r ⌝ }
-    ensures { λ r. ⌜ view r ≡ datedOften (view clock) year repeats ⌝ }
-{
-    let mut next = clock;
-    let mut turn = 0;
-    while turn < repeats {
-        let after = clock::set_date(next, year, 1 + turn % 12);
-        next = after.clock;
-        turn += 1;
-    }
-    next
-}
-
-// A series of one-minute steps, so often.
-fn series_often(clock: Clock, repeats: u32, heights: &mut [i64])
-    requires { ⌜ Made clock ⌝ }
-    ensures { λ _. ⌜ now (heights .exit) ≡ seriesOften (view clock) repeats (now (heights .entry)) ⌝ }
-{
-    let mut turn = 0;
-    while turn < repeats {
-        clock::series(clock, turn % 2, 1, heights);
-        turn += 1;
-    }
-}
-
-// A search for turns, so often.
-fn turns_often(clock: Clock, last: u32, repeats: u32, minutes: &mut [u32], heights: &mut [i64])
-    requires { ⌜ Made clock ⌝ }
-    ensures { λ _. ⌜ now (minutes .exit) ≡ turnsOften (view clock) last repeats (now (minutes .entry)) (now (heights .entry)) .minutes ⌝ }
-    ensures { λ _. ⌜ now (heights .exit) ≡ turnsOften (view clock) last repeats (now (minutes .entry)) (now (heights .entry)) .heights ⌝ }
-{
-    let mut turn = 0;
-    while turn < repeats {
-        clock::turns(clock, turn % 2, last, minutes, heights);
-        turn += 1;
-    }
-}
-
-// The smaller of two numbers.
-fn lesser(a: usize, b: usize) -> usize
-    ensures { λ r. ⌜ r ≡ min a b ⌝ }
-{
-    if a < b { a } else { b }
-}
-
-// The height that is given, or 0.
-fn height_or_zero(answer: HeightAnswer) -> i64
-    ensures { λ r. ⌜ r ≡ heightOrZero (heightReturned answer) ⌝ }
-{
-    match answer {
-        HeightAnswer::Height(height) => height,
-        HeightAnswer::Refused(_, _) => 0,
-    }
-}
-
-// A single height at each of the minutes, as far as there are places for them.
-fn heights_each(clock: Clock, minutes: &[u32], heights: &mut [i64])
-    requires { ⌜ Made clock ⌝ }
-    ensures { λ _. ⌜ now (heights .exit) ≡ heightsAt (view clock) (now (minutes .entry)) (min (length (now (minutes .entry))) (length (now (heights .entry)))) (now (heights .entry)) ⌝ }
-{
-    let n = lesser(minutes.len(), heights.len());
-    let mut i = 0;
-    while i < n {
-        let answer = clock::height(clock, minutes[i]);
-        let height = height_or_zero(answer);
-        heights[i] = height;
-        i += 1;
-    }
-}
-
-// Whether turns are given and the first is high.
-fn first_high(answer: TurnsAnswer) -> bool
-    ensures { λ r. ⌜ r ≡ firstHigh (turnsReturned answer) ⌝ }
-{
-    match answer {
-        TurnsAnswer::Turns(_, high) => high,
-        TurnsAnswer::Refused(_, _) => false,
-    }
-}
-
 // A card file read so often; and, so that the table counts, the heights of a station in a month from minute 0 on.
 #[no_mangle]
 pub extern "C" fn timed_cards<'a>(
@@ -169,7 +67,7 @@ pub extern "C" fn timed_cards<'a>(
     ensures { λ _. ⌜ now (heights .exit) ≡ seriesGives (dateLeaves (stationLeaves (readOften nothing (now (file .entry)) repeats) latitude (recordsIn (now (places .entry)) (now (amplitudes .entry)) (now (phases .entry)) records)) year month) 0 1 (now (heights .entry)) .heights ⌝ }
 {
     let rows = rows_from(places, amplitudes, phases);
-    let tabled = read_often(clock::new(), file, repeats);
+    let tabled = often::read_often(clock::new(), file, repeats);
     let after = clock::place_station(tabled, latitude, records, rows);
     let stationed = after.clock;
     let dated = clock::set_date(stationed, year, month);
@@ -194,7 +92,7 @@ pub extern "C" fn timed_dates<'a>(
 {
     let rows = rows_from(places, amplitudes, phases);
     let stationed = with_station(file, latitude, records, rows);
-    let clock = date_often(stationed, year, repeats);
+    let clock = often::date_often(stationed, year, repeats);
     clock::series(clock, 0, 1, heights);
 }
 
@@ -216,7 +114,7 @@ pub extern "C" fn timed_series<'a>(
 {
     let rows = rows_from(places, amplitudes, phases);
     let clock = with_month(file, latitude, records, rows, year, month);
-    series_often(clock, repeats, heights);
+    often::series_often(clock, repeats, heights);
 }
 
 // The turns up to a minute searched so often, and once more from minute 0: whether the first is high.
@@ -241,9 +139,9 @@ pub extern "C" fn timed_turns<'a>(
 {
     let rows = rows_from(places, amplitudes, phases);
     let clock = with_month(file, latitude, records, rows, year, month);
-    turns_often(clock, last, repeats, minutes, heights);
+    often::turns_often(clock, last, repeats, minutes, heights);
     let answer = clock::turns(clock, 0, last, minutes, heights);
-    first_high(answer)
+    often::first_high(answer)
 }
 
 // A single height at each of the minutes, as far as there are places for them.
@@ -264,5 +162,5 @@ pub extern "C" fn timed_heights<'a>(
 {
     let rows = rows_from(places, amplitudes, phases);
     let clock = with_month(file, latitude, records, rows, year, month);
-    heights_each(clock, minutes, heights);
+    often::heights_each(clock, minutes, heights);
 }

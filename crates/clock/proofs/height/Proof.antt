@@ -1,16 +1,19 @@
--- `clock::height` meets its contract: refused by what is asked first, or the month's height (`Asked`). Assumes nothing.
+-- `clock::height` meets its contract: refused by what is asked first, or the month's height (`Asked` in calls). Assumes nothing.
 use borrow.Author.Needs.{needs}
 use Rattle.clock.proofs.height.Statement.{statement}
 use Rattle.clock.proofs.height.Tie as tie
 use native.Mathlib.Omega.{arith}
 use Prim.Native.Nat.{_≤_}
 use mathlib.Core.Path.{sym, ap, _∙_}
-use Rattle.refusals.specs.Outcome.{outcomeOf}
 use mir.Syntax.{w64}
 use mir.Val.{SFits}
 use mir.ValLaws.{toZ-ofZ}
+use Rattle.refusals.specs.Outcome.{outcomeOf}
+use Rattle.table.specs.View.{tableOf}
+use Rattle.station.specs.Rows.{stationOf}
 use Rattle.asked.proofs.Passed.{height-within}
-use Rattle.clock.proofs.Asked.{height-refused, height-given}
+use Rattle.calls.proofs.Asked.{height-refused, height-given}
+use Rattle.clock.specs.View.{view, monthIn}
 
 height-answer-requires : tie.Need-height-answer-requires
 height-answer-requires c κs = search needs
@@ -22,28 +25,28 @@ height-requires : tie.Need-height-requires
 height-requires c κs =
     let s = c .before .before .before .before .before .before .before .before .before .before in
     let k = s .args .t1 in
-    let a = c .before .before .before .before .before .before .before .before .before .height-answer in
-    let w = height-within (k .tabled) (k .stationed) (k .dated) (k .last) (s .args .minute) (sym (a .ensures) ∙ ap outcomeOf (c .before .before .before .before .before .before .before .enum-told .given .1)) in
+    let w = height-within (k .tabled) (k .stationed) (k .dated) (k .last) (s .args .minute) (sym (c .before .before .before .before .before .before .before .before .before .height-answer .ensures) ∙ ap outcomeOf (c .before .before .before .before .before .before .before .enum-told .given .1)) in
     let within : s .args .minute ≤ 44_640 = omega (arith, w, s .pre .last) in
     (s .pre .cosines, (s .pre .count, within))
+
+returns : tie.Need-returns
+unfolding view
+returns c =
+    let s = c .before .before .before .before .before .before .before .before .before .before .before in
+    let k = s .args .t1 in
+    let fits : SFits w64 (c .height .result) = search needs in
+    rw (toZ-ofZ w64 (c .height .result) fits, c .height .ensures .0)
+    (record { returns = height-given (k .tabled) (tableOf (k .table)) (k .stationed) (stationOf (k .station)) (k .dated) (monthIn k) (s .args .minute) (sym (c .before .before .before .before .before .before .before .before .before .before .height-answer .ensures) ∙ ap outcomeOf (c .before .before .before .before .before .before .before .before .enum-told .given .1)) })
 
 enum-known-asked : tie.Need-enum-known-asked
 enum-known-asked c = search needs
 
-returns : tie.Need-returns
-returns c =
-    let s = c .before .before .before .before .before .before .before .before .before .before .before in
-    let a = c .before .before .before .before .before .before .before .before .before .before .height-answer in
-    let fits : SFits w64 (c .height .result) = search needs in
-    rw (toZ-ofZ w64 (c .height .result) fits, c .height .ensures .0) (height-given (s .args .t1) (s .args .minute) (a .result) (a .ensures) (c .before .before .before .before .before .before .before .before .enum-told .given .1))
-
 returns-2 : tie.Need-returns-2
+unfolding view
 returns-2 c =
     let s = c .before .before .before .before in
-    let a = c .before .before .before .height-answer in
-    height-refused (s .args .t1) (s .args .minute) (a .result) (a .ensures) _ _ (c .before .asked .given .1)
+    let k = s .args .t1 in
+    record { returns = height-refused (k .tabled) (tableOf (k .table)) (k .stationed) (stationOf (k .station)) (k .dated) (monthIn k) (s .args .minute) _ _ (sym (c .before .before .before .height-answer .ensures) ∙ ap outcomeOf (c .before .asked .given .1)) }
 
 pub height-spec : {M : Type 1} → statement M
-height-spec =
-    tie.close
-    (tie.spec height-answer-requires enum-told height-requires enum-known-asked returns returns-2)
+height-spec = tie.close (tie.spec height-answer-requires enum-told height-requires returns enum-known-asked returns-2)

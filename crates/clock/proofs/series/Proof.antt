@@ -1,4 +1,4 @@
--- `clock::series` meets its contract: refused by what is asked first, or the month's heights (`Asked`). Assumes nothing.
+-- `clock::series` meets its contract: refused by what is asked first, or the month's heights (`Asked` in calls). Assumes nothing.
 use borrow.Author.Needs.{needs}
 use Rattle.clock.proofs.series.Statement.{statement}
 use Rattle.clock.proofs.series.Tie as tie
@@ -6,8 +6,11 @@ use native.Mathlib.Omega.{arith}
 use Prim.Native.Nat.{_≤_}
 use mathlib.Core.Path.{sym, ap, _∙_}
 use Rattle.refusals.specs.Outcome.{outcomeOf}
+use Rattle.table.specs.View.{tableOf}
+use Rattle.station.specs.Rows.{stationOf}
 use Rattle.asked.proofs.Passed.{series-within}
-use Rattle.clock.proofs.Asked.{series-refused, series-given}
+use Rattle.calls.proofs.Asked.{series-refused, series-given}
+use Rattle.clock.specs.View.{view, monthIn}
 
 series-answer-requires : tie.Need-series-answer-requires
 series-answer-requires c κs = search needs
@@ -19,37 +22,30 @@ series-requires : tie.Need-series-requires
 series-requires c κs =
     let s = c .before .before .before .before .before .before .before .before .before .before .before in
     let k = s .args .t1 in
-    let a = c .before .before .before .before .before .before .before .before .before .before .series-answer in
-    let w = series-within (k .tabled) (k .stationed) (k .dated) (k .last) (s .args .start) (s .args .step) _ (sym (a .ensures) ∙ ap outcomeOf (c .before .before .before .before .before .before .before .before .enum-told .given .1)) in
+    let w = series-within (k .tabled) (k .stationed) (k .dated) (k .last) (s .args .start) (s .args .step) _ (sym (c .before .before .before .before .before .before .before .before .before .before .series-answer .ensures) ∙ ap outcomeOf (c .before .before .before .before .before .before .before .before .enum-told .given .1)) in
     let within : s .args .start ≤ 44_640 = omega (arith, w .0, s .pre .last) in
     (s .pre .cosines, (s .pre .count, (within, w .1)))
-
-enum-known-asked : tie.Need-enum-known-asked
-enum-known-asked c = search needs
 
 same-length : tie.Need-same-length
 same-length c = search needs
 
 returns : tie.Need-returns
+unfolding view
 returns c =
     let s = c .before .before .before .before .before .before .before .before .before .before .before .before .before in
-    let a = c .before .before .before .before .before .before .before .before .before .before .before .before .series-answer in
-    rw (c .before .series .ensures) (series-given (s .args .t1) (s .args .start) (s .args .step) _ (a .result) (a .ensures) (c .before .before .before .before .before .before .before .before .before .before .enum-told .given .1))
+    let k = s .args .t1 in
+    let e = c .before .before .before .before .before .before .before .before .before .before .enum-told .given .1 in
+    rw (c .before .series .ensures, e) (record { gives = series-given (k .tabled) (tableOf (k .table)) (k .stationed) (stationOf (k .station)) (k .dated) (monthIn k) (s .args .start) (s .args .step) _ (sym (c .before .before .before .before .before .before .before .before .before .before .before .before .series-answer .ensures) ∙ ap outcomeOf e) })
+
+enum-known-asked : tie.Need-enum-known-asked
+enum-known-asked c = search needs
 
 returns-2 : tie.Need-returns-2
+unfolding view
 returns-2 c =
     let s = c .before .before .before .before in
-    let a = c .before .before .before .series-answer in
-    series-refused (s .args .t1) (s .args .start) (s .args .step) _ (a .result) (a .ensures) _ _ (c .before .asked .given .1)
+    let k = s .args .t1 in
+    record { gives = series-refused (k .tabled) (tableOf (k .table)) (k .stationed) (stationOf (k .station)) (k .dated) (monthIn k) (s .args .start) (s .args .step) _ _ _ (sym (c .before .before .before .series-answer .ensures) ∙ ap outcomeOf (c .before .asked .given .1)) }
 
 pub series-spec : {M : Type 1} → statement M
-series-spec =
-    tie.close
-    (tie.spec
-    series-answer-requires
-    enum-told
-    series-requires
-    enum-known-asked
-    same-length
-    returns
-    returns-2)
+series-spec = tie.close (tie.spec series-answer-requires enum-told series-requires same-length returns enum-known-asked returns-2)

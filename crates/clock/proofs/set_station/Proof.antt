@@ -54,7 +54,7 @@ use Rattle.clock.specs.declared.Clock.{Clock}
 use Rattle.clock.specs.declared.After.{After}
 use Rattle.clock.specs.View.{Made}
 use Rattle.clock.specs.Posts.{StationPost}
-use Rattle.clock.proofs.Lent.{lent-post}
+use Rattle.clock.proofs.Stations.{lent-post}
 use Rattle.clock.proofs.Clock as C
 use Rattle.clock.proofs.Clock.Laws as C′
 use Rattle.clock.proofs.After as S

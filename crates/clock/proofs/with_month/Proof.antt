@@ -1,15 +1,11 @@
+-- `clock::with_month` meets its contract: the month's rows, and as many as there is room for. Assumes nothing.
 use borrow.Author.Needs.{needs}
 use Rattle.clock.proofs.with_month.Statement.{statement}
 use Rattle.clock.proofs.with_month.Tie as tie
-use Rattle.clock.proofs.with_month.Reads as reads
-use Rattle.clock.proofs.with_month.Lts as lts
-use Rattle.prepared.proofs.held.Reads as held-reads
 
--- src/lib.rt:104:5
 held-requires : tie.Need-held-requires
 held-requires c κs = search needs
 
--- src/lib.rt:98:1
 returns : tie.Need-returns
 returns c = rw (c .before .before .before .before .before .held .ensures)
 

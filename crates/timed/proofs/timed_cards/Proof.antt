@@ -2,9 +2,9 @@
 use mathlib.Core.Path.{_∙_, ap}
 use mir.Syntax.{w32}
 use mir.ValLaws.{toZ-ofZ}
-use Rattle.clock.specs.State.{State}
-use Rattle.clock.specs.Calls.{stationLeaves, dateLeaves, SeriesGiven, seriesGives}
-use Rattle.timed.specs.Often.{recordsIn, readOften}
+use Rattle.calls.specs.State.{State}
+use Rattle.calls.specs.Calls.{stationLeaves, dateLeaves, SeriesGiven, seriesGives}
+use Rattle.often.specs.Often.{recordsIn, readOften}
 use borrow.Author.Needs.{needs}
 use Rattle.timed.proofs.timed_cards.Statement.{statement}
 use Rattle.timed.proofs.timed_cards.Tie as tie

@@ -2,9 +2,9 @@
 use mathlib.Core.Path.{_∙_, ap}
 use mir.Syntax.{w32}
 use mir.ValLaws.{toZ-ofZ}
-use Rattle.clock.specs.State.{State}
-use Rattle.clock.specs.Calls.{SeriesGiven, seriesGives}
-use Rattle.timed.specs.Often.{datedOften}
+use Rattle.calls.specs.State.{State}
+use Rattle.calls.specs.Calls.{SeriesGiven, seriesGives}
+use Rattle.often.specs.Often.{datedOften}
 use borrow.Author.Needs.{needs}
 use Rattle.timed.proofs.timed_dates.Statement.{statement}
 use Rattle.timed.proofs.timed_dates.Tie as tie

@@ -2,10 +2,10 @@
 use mathlib.Core.Path.{_∙_, ap}
 use mir.Syntax.{w32}
 use mir.ValLaws.{toZ-ofZ}
-use Rattle.clock.specs.State.{State}
+use Rattle.calls.specs.State.{State}
 use Prim.Native.Nat.{min}
 use lib.ListN.{length}
-use Rattle.timed.specs.Often.{heightsAt}
+use Rattle.often.specs.Often.{heightsAt}
 use borrow.Author.Needs.{needs}
 use Rattle.timed.proofs.timed_heights.Statement.{statement}
 use Rattle.timed.proofs.timed_heights.Tie as tie

@@ -2,8 +2,8 @@
 use mir.Syntax.{w32}
 use mir.ValLaws.{toZ-ofZ}
 use mathlib.Core.Path.{_∙_, ap}
-use Rattle.clock.specs.State.{State}
-use Rattle.clock.specs.Calls.{dateLeaves}
+use Rattle.calls.specs.State.{State}
+use Rattle.calls.specs.Calls.{dateLeaves}
 use borrow.Author.Needs.{needs}
 use Rattle.timed.proofs.with_month.Statement.{statement}
 use Rattle.timed.proofs.with_month.Tie as tie

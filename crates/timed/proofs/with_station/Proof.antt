@@ -3,8 +3,8 @@ use mir.Syntax.{w32}
 use mir.ValLaws.{toZ-ofZ}
 use mathlib.Core.Path.{_∙_, ap}
 use Rattle.records.specs.Rows.{recordsOf}
-use Rattle.clock.specs.State.{State}
-use Rattle.clock.specs.Calls.{cardsLeaves, stationLeaves}
+use Rattle.calls.specs.State.{State}
+use Rattle.calls.specs.Calls.{cardsLeaves, stationLeaves}
 use borrow.Author.Needs.{needs}
 use Rattle.timed.proofs.with_station.Statement.{statement}
 use Rattle.timed.proofs.with_station.Tie as tie

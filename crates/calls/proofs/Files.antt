@@ -1,0 +1,24 @@
+-- A card file's two cases, accepted and refused. Assumes nothing.
+use mathlib.Core.Path.{_≡_, refl}
+use Prim.Native.Nat.{ℕ}
+use mathlib.Core.List.{List}
+use mathlib.Core.Bool.{true, false}
+use Rattle.table.specs.Table.{Table}
+use Rattle.station.specs.Station.{Station}
+use Rattle.cards.specs.Cards as cards
+use Rattle.cards.specs.Cards.{readCards}
+use Rattle.calls.specs.State.{Month, State, stateOf}
+use Rattle.calls.specs.Returned.{accepted, refused}
+use Rattle.calls.specs.Calls.{cardsReturns, cardsLeaves}
+
+module _ (k : State) (file : List ℕ) where
+  -- its table is there, and no station and no month
+  pub file-accepted : (table : Table) → readCards file ≡ cards.accepted table → (station : Station) (month : Month)
+      → (accepted ≡ cardsReturns file) × (stateOf true table false station false month ≡ cardsLeaves k file)
+  unfolding cardsReturns cardsLeaves
+  file-accepted table e station month = (rw e, rw e)
+
+  -- everything is as it was
+  pub file-refused : (number line : ℕ) → readCards file ≡ cards.refused number line → (refused number line ≡ cardsReturns file) × (k ≡ cardsLeaves k file)
+  unfolding cardsReturns cardsLeaves
+  file-refused number line e = (rw e, rw e)

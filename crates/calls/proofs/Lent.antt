@@ -1,0 +1,84 @@
+-- What the rows' records promise of a station holds of the records lent. At most 146 records are those of their rows;
+-- of more, both are refused before a record is looked at, and nothing is left of them. Assumes nothing.
+use mathlib.Core.Path.{_≡_, refl, sym, ap, subst, _∙_}
+use Prim.Native.Nat.{ℕ, _≤_, min}
+use native.Mathlib.Omega.{arith}
+use mathlib.Core.Bool.{Bool, true, false}
+use mathlib.Core.List.{List}
+use lib.ListN.{length}
+use lib.Dec.{ltb}
+use lib.IntN.{ℤ, pos, negsuc}
+use lib.Signed.{ltZ}
+use borrow.Author.Tests.{ltb-false}
+use Rattle.refusals.specs.Outcome as outcome
+use Rattle.refusals.specs.Outcome.{Outcome, refuseIf}
+use Rattle.table.specs.Table.{Table}
+use Rattle.station.specs.Station.{stationOutcome}
+use Rattle.records.specs.Rows.{rowsUpto}
+use Rattle.records.specs.Rows.{recordsOf}
+use Rattle.records.specs.declared.Record.{Record}
+use Rattle.records.specs.declared.Rows.{Rows}
+use Rattle.records.proofs.Copies.{records-length, lent-is}
+use Rattle.calls.specs.State.{Maybe, none, some, State}
+use Rattle.calls.specs.Returned.{refused, told, onAccepted}
+use Rattle.calls.specs.Calls.{asks, stationReturns, stationLeaves}
+
+-- an outcome by which nothing new is left
+abbrev Turned : Outcome → Type 0
+Turned o = (new old : State) → onAccepted (told o) new old ≡ old
+
+turned-if : (b : Bool) (number place : ℕ) (o : Outcome) → Turned o → Turned (refuseIf b number place o)
+turned-if true number place o h new old = refl
+turned-if false number place o h new old = h new old
+
+-- ---- more records than a station has
+
+abbrev Crowd : List Record → Type 0
+Crowd records = ltb 146 (length records) ≡ true
+
+crowd-turned : (frequencies : ℕ) (latitude : ℤ) (records : List Record) → Crowd records → Turned (stationOutcome frequencies latitude records)
+unfolding stationOutcome
+crowd-turned frequencies latitude records many = rw many (turned-if (ltZ latitude (negsuc 5_399)) 3 0 _ (turned-if (ltZ (pos 5_400) latitude) 3 0 (outcome.refused 6 147) (λ new old. refl)))
+
+crowds-agree : (frequencies : ℕ) (latitude : ℤ) (a b : List Record) → Crowd a → Crowd b → stationOutcome frequencies latitude a ≡ stationOutcome frequencies latitude b
+unfolding stationOutcome
+crowds-agree frequencies latitude a b many many′ = rw (many, many′) refl
+
+asked-agree : (t : Maybe Table) (latitude : ℤ) (a b : List Record) → Crowd a → Crowd b
+    → asks t (refused 21 0) (λ table. told (stationOutcome (length (table .frequencies)) latitude a)) ≡ asks t (refused 21 0) (λ table. told (stationOutcome (length (table .frequencies)) latitude b))
+asked-agree none latitude a b many many′ = refl
+asked-agree (some table) latitude a b many many′ = ap told (crowds-agree (length (table .frequencies)) latitude a b many many′)
+
+asked-turned : (t : Maybe Table) (latitude : ℤ) (records : List Record) → Crowd records → (new old : State)
+    → onAccepted (asks t (refused 21 0) (λ table. told (stationOutcome (length (table .frequencies)) latitude records))) new old ≡ old
+asked-turned none latitude records many new old = refl
+asked-turned (some table) latitude records many new old = crowd-turned (length (table .frequencies)) latitude records many new old
+
+returns-agree : (k : State) (latitude : ℤ) (a b : List Record) → Crowd a → Crowd b → stationReturns k latitude a ≡ stationReturns k latitude b
+unfolding stationReturns
+returns-agree k = asked-agree (k .table)
+
+leaves-same : (k : State) (latitude : ℤ) (records : List Record) → Crowd records → stationLeaves k latitude records ≡ k
+unfolding stationReturns stationLeaves
+leaves-same k latitude records many = asked-turned (k .table) latitude records many _ k
+
+-- ---- the records lent
+
+module _ (k : State) (latitude : ℤ) (records : List Record) where
+  -- the rows' records give and leave what those lent do
+  abbrev Same : List Record → Type 0
+  Same rs = (stationReturns k latitude rs ≡ stationReturns k latitude records) × (stationLeaves k latitude rs ≡ stationLeaves k latitude records)
+
+  crowd-same : (rs : List Record) → Crowd records → Crowd rs → Same rs
+  crowd-same rs many many′ =
+      (returns-agree k latitude rs records many′ many, leaves-same k latitude rs many′ ∙ sym (leaves-same k latitude records many))
+
+  rows-of-few : length records ≤ 146 → recordsOf (rowsUpto records (min (length records) 146)) (length records) ≡ records
+  rows-of-few h = let all : min (length records) 146 ≡ length records = omega arith in rw all (lent-is records h)
+
+  same-by : (b : Bool) → ltb 146 (length records) ≡ b → Same (recordsOf (rowsUpto records (min (length records) 146)) (length records))
+  same-by true e = crowd-same _ e (ap (ltb 146) (records-length _ _ _ 0 (length records)) ∙ e)
+  same-by false e = subst Same (sym (rows-of-few (ltb-false 146 (length records) e))) (refl, refl)
+
+  pub lent-same : (rows : Rows) → rows ≡ rowsUpto records (min (length records) 146) → Same (recordsOf rows (length records))
+  lent-same rows e = subst (λ (x : Rows). Same (recordsOf x (length records))) (sym e) (same-by (ltb 146 (length records)) refl)

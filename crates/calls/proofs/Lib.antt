@@ -1,0 +1,5 @@
+pub mod Files
+pub mod Stations
+pub mod Lent
+pub mod Dates
+pub mod Asked

@@ -1,0 +1,41 @@
+-- A station's cases, by the flags of the state: accepted, and refused by 21 or by its records. Assumes nothing.
+use mathlib.Core.Path.{_≡_, refl, ap, _∙_}
+use Prim.Native.Nat.{ℕ}
+use mathlib.Core.Bool.{Bool, true, false}
+use mathlib.Core.List.{List}
+use lib.ListN.{length}
+use lib.IntN.{ℤ}
+use Rattle.refusals.specs.Outcome as outcome
+use Rattle.refusals.specs.Outcome.{Outcome}
+use Rattle.records.specs.declared.Record.{Record}
+use Rattle.table.specs.Table.{Table}
+use Rattle.station.specs.Station.{Station}
+use Rattle.calls.specs.State.{Month, State, stateOf}
+use Rattle.calls.specs.Returned.{accepted, refused, told}
+use Rattle.calls.specs.Calls.{stationAsked, stationReturns, stationLeaves}
+
+module _ (table : Table) (s : Bool) (station : Station) (d : Bool) (month : Month) (latitude : ℤ) (records : List Record) where
+  abbrev before : Bool → State
+  before t = stateOf t table s station d month
+
+  abbrev asked : Bool → Outcome
+  asked t = stationAsked t (length (table .frequencies)) latitude records
+
+  -- what is returned is what is asked
+  returns-by : (t : Bool) → stationReturns (before t) latitude records ≡ told (asked t)
+  unfolding stationReturns stationAsked
+  returns-by true = refl
+  returns-by false = refl
+
+  -- the table is kept, the station is there, and no month
+  pub station-accepted : (t : Bool) → asked t ≡ outcome.accepted
+      → (accepted ≡ stationReturns (before t) latitude records)
+      × (stateOf t table true (record { latitude = latitude; records = records }) false month ≡ stationLeaves (before t) latitude records)
+  unfolding stationLeaves
+  station-accepted t e = (rw (returns-by t, e), rw (returns-by t, e))
+
+  -- everything is as it was
+  pub station-refused : (t : Bool) (number place : ℕ) → asked t ≡ outcome.refused number place
+      → (refused number place ≡ stationReturns (before t) latitude records) × (before t ≡ stationLeaves (before t) latitude records)
+  unfolding stationLeaves
+  station-refused t number place e = (rw (returns-by t, e), rw (returns-by t, e))

@@ -1,0 +1,37 @@
+-- 01, "Heights and turns": what a clock has. A table, a station and a month, each there or not.
+-- Assumes nothing.
+use Prim.Native.Nat.{ℕ}
+use mathlib.Core.List.{List}
+use mathlib.Core.Bool.{Bool, true, false}
+use Rattle.table.specs.Table.{Table}
+use Rattle.station.specs.Station.{Station}
+use Rattle.prepared.specs.Prepared.{Constituent}
+
+-- what is there, or is not
+pub data Maybe (A : Type 0) : Type 0 where
+  none : Maybe A
+  some : A → Maybe A
+
+-- a prepared month: its last minute, and the station's constituents in it, with V, P and Q
+pub record Month : Type 0 where
+  pub last : ℕ
+  pub constituents : List Constituent
+
+pub record State : Type 0 where
+  pub table : Maybe Table
+  pub station : Maybe Station
+  pub month : Maybe Month
+
+-- "a clock with no table, station or month"
+abbrev pub nothing : State
+nothing = record { table = none; station = none; month = none }
+
+-- what a flag says is there
+abbrev pub when : {A : Type 0} → Bool → A → Maybe A
+when true a = some a
+when false a = none
+
+-- a state by its flags: whether a table, a station and a month are there, and which
+abbrev pub stateOf : Bool → Table → Bool → Station → Bool → Month → State
+stateOf tabled table stationed station dated month =
+    record { table = when tabled table; station = when stationed station; month = when dated month }

@@ -1,0 +1,2 @@
+pub mod Satellites
+pub mod Counts
