@@ -141,19 +141,19 @@ pub fn word(words: &[u8], at: usize) -> &[u8] {
 
 // What a word is.
 fn kind_of(word: &[u8]) -> Kind {
-    if face::same(word, b"--cards") {
+    if texts::same(word, b"--cards") {
         return Kind::Cards;
     }
-    if face::same(word, b"--station") {
+    if texts::same(word, b"--station") {
         return Kind::Station;
     }
-    if face::same(word, b"--unit") {
+    if texts::same(word, b"--unit") {
         return Kind::Unit;
     }
-    if face::same(word, b"--help") {
+    if texts::same(word, b"--help") {
         return Kind::Help;
     }
-    if face::same(word, b"-h") {
+    if texts::same(word, b"-h") {
         return Kind::Help;
     }
     if columns::column(word, 0) == b'-' {
@@ -327,22 +327,22 @@ fn all_words(words: &[u8]) -> Parsed {
 
 // The command that a word names.
 fn command_of(word: &[u8]) -> Command {
-    if face::same(word, b"month") {
+    if texts::same(word, b"month") {
         return Command::Month;
     }
-    if face::same(word, b"day") {
+    if texts::same(word, b"day") {
         return Command::Day;
     }
-    if face::same(word, b"heights") {
+    if texts::same(word, b"heights") {
         return Command::Heights;
     }
-    if face::same(word, b"series") {
+    if texts::same(word, b"series") {
         return Command::Series;
     }
-    if face::same(word, b"svg") {
+    if texts::same(word, b"svg") {
         return Command::Svg;
     }
-    if face::same(word, b"refusals") {
+    if texts::same(word, b"refusals") {
         return Command::Refusals;
     }
     Command::NoCommand

@@ -39,8 +39,8 @@ fn last_of<'a>(count: usize, first: bool, minutes: &'a [u32], heights: &'a [i64]
     Turn {
         found: true,
         high: swings::is_high(first, count - 1),
-        minute: figures::minute_at(minutes, count - 1),
-        height: figures::height_at(heights, count - 1),
+        minute: digits::minute_at(minutes, count - 1),
+        height: digits::height_at(heights, count - 1),
     }
 }
 

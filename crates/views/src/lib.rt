@@ -143,8 +143,8 @@ fn first_turn<'a>(
             return Next {
                 found: true,
                 later,
-                minute: figures::minute_at(minutes, i),
-                height: figures::height_at(heights, i),
+                minute: digits::minute_at(minutes, i),
+                height: digits::height_at(heights, i),
             };
         }
         i += 1;
@@ -190,7 +190,7 @@ fn next_turn<'a>(
 ) -> Next
     requires { ⌜ Made clock ⌝ }
 {
-    let from = daysheet::turn_from(minutes, 0, count, std::num::wrapping_add_u32(minute, 1));
+    let from = swings::turn_from(minutes, 0, count, minute as u64 + 1);
     let next = first_turn(high, from, count, first, false, minutes, heights);
     if next.found {
         return next;
@@ -198,8 +198,8 @@ fn next_turn<'a>(
     turn_behind(
         clock,
         high,
-        face::year_behind(year, month),
-        face::month_behind(month),
+        dates::year_behind(year, month),
+        dates::month_behind(month),
     )
 }
 
