@@ -2,6 +2,10 @@
 //
 // The words are lent in one row, each ended by a byte 0, behind those of `defaults`: the two files and the two units that are meant where
 // nothing else is said. A word is named by where it begins.
+ghost use mathlib.Core.Path.{_≡_};
+ghost use Prim.Native.Nat.{_+_};
+ghost use lib.ListN.{length};
+ghost use Rattle.commandline.specs.Words.{defaultByte, wordAt};
 use fields::Field;
 use fields::Format;
 
@@ -108,7 +112,9 @@ const METRES: usize = 47;
 pub const ARGUMENTS: usize = 54;
 
 // The byte of the default words at a place; 0 behind them.
-pub fn default_byte(k: usize) -> u8 {
+pub fn default_byte(k: usize) -> u8
+    ensures { λ r. ⌜ r ≡ defaultByte k ⌝ }
+{
     if ARGUMENTS <= k {
         return 0;
     }
@@ -119,24 +125,17 @@ pub fn default_byte(k: usize) -> u8 {
 }
 
 // Where the word ends that begins at a byte, or the row where nothing ends it.
-fn word_end(words: &[u8], at: usize) -> usize {
-    let mut i = at;
-    while i < words.len() {
-        if words[i] == 0 {
-            return i;
-        }
-        i += 1;
-    }
-    i
+fn word_end(words: &[u8], at: usize) -> usize
+    ensures { λ r. ⌜ r ≡ at + length (wordAt (now (words .entry)) at) ⌝ }
+{
+    columns::run_end(words, at, words.len(), 1, 255)
 }
 
 // The word that begins at a byte, as a part of the row.
-pub fn word(words: &[u8], at: usize) -> &[u8] {
-    let end = word_end(words, at);
-    if end < at {
-        return columns::part(words, at, 0);
-    }
-    columns::part(words, at, end - at)
+pub fn word(words: &[u8], at: usize) -> &[u8]
+    ensures { λ r. ⌜ now r ≡ wordAt (now (words .entry)) at ⌝ }
+{
+    columns::part(words, at, word_end(words, at) - at)
 }
 
 // What a word is.
@@ -150,16 +149,21 @@ fn kind_of(word: &[u8]) -> Kind {
     if texts::same(word, b"--unit") {
         return Kind::Unit;
     }
+    if columns::column(word, 0) == b'-' {
+        return other_option(word);
+    }
+    Kind::Plain
+}
+
+// What an option without a value is.
+fn other_option(word: &[u8]) -> Kind {
     if texts::same(word, b"--help") {
         return Kind::Help;
     }
     if texts::same(word, b"-h") {
         return Kind::Help;
     }
-    if columns::column(word, 0) == b'-' {
-        return Kind::Unknown;
-    }
-    Kind::Plain
+    Kind::Unknown
 }
 
 // The low 32 bits, which are all of a number that is in range.
@@ -336,6 +340,11 @@ fn command_of(word: &[u8]) -> Command {
     if texts::same(word, b"heights") {
         return Command::Heights;
     }
+    other_command(word)
+}
+
+// The command that a word names which is none of the sheets'.
+fn other_command(word: &[u8]) -> Command {
     if texts::same(word, b"series") {
         return Command::Series;
     }
@@ -436,19 +445,37 @@ fn fitting(plain: usize, starts: [usize; 8], kinds: [u8; 8], form: Form) -> Fit 
     misfit(form.time, k, start_at(starts, k))
 }
 
+// A series' minute, step and count behind its year and month.
+fn series_of(v: [u32; 8]) -> Asked {
+    Asked::Series(v[1], v[2], dates::minute_of_month(v[3], v[4]), v[5], v[6])
+}
+
+// A day's numbers.
+fn day_of(v: [u32; 8]) -> Asked {
+    Asked::Day(v[1], v[2], v[3], v[4])
+}
+
+// A drawing's, of a month or with a fourth word of a day.
+fn drawing_of(plain: usize, v: [u32; 8]) -> Asked {
+    if plain < 4 {
+        return Asked::MonthDrawing(v[1], v[2]);
+    }
+    Asked::DayDrawing(v[1], v[2], v[3])
+}
+
+// A month's heights, an hour apart where no step is given.
+fn heights_of(plain: usize, v: [u32; 8]) -> Asked {
+    Asked::Heights(v[1], v[2], if plain < 4 { 60 } else { v[3] })
+}
+
 // What a command asks with numbers that fit its form.
 fn with_numbers(command: Command, plain: usize, start: usize, v: [u32; 8]) -> Asked {
     match command {
         Command::Month => Asked::Month(v[1], v[2]),
-        Command::Day => Asked::Day(v[1], v[2], v[3], v[4]),
-        Command::Heights => Asked::Heights(v[1], v[2], if plain < 4 { 60 } else { v[3] }),
-        Command::Series => Asked::Series(v[1], v[2], minute_of_month(v[3], v[4]), v[5], v[6]),
-        Command::Svg => {
-            if plain < 4 {
-                return Asked::MonthDrawing(v[1], v[2]);
-            }
-            Asked::DayDrawing(v[1], v[2], v[3])
-        }
+        Command::Day => day_of(v),
+        Command::Heights => heights_of(plain, v),
+        Command::Series => series_of(v),
+        Command::Svg => drawing_of(plain, v),
         Command::Refusals => Asked::Refusals,
         Command::NoCommand => Asked::Wrong(Wrong::NoCommand, start),
     }
@@ -486,20 +513,6 @@ fn with_words(
             with_numbers(command, plain, starts[0], values)
         }
     }
-}
-
-// The minute of the month of a minute of one of its days; past every month where it is too large to say, or the day is 0.
-pub fn minute_of_month(day: u32, minute: u32) -> u32 {
-    if 1_000_000 < day {
-        return 4_294_967_295;
-    }
-    if 1_440 < minute {
-        return 4_294_967_295;
-    }
-    if day < 1 {
-        return 4_294_967_295;
-    }
-    (day - 1) * 1_440 + minute
 }
 
 // What the words ask.

@@ -1,6 +1,6 @@
 -- Dates on a sheet: the month after a month, in whose first minute a month's last one lies (01: "Minutes run from 0 to days × 1,440
 -- inclusive"), a date in digits, and the months' names. Assumes nothing.
-use Prim.Native.Nat.{ℕ, _+_}
+use Prim.Native.Nat.{ℕ, _+_, _-_, _*_}
 use mathlib.Core.Bool.{cond}
 use mathlib.Core.List.{List, [], _∷_, _++_}
 use lib.Dec.{ltb, leb}
@@ -27,6 +27,12 @@ isoDay year month minute =
     (leb (dayOf minute) (monthDays year month))
     (isoDate year month (dayOf minute))
     (isoDate (yearBehind year month) (monthBehind month) 1)
+
+-- the minute of the month of a minute of one of its days, the first day being 1; past every month where there is no such day or minute
+abbrev pub minuteOfMonth : ℕ → ℕ → ℕ
+minuteOfMonth day minute =
+    cond (ltb 1_000_000 day) 4_294_967_295
+    (cond (ltb 1_440 minute) 4_294_967_295 (cond (ltb day 1) 4_294_967_295 ((day - 1) * 1_440 + minute)))
 
 -- nine blanks, for a number that is no month's
 abbrev pub noName : List ℕ

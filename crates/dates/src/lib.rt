@@ -1,7 +1,7 @@
 // Dates on a sheet: the month after a month, a date in digits, and the months' names.
 ghost use mathlib.Core.Path.{_≡_};
 ghost use Prim.Native.Nat.{_<_};
-ghost use Rattle.dates.specs.Dates.{monthBehind, yearBehind, isoDate, isoDay, monthName, placeOf};
+ghost use Rattle.dates.specs.Dates.{monthBehind, yearBehind, isoDate, isoDay, minuteOfMonth, monthName, placeOf};
 
 // The names of the months in nine columns each, behind a blank one.
 const NAMES: [[u8; 9]; 13] = [
@@ -67,6 +67,22 @@ pub fn iso_day(year: u32, month: u32, minute: u32) -> [u8; 11]
         return iso_date(year, month, day);
     }
     iso_date(year_behind(year, month), month_behind(month), 1)
+}
+
+// The minute of the month of a minute of one of its days; past every month where it is too large to say, or the day is 0.
+pub fn minute_of_month(day: u32, minute: u32) -> u32
+    ensures { λ r. ⌜ r ≡ minuteOfMonth day minute ⌝ }
+{
+    if 1_000_000 < day {
+        return 4_294_967_295;
+    }
+    if 1_440 < minute {
+        return 4_294_967_295;
+    }
+    if day < 1 {
+        return 4_294_967_295;
+    }
+    (day - 1) * 1_440 + minute
 }
 
 // A month's place among the names: 0 where there is no such month.

@@ -355,7 +355,7 @@ fn prepared_day<'a>(
     requires { ⌜ Made clock ⌝ }
 {
     let mut hourly = [0i64; 25];
-    let start = commandline::minute_of_month(day, 0);
+    let start = dates::minute_of_month(day, 0);
     let answer = clock::series(clock, start, 60, &mut hourly);
     match answer {
         Answer::Accepted => day_water(
@@ -366,7 +366,7 @@ fn prepared_day<'a>(
             year,
             month,
             day,
-            commandline::minute_of_month(day, minute),
+            dates::minute_of_month(day, minute),
             &hourly,
         ),
         Answer::Refused(refusal, _) => messages::refused_number(b"day", day as u64, refusal),

@@ -28,7 +28,7 @@ fn has_day(clock: Clock, day: u32) -> bool
     requires { ⌜ Made clock ⌝ }
 {
     let mut hourly = [0i64; 25];
-    let start = commandline::minute_of_month(day, 0);
+    let start = dates::minute_of_month(day, 0);
     let answer = clock::series(clock, start, 60, &mut hourly);
     match answer {
         Answer::Accepted => true,
