@@ -23,7 +23,7 @@ module _ {c : Clock} {last : ℕ} {minutes own-minutes : List ℕ} {heights own-
         heightsOwn = own-heights;
         asked = p;
         beside = rw e (record { all = all; high = high; is = refl; least = b .0; most = b .1 });
-        kept = rw e k
+        kept = rw e k;
       }
 
   pub month-refused : {refusal : Refusal} {place : ℕ} → own ≡ Refused refusal place → MonthTurns c last minutes own-minutes heights own-heights (Refused refusal place)

@@ -28,9 +28,10 @@ returns c =
     let n = w1 .before .before .before .before .args .count in
     let e1 = w1 .with-turn .ensures in
     let e2 = w2 .with-turn2 .ensures in
-    let e3 = w3 .with-turn3 .ensures in
-    ((omega (arith, e1 .0, e2 .0, e3 .0), omega (arith, e1 .0, e2 .0, e3 .0)),
-    kept-on (e1 .1) (kept-on (kept-fewer n (omega (arith, e1 .0)) (e2 .1)) (kept-fewer n (omega (arith, e1 .0, e2 .0)) (e3 .1))))
+    let e3 = w3 .with-turn3 .ensures in (
+      (omega (arith, e1 .0, e2 .0, e3 .0), omega (arith, e1 .0, e2 .0, e3 .0)),
+      kept-on (e1 .1) (kept-on (kept-fewer n (omega (arith, e1 .0)) (e2 .1)) (kept-fewer n (omega (arith, e1 .0, e2 .0)) (e3 .1))),
+    )
 
 pub with-ends-spec : {M : Type 1} → statement M
 with-ends-spec =
