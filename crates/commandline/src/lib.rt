@@ -5,6 +5,7 @@
 ghost use mathlib.Core.Path.{_≡_};
 ghost use Prim.Native.Nat.{_+_};
 ghost use lib.ListN.{length};
+ghost use Rattle.commandline.specs.Days.{DayAsked};
 ghost use Rattle.commandline.specs.Words.{defaultByte, wordAt};
 use fields::Field;
 use fields::Format;
@@ -445,52 +446,61 @@ fn fitting(plain: usize, starts: [usize; 8], kinds: [u8; 8], form: Form) -> Fit 
     misfit(form.time, k, start_at(starts, k))
 }
 
-// A series' minute, step and count behind its year and month.
-fn series_of(v: [u32; 8]) -> Asked {
+// A series' minute, step and count behind its year and month. The fourth word, which begins at `day`, is wrong where it is no day.
+fn series_of(day: usize, v: [u32; 8]) -> Asked
+    ensures { λ r. ⌜ DayAsked r ⌝ }
+{
+    if v[3] < 1 {
+        return Asked::Wrong(Wrong::NotDay, day);
+    }
     Asked::Series(v[1], v[2], dates::minute_of_month(v[3], v[4]), v[5], v[6])
 }
 
 // A day's numbers.
-fn day_of(v: [u32; 8]) -> Asked {
+fn day_of(day: usize, v: [u32; 8]) -> Asked
+    ensures { λ r. ⌜ DayAsked r ⌝ }
+{
+    if v[3] < 1 {
+        return Asked::Wrong(Wrong::NotDay, day);
+    }
     Asked::Day(v[1], v[2], v[3], v[4])
 }
 
 // A drawing's, of a month or with a fourth word of a day.
-fn drawing_of(plain: usize, v: [u32; 8]) -> Asked {
+fn drawing_of(plain: usize, day: usize, v: [u32; 8]) -> Asked
+    ensures { λ r. ⌜ DayAsked r ⌝ }
+{
     if plain < 4 {
         return Asked::MonthDrawing(v[1], v[2]);
+    }
+    if v[3] < 1 {
+        return Asked::Wrong(Wrong::NotDay, day);
     }
     Asked::DayDrawing(v[1], v[2], v[3])
 }
 
 // A month's heights, an hour apart where no step is given.
-fn heights_of(plain: usize, v: [u32; 8]) -> Asked {
-    Asked::Heights(v[1], v[2], if plain < 4 { 60 } else { v[3] })
+fn heights_of(plain: usize, v: [u32; 8]) -> Asked
+    ensures { λ r. ⌜ DayAsked r ⌝ }
+{
+    if plain < 4 {
+        return Asked::Heights(v[1], v[2], 60);
+    }
+    Asked::Heights(v[1], v[2], v[3])
 }
 
-// What a command asks with numbers that fit its form.
-fn with_numbers(command: Command, plain: usize, start: usize, v: [u32; 8]) -> Asked {
+// What a command asks with numbers that fit its form, its own word beginning at `start` and its fourth at `day`.
+fn with_numbers(command: Command, plain: usize, start: usize, day: usize, v: [u32; 8]) -> Asked
+    ensures { λ r. ⌜ DayAsked r ⌝ }
+{
     match command {
         Command::Month => Asked::Month(v[1], v[2]),
-        Command::Day => day_of(v),
+        Command::Day => day_of(day, v),
         Command::Heights => heights_of(plain, v),
-        Command::Series => series_of(v),
-        Command::Svg => drawing_of(plain, v),
+        Command::Series => series_of(day, v),
+        Command::Svg => drawing_of(plain, day, v),
         Command::Refusals => Asked::Refusals,
         Command::NoCommand => Asked::Wrong(Wrong::NoCommand, start),
-    }
-}
-
-// Whether a command's fourth word is a day.
-fn has_day(command: Command, plain: usize) -> bool {
-    match command {
-        Command::Month => false,
-        Command::Day => true,
-        Command::Heights => false,
-        Command::Series => true,
-        Command::Svg => 3 < plain,
-        Command::Refusals => false,
-        Command::NoCommand => false,
     }
 }
 
@@ -501,22 +511,21 @@ fn with_words(
     starts: [usize; 8],
     kinds: [u8; 8],
     values: [u32; 8],
-) -> Asked {
+) -> Asked
+    ensures { λ r. ⌜ DayAsked r ⌝ }
+{
     let form = form_of(command);
     let fit = fitting(plain, starts, kinds, form);
     match fit {
         Fit::Misfit(wrong, start) => Asked::Wrong(wrong, start),
-        Fit::Fits => {
-            if has_day(command, plain) && values[3] < 1 {
-                return Asked::Wrong(Wrong::NotDay, starts[3]);
-            }
-            with_numbers(command, plain, starts[0], values)
-        }
+        Fit::Fits => with_numbers(command, plain, starts[0], starts[3], values),
     }
 }
 
 // What the words ask.
-fn asked_by(words: &[u8], parsed: Parsed) -> Asked {
+fn asked_by(words: &[u8], parsed: Parsed) -> Asked
+    ensures { λ r. ⌜ DayAsked r ⌝ }
+{
     if parsed.help {
         return Asked::Help;
     }
@@ -547,8 +556,10 @@ fn default_unit(station: usize) -> usize {
     if station == 0 { FEET } else { METRES }
 }
 
-// What the words ask, and their files and unit. With no word it is the help.
-pub fn parse(words: &[u8]) -> Request {
+// What the words ask, and their files and unit. With no word it is the help. A day that is asked is at least the first.
+pub fn parse(words: &[u8]) -> Request
+    ensures { λ r. ⌜ DayAsked (r .asked) ⌝ }
+{
     let parsed = all_words(words);
     Request {
         asked: asked_by(words, parsed),
