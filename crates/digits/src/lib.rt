@@ -2,7 +2,7 @@
 ghost use mathlib.Core.Path.{_≡_};
 ghost use lib.ListN.{getD};
 ghost use lib.IntN.{pos};
-ghost use Rattle.digits.specs.Digits.{thousandths, lastDigit, lastTwo, dayOf, hourOf, timeOfDay, timeOnDay, latitudeEnd, threeDecimals, fourDecimals};
+ghost use Rattle.digits.specs.Digits.{thousandths, lastDigit, dayOf, hourOf, timeOfDay, timeOnDay, latitudeEnd, threeDecimals, fourDecimals};
 
 // A height's size in thousandths of the unit, from tenths of thousandths; a half is rounded up.
 pub fn thousandths(size: u64) -> u64
@@ -17,13 +17,6 @@ pub fn last_digit(number: u64) -> u8
     ensures { λ r. ⌜ r ≡ lastDigit number ⌝ }
 {
     48 + (number % 10) as u8
-}
-
-// The last two digits of a number.
-pub fn last_two(number: u64) -> [u8; 2]
-    ensures { λ r. ⌜ r ≡ lastTwo number ⌝ }
-{
-    [last_digit(number / 10), last_digit(number)]
 }
 
 // The day of the month in which a minute lies, from 1.
