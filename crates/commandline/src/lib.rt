@@ -2,6 +2,11 @@
 //
 // The words are lent in one row, each ended by a byte 0, behind those of `defaults`: the two files and the two units that are meant where
 // nothing else is said. A word is named by where it begins.
+ghost use mathlib.Core.Path.{_≡_};
+ghost use Prim.Native.Nat.{_+_};
+ghost use lib.ListN.{length};
+ghost use Rattle.commandline.specs.Days.{DayAsked};
+ghost use Rattle.commandline.specs.Words.{defaultByte, wordAt};
 use fields::Field;
 use fields::Format;
 
@@ -108,7 +113,9 @@ const METRES: usize = 47;
 pub const ARGUMENTS: usize = 54;
 
 // The byte of the default words at a place; 0 behind them.
-pub fn default_byte(k: usize) -> u8 {
+pub fn default_byte(k: usize) -> u8
+    ensures { λ r. ⌜ r ≡ defaultByte k ⌝ }
+{
     if ARGUMENTS <= k {
         return 0;
     }
@@ -119,47 +126,45 @@ pub fn default_byte(k: usize) -> u8 {
 }
 
 // Where the word ends that begins at a byte, or the row where nothing ends it.
-fn word_end(words: &[u8], at: usize) -> usize {
-    let mut i = at;
-    while i < words.len() {
-        if words[i] == 0 {
-            return i;
-        }
-        i += 1;
-    }
-    i
+fn word_end(words: &[u8], at: usize) -> usize
+    ensures { λ r. ⌜ r ≡ at + length (wordAt (now (words .entry)) at) ⌝ }
+{
+    columns::run_end(words, at, words.len(), 1, 255)
 }
 
 // The word that begins at a byte, as a part of the row.
-pub fn word(words: &[u8], at: usize) -> &[u8] {
-    let end = word_end(words, at);
-    if end < at {
-        return columns::part(words, at, 0);
-    }
-    columns::part(words, at, end - at)
+pub fn word(words: &[u8], at: usize) -> &[u8]
+    ensures { λ r. ⌜ now r ≡ wordAt (now (words .entry)) at ⌝ }
+{
+    columns::part(words, at, word_end(words, at) - at)
 }
 
 // What a word is.
 fn kind_of(word: &[u8]) -> Kind {
-    if face::same(word, b"--cards") {
+    if texts::same(word, b"--cards") {
         return Kind::Cards;
     }
-    if face::same(word, b"--station") {
+    if texts::same(word, b"--station") {
         return Kind::Station;
     }
-    if face::same(word, b"--unit") {
+    if texts::same(word, b"--unit") {
         return Kind::Unit;
     }
-    if face::same(word, b"--help") {
-        return Kind::Help;
-    }
-    if face::same(word, b"-h") {
-        return Kind::Help;
-    }
     if columns::column(word, 0) == b'-' {
-        return Kind::Unknown;
+        return other_option(word);
     }
     Kind::Plain
+}
+
+// What an option without a value is.
+fn other_option(word: &[u8]) -> Kind {
+    if texts::same(word, b"--help") {
+        return Kind::Help;
+    }
+    if texts::same(word, b"-h") {
+        return Kind::Help;
+    }
+    Kind::Unknown
 }
 
 // The low 32 bits, which are all of a number that is in range.
@@ -327,22 +332,27 @@ fn all_words(words: &[u8]) -> Parsed {
 
 // The command that a word names.
 fn command_of(word: &[u8]) -> Command {
-    if face::same(word, b"month") {
+    if texts::same(word, b"month") {
         return Command::Month;
     }
-    if face::same(word, b"day") {
+    if texts::same(word, b"day") {
         return Command::Day;
     }
-    if face::same(word, b"heights") {
+    if texts::same(word, b"heights") {
         return Command::Heights;
     }
-    if face::same(word, b"series") {
+    other_command(word)
+}
+
+// The command that a word names which is none of the sheets'.
+fn other_command(word: &[u8]) -> Command {
+    if texts::same(word, b"series") {
         return Command::Series;
     }
-    if face::same(word, b"svg") {
+    if texts::same(word, b"svg") {
         return Command::Svg;
     }
-    if face::same(word, b"refusals") {
+    if texts::same(word, b"refusals") {
         return Command::Refusals;
     }
     Command::NoCommand
@@ -436,34 +446,61 @@ fn fitting(plain: usize, starts: [usize; 8], kinds: [u8; 8], form: Form) -> Fit 
     misfit(form.time, k, start_at(starts, k))
 }
 
-// What a command asks with numbers that fit its form.
-fn with_numbers(command: Command, plain: usize, start: usize, v: [u32; 8]) -> Asked {
-    match command {
-        Command::Month => Asked::Month(v[1], v[2]),
-        Command::Day => Asked::Day(v[1], v[2], v[3], v[4]),
-        Command::Heights => Asked::Heights(v[1], v[2], if plain < 4 { 60 } else { v[3] }),
-        Command::Series => Asked::Series(v[1], v[2], minute_of_month(v[3], v[4]), v[5], v[6]),
-        Command::Svg => {
-            if plain < 4 {
-                return Asked::MonthDrawing(v[1], v[2]);
-            }
-            Asked::DayDrawing(v[1], v[2], v[3])
-        }
-        Command::Refusals => Asked::Refusals,
-        Command::NoCommand => Asked::Wrong(Wrong::NoCommand, start),
+// A series' minute, step and count behind its year and month. The fourth word, which begins at `day`, is wrong where it is no day.
+fn series_of(day: usize, v: [u32; 8]) -> Asked
+    ensures { λ r. ⌜ DayAsked r ⌝ }
+{
+    if v[3] < 1 {
+        return Asked::Wrong(Wrong::NotDay, day);
     }
+    Asked::Series(v[1], v[2], dates::minute_of_month(v[3], v[4]), v[5], v[6])
 }
 
-// Whether a command's fourth word is a day.
-fn has_day(command: Command, plain: usize) -> bool {
+// A day's numbers.
+fn day_of(day: usize, v: [u32; 8]) -> Asked
+    ensures { λ r. ⌜ DayAsked r ⌝ }
+{
+    if v[3] < 1 {
+        return Asked::Wrong(Wrong::NotDay, day);
+    }
+    Asked::Day(v[1], v[2], v[3], v[4])
+}
+
+// A drawing's, of a month or with a fourth word of a day.
+fn drawing_of(plain: usize, day: usize, v: [u32; 8]) -> Asked
+    ensures { λ r. ⌜ DayAsked r ⌝ }
+{
+    if plain < 4 {
+        return Asked::MonthDrawing(v[1], v[2]);
+    }
+    if v[3] < 1 {
+        return Asked::Wrong(Wrong::NotDay, day);
+    }
+    Asked::DayDrawing(v[1], v[2], v[3])
+}
+
+// A month's heights, an hour apart where no step is given.
+fn heights_of(plain: usize, v: [u32; 8]) -> Asked
+    ensures { λ r. ⌜ DayAsked r ⌝ }
+{
+    if plain < 4 {
+        return Asked::Heights(v[1], v[2], 60);
+    }
+    Asked::Heights(v[1], v[2], v[3])
+}
+
+// What a command asks with numbers that fit its form, its own word beginning at `start` and its fourth at `day`.
+fn with_numbers(command: Command, plain: usize, start: usize, day: usize, v: [u32; 8]) -> Asked
+    ensures { λ r. ⌜ DayAsked r ⌝ }
+{
     match command {
-        Command::Month => false,
-        Command::Day => true,
-        Command::Heights => false,
-        Command::Series => true,
-        Command::Svg => 3 < plain,
-        Command::Refusals => false,
-        Command::NoCommand => false,
+        Command::Month => Asked::Month(v[1], v[2]),
+        Command::Day => day_of(day, v),
+        Command::Heights => heights_of(plain, v),
+        Command::Series => series_of(day, v),
+        Command::Svg => drawing_of(plain, day, v),
+        Command::Refusals => Asked::Refusals,
+        Command::NoCommand => Asked::Wrong(Wrong::NoCommand, start),
     }
 }
 
@@ -474,36 +511,21 @@ fn with_words(
     starts: [usize; 8],
     kinds: [u8; 8],
     values: [u32; 8],
-) -> Asked {
+) -> Asked
+    ensures { λ r. ⌜ DayAsked r ⌝ }
+{
     let form = form_of(command);
     let fit = fitting(plain, starts, kinds, form);
     match fit {
         Fit::Misfit(wrong, start) => Asked::Wrong(wrong, start),
-        Fit::Fits => {
-            if has_day(command, plain) && values[3] < 1 {
-                return Asked::Wrong(Wrong::NotDay, starts[3]);
-            }
-            with_numbers(command, plain, starts[0], values)
-        }
+        Fit::Fits => with_numbers(command, plain, starts[0], starts[3], values),
     }
-}
-
-// The minute of the month of a minute of one of its days; past every month where it is too large to say, or the day is 0.
-pub fn minute_of_month(day: u32, minute: u32) -> u32 {
-    if 1_000_000 < day {
-        return 4_294_967_295;
-    }
-    if 1_440 < minute {
-        return 4_294_967_295;
-    }
-    if day < 1 {
-        return 4_294_967_295;
-    }
-    (day - 1) * 1_440 + minute
 }
 
 // What the words ask.
-fn asked_by(words: &[u8], parsed: Parsed) -> Asked {
+fn asked_by(words: &[u8], parsed: Parsed) -> Asked
+    ensures { λ r. ⌜ DayAsked r ⌝ }
+{
     if parsed.help {
         return Asked::Help;
     }
@@ -534,8 +556,10 @@ fn default_unit(station: usize) -> usize {
     if station == 0 { FEET } else { METRES }
 }
 
-// What the words ask, and their files and unit. With no word it is the help.
-pub fn parse(words: &[u8]) -> Request {
+// What the words ask, and their files and unit. With no word it is the help. A day that is asked is at least the first.
+pub fn parse(words: &[u8]) -> Request
+    ensures { λ r. ⌜ DayAsked (r .asked) ⌝ }
+{
     let parsed = all_words(words);
     Request {
         asked: asked_by(words, parsed),

@@ -1,24 +1,22 @@
 // Heights for other programs: comma separated values, a row for each height, behind lines that say what they stand on.
+ghost use Prim.Native.Nat.{_≤_};
+ghost use lib.ListN.{length};
 use face::Face;
+
+// Whether a byte is from one to another.
+fn among(byte: u8, low: u8, high: u8) -> bool {
+    low <= byte && byte <= high
+}
 
 // A byte that is safe in a column's name: a letter or a digit as it is, any other as _.
 fn plain(byte: u8) -> u8 {
-    if byte < 48 {
-        return b'_';
-    }
-    if byte <= 57 {
+    if among(byte, b'0', b'9') {
         return byte;
     }
-    if byte < 65 {
-        return b'_';
-    }
-    if byte <= 90 {
+    if among(byte, b'A', b'Z') {
         return byte;
     }
-    if byte < 97 {
-        return b'_';
-    }
-    if byte <= 122 {
+    if among(byte, b'a', b'z') {
         return byte;
     }
     b'_'
@@ -37,33 +35,28 @@ fn put_plain(page: &mut [u8], at: usize, text: &[u8]) -> usize {
 
 // Puts the name of the column of times: its zone is in it where that is not Greenwich's.
 fn put_time_name(page: &mut [u8], at: usize, zone: &[u8]) -> usize {
-    if face::is_greenwich(zone) {
-        return output::put_bytes(page, at, b"time");
+    let next = output::put_bytes(page, at, b"time");
+    if texts::is_greenwich(zone) {
+        return next;
     }
-    let next = output::put_bytes(page, at, b"time_");
-    put_plain(page, next, face::trimmed(zone))
+    let word = output::put(page, next, b'_');
+    put_plain(page, word, texts::trimmed(zone))
 }
 
 // Puts the two columns' names, on a line.
-fn put_names<'a>(page: &mut [u8], at: usize, zone: &'a [u8], unit: &'a [u8]) -> usize {
+fn put_names<'a>(page: &mut [u8], at: usize, zone: &'a [u8], unit: &'a [u8]) -> usize
+    ensures { λ r. ⌜ r ≤ length (now (page .entry)) ⌝ }
+{
     let a = put_time_name(page, at, zone);
     let b = output::put_bytes(page, a, b",height_");
     let c = put_plain(page, b, unit);
     output::put(page, c, 10)
 }
 
-// Puts the station and the month, on a line.
-fn put_title(page: &mut [u8], at: usize, name: &[u8], year: u32, month: u32) -> usize {
-    let a = output::put_bytes(page, at, b"# ");
-    let b = face::put_name(page, a, name);
-    let c = face::put_month_name(page, b, month);
-    let d = output::put(page, c, 32);
-    let e = output::put_number(page, d, year as u64);
-    output::put(page, e, 10)
-}
-
-// Puts the lines before the rows.
-fn put_head<'a>(page: &mut [u8], at: usize, face: Face, zone: &'a [u8], unit: &'a [u8]) -> usize {
+// Puts the lines before the rows: what the heights stand on, and the columns' names.
+fn put_head<'a>(page: &mut [u8], at: usize, face: Face, zone: &'a [u8], unit: &'a [u8]) -> usize
+    ensures { λ r. ⌜ r ≤ length (now (page .entry)) ⌝ }
+{
     let a = output::put_bytes(page, at, b"# ");
     let b = face::put_scales(page, a, zone, unit);
     let c = output::put_bytes(page, b, b"\n# ");
@@ -72,12 +65,18 @@ fn put_head<'a>(page: &mut [u8], at: usize, face: Face, zone: &'a [u8], unit: &'
     put_names(page, e, zone, unit)
 }
 
-// Puts the mark of Greenwich's time behind a time.
-fn put_z(page: &mut [u8], at: usize, greenwich: bool) -> usize {
+// Puts what stands between a time and a height: the mark of Greenwich's time, and a comma.
+fn put_comma(page: &mut [u8], at: usize, greenwich: bool) -> usize {
     if greenwich {
-        return output::put(page, at, b'Z');
+        return output::put_bytes(page, at, b"Z,");
     }
-    at
+    output::put(page, at, b',')
+}
+
+// Puts the ISO time of a minute of a month, as 1976-07-01T00:00.
+fn put_iso(page: &mut [u8], at: usize, year: u32, month: u32, minute: u32) -> usize {
+    let next = output::put_bytes(page, at, &dates::iso_day(year, month, minute));
+    figures::put_clock(page, next, minute)
 }
 
 // Puts a row: a time and a height.
@@ -89,12 +88,13 @@ fn put_row(
     month: u32,
     minute: u32,
     height: i64,
-) -> usize {
-    let a = face::put_iso(page, at, year, month, minute);
-    let b = put_z(page, a, greenwich);
-    let c = output::put(page, b, b',');
-    let d = face::put_exact(page, c, height);
-    output::put(page, d, 10)
+) -> usize
+    ensures { λ r. ⌜ r ≤ length (now (page .entry)) ⌝ }
+{
+    let time = put_iso(page, at, year, month, minute);
+    let comma = put_comma(page, time, greenwich);
+    let next = figures::put_exact(page, comma, height);
+    output::put(page, next, 10)
 }
 
 // The minute a step behind another; minutes stay below 2^32.
@@ -112,8 +112,10 @@ fn put_rows(
     start: u32,
     step: u32,
     heights: &[i64],
-) -> usize {
-    let mut next = at;
+) -> usize
+    ensures { λ r. ⌜ r ≤ length (now (page .entry)) ⌝ }
+{
+    let mut next = output::on_page(page.len(), at);
     let mut minute = start;
     let mut i = 0;
     while i < heights.len() {
@@ -137,13 +139,16 @@ pub fn put_heights<'a>(
     start: u32,
     step: u32,
     heights: &'a [i64],
-) -> usize {
-    let title = put_title(page, at, name, year, month);
+) -> usize
+    ensures { λ r. ⌜ r ≤ length (now (page .entry)) ⌝ }
+{
+    let mark = output::put_bytes(page, at, b"# ");
+    let title = face::put_title(page, mark, name, year, month);
     let head = put_head(page, title, face, zone, unit);
     put_rows(
         page,
         head,
-        face::is_greenwich(zone),
+        texts::is_greenwich(zone),
         year,
         month,
         start,

@@ -1,4 +1,6 @@
 // The day at the berth: the height at a minute, the next high and low water, and the day's curve, drawn in characters.
+ghost use Prim.Native.Nat.{_≤_};
+ghost use lib.ListN.{length};
 use face::Face;
 
 // The next high or low water: whether there is one, whether it lies in the month after, its minute and its height.
@@ -23,7 +25,7 @@ fn lowest(heights: &[i64], from: usize, to: usize, start: i64) -> i64 {
     let mut low = start;
     let mut i = from;
     while i < to {
-        low = lower(low, figures::height_at(heights, i));
+        low = lower(low, digits::height_at(heights, i));
         i += 1;
     }
     low
@@ -34,7 +36,7 @@ fn highest(heights: &[i64], from: usize, to: usize, start: i64) -> i64 {
     let mut high = start;
     let mut i = from;
     while i < to {
-        high = higher(high, figures::height_at(heights, i));
+        high = higher(high, digits::height_at(heights, i));
         i += 1;
     }
     high
@@ -49,12 +51,10 @@ fn column_of(height: i64, low: i64, high: i64) -> u64 {
     (96 * swings::apart(height, low) + range) / (2 * range)
 }
 
-// Puts blanks, at most 48.
+// Puts the curve's edge and blanks behind it, at most 48.
 fn put_gap(page: &mut [u8], at: usize, gap: u64) -> usize {
-    if gap < 48 {
-        return figures::put_blanks(page, at, gap as usize);
-    }
-    figures::put_blanks(page, at, 48)
+    let edge = output::put_bytes(page, at, b"  |");
+    figures::put_blanks(page, edge, if gap < 48 { gap as usize } else { 48 })
 }
 
 // Puts a row of the curve: a time of a day, a height, and a mark in the height's column.
@@ -66,13 +66,13 @@ fn put_row(
     height: i64,
     column: u64,
     mark: u8,
-) -> usize {
+) -> usize
+    ensures { λ r. ⌜ r ≤ length (now (page .entry)) ⌝ }
+{
     let a = figures::put_time(page, at, day, minute);
     let b = figures::put_height(page, a, height, 3);
-    let c = output::put_bytes(page, b, b"  |");
-    let d = put_gap(page, c, column);
-    let e = output::put(page, d, mark);
-    output::put(page, e, 10)
+    let c = put_gap(page, b, column);
+    output::put_bytes(page, c, &[mark, 10])
 }
 
 // The mark of a turn.
@@ -96,12 +96,12 @@ fn put_turns<'a>(
     let mut next = at;
     let mut i = from;
     while i < to {
-        let height = figures::height_at(heights, i);
+        let height = digits::height_at(heights, i);
         next = put_row(
             page,
             next,
             day,
-            figures::minute_at(minutes, i),
+            digits::minute_at(minutes, i),
             height,
             column_of(height, low, high),
             mark_of(swings::is_high(first, i)),
@@ -109,18 +109,6 @@ fn put_turns<'a>(
         i += 1;
     }
     next
-}
-
-// The first turn, from one on, that stands at a minute or behind it.
-pub fn turn_from(minutes: &[u32], from: usize, count: usize, minute: u32) -> usize {
-    let mut i = from;
-    while i < count {
-        if minute <= figures::minute_at(minutes, i) {
-            return i;
-        }
-        i += 1;
-    }
-    i
 }
 
 // The minute at an hour of the day that begins at a minute.
@@ -141,14 +129,16 @@ fn put_curve<'a>(
     hourly: &'a [i64],
     minutes: &'a [u32],
     heights: &'a [i64],
-) -> usize {
-    let day = figures::day_of(start);
-    let mut next = at;
+) -> usize
+    ensures { λ r. ⌜ r ≤ length (now (page .entry)) ⌝ }
+{
+    let day = digits::day_of(start);
+    let mut next = output::on_page(page.len(), at);
     let mut turn = from;
     let mut hour: u32 = 0;
     while hour < 25 {
         let minute = hour_minute(start, hour);
-        let end = turn_from(minutes, turn, to, minute);
+        let end = swings::turn_from(minutes, turn, to, minute as u64);
         next = put_turns(
             page,
             next,
@@ -162,7 +152,7 @@ fn put_curve<'a>(
             heights,
         );
         turn = end;
-        let height = figures::height_at(hourly, hour as usize);
+        let height = digits::height_at(hourly, hour as usize);
         next = put_row(
             page,
             next,
@@ -187,10 +177,12 @@ fn put_day_curve<'a>(
     hourly: &'a [i64],
     minutes: &'a [u32],
     heights: &'a [i64],
-) -> usize {
-    let from = turn_from(minutes, 0, count, start);
-    let to = turn_from(minutes, from, count, hour_minute(start, 24));
-    let water = figures::height_at(hourly, 0);
+) -> usize
+    ensures { λ r. ⌜ r ≤ length (now (page .entry)) ⌝ }
+{
+    let from = swings::turn_from(minutes, 0, count, start as u64);
+    let to = swings::turn_from(minutes, from, count, hour_minute(start, 24) as u64);
+    let water = digits::height_at(hourly, 0);
     let low = lowest(heights, from, to, lowest(hourly, 1, 25, water));
     let high = highest(heights, from, to, highest(hourly, 1, 25, water));
     put_curve(
@@ -212,38 +204,55 @@ fn put_day_curve<'a>(
 fn put_day(page: &mut [u8], at: usize, year: u32, month: u32, day: u32) -> usize {
     let a = output::put_number(page, at, day as u64);
     let b = output::put(page, a, 32);
-    let c = face::put_month_name(page, b, month);
-    let d = output::put(page, c, 32);
-    output::put_number(page, d, year as u64)
+    face::put_month(page, b, year, month)
 }
 
-// Puts the day on which the next turn stands.
-fn put_turn_day(page: &mut [u8], at: usize, year: u32, month: u32, next: Next) -> usize {
-    let day = figures::day_of(next.minute);
-    if next.later {
+// Puts the day on which the next turn stands, of this month or the one behind it.
+fn put_turn_day(page: &mut [u8], at: usize, year: u32, month: u32, later: bool, day: u32) -> usize {
+    if later {
         return put_day(
             page,
             at,
-            face::year_behind(year, month),
-            face::month_behind(month),
+            dates::year_behind(year, month),
+            dates::month_behind(month),
             day,
         );
     }
     put_day(page, at, year, month, day)
 }
 
+// Puts a height behind a label, and its time.
+fn put_height_at(page: &mut [u8], at: usize, label: &[u8], minute: u32, height: i64) -> usize {
+    let a = output::put_bytes(page, at, label);
+    let b = figures::put_height(page, a, height, 3);
+    let c = output::put_bytes(page, b, b"  at ");
+    figures::put_clock(page, c, minute)
+}
+
 // Puts the line of the next high or low water.
 fn put_next(page: &mut [u8], at: usize, label: &[u8], year: u32, month: u32, next: Next) -> usize {
-    let a = output::put_bytes(page, at, label);
     if !next.found {
-        return output::put_bytes(page, a, b"  none\n");
+        let none = output::put_bytes(page, at, label);
+        return output::put_bytes(page, none, b"  none\n");
     }
-    let b = figures::put_height(page, a, next.height, 3);
-    let c = output::put_bytes(page, b, b"  at ");
-    let d = figures::put_clock(page, c, next.minute);
-    let e = output::put_bytes(page, d, b" on ");
-    let f = put_turn_day(page, e, year, month, next);
-    output::put(page, f, 10)
+    let time = put_height_at(page, at, label, next.minute, next.height);
+    let on = output::put_bytes(page, time, b" on ");
+    let day = put_turn_day(
+        page,
+        on,
+        year,
+        month,
+        next.later,
+        digits::day_of(next.minute),
+    );
+    output::put(page, day, 10)
+}
+
+// Puts the station and the day, on a line.
+fn put_title(page: &mut [u8], at: usize, name: &[u8], year: u32, month: u32, day: u32) -> usize {
+    let a = face::put_name(page, at, name);
+    let b = put_day(page, a, year, month, day);
+    output::put(page, b, 10)
 }
 
 // Puts the sheet's head: the station and the day, the scales, what it stands on.
@@ -258,22 +267,9 @@ fn put_head<'a>(
     month: u32,
     day: u32,
 ) -> usize {
-    let a = face::put_name(page, at, name);
-    let b = put_day(page, a, year, month, day);
-    let c = output::put(page, b, 10);
-    let d = face::put_scales(page, c, zone, unit);
-    let e = output::put(page, d, 10);
-    let f = face::put_face(page, e, face);
-    output::put_bytes(page, f, b"\n\n")
-}
-
-// Puts the height at the minute that was asked.
-fn put_water(page: &mut [u8], at: usize, minute: u32, height: i64) -> usize {
-    let a = output::put_bytes(page, at, b"water           ");
-    let b = figures::put_height(page, a, height, 3);
-    let c = output::put_bytes(page, b, b"  at ");
-    let d = figures::put_clock(page, c, minute);
-    output::put(page, d, 10)
+    let title = put_title(page, at, name, year, month, day);
+    let next = face::put_stand(page, title, face, zone, unit);
+    output::put_bytes(page, next, b"\n\n")
 }
 
 // Puts what is to be known at a minute: the height, and the next high and low water.
@@ -287,7 +283,8 @@ fn put_waters(
     high: Next,
     low: Next,
 ) -> usize {
-    let a = put_water(page, at, minute, water);
+    let time = put_height_at(page, at, b"water           ", minute, water);
+    let a = output::put(page, time, 10);
     let b = put_next(page, a, b"next high water ", year, month, high);
     let c = put_next(page, b, b"next low water  ", year, month, low);
     output::put(page, c, 10)
@@ -312,8 +309,10 @@ pub fn put_sheet<'a>(
     hourly: &'a [i64],
     minutes: &'a [u32],
     heights: &'a [i64],
-) -> usize {
-    let day = figures::day_of(minute);
+) -> usize
+    ensures { λ r. ⌜ r ≤ length (now (page .entry)) ⌝ }
+{
+    let day = digits::day_of(minute);
     let start = minute / 1_440 * 1_440;
     let a = put_head(page, at, face, name, zone, unit, year, month, day);
     let b = put_waters(page, a, year, month, minute, water, high, low);

@@ -1,5 +1,6 @@
 // The month at the berth: for each day the high and low waters, and how far the water moves, so that spring and neap show at a glance.
 ghost use Prim.Native.Nat.{_≤_};
+ghost use lib.ListN.{length};
 use face::Face;
 
 // Puts a bar, filled so far, in a column of ten.
@@ -47,8 +48,8 @@ fn put_turns<'a>(
             next,
             day,
             swings::is_high(first, i),
-            figures::minute_at(minutes, i),
-            figures::height_at(heights, i),
+            digits::minute_at(minutes, i),
+            digits::height_at(heights, i),
         );
         i += 1;
     }
@@ -81,6 +82,7 @@ fn put_day<'a>(
     heights: &'a [i64],
 ) -> usize
     requires { ⌜ largest ≤ 2_000_000_000_000 ⌝ }
+    ensures { λ r. ⌜ r ≤ length (now (page .entry)) ⌝ }
 {
     let a = figures::put_right(page, at, day as u64, 2);
     let b = put_swing(
@@ -102,9 +104,11 @@ fn put_days<'a>(
     first: bool,
     minutes: &'a [u32],
     heights: &'a [i64],
-) -> usize {
+) -> usize
+    ensures { λ r. ⌜ r ≤ length (now (page .entry)) ⌝ }
+{
     let largest = swings::largest_swing(heights, count, 0, count);
-    let mut next = at;
+    let mut next = output::on_page(page.len(), at);
     let mut from: usize = 0;
     let mut left = days;
     while 0 < left {
@@ -128,23 +132,12 @@ fn put_days<'a>(
     next
 }
 
-// Puts the station's name and the month, on a line.
-fn put_title(page: &mut [u8], at: usize, name: &[u8], year: u32, month: u32) -> usize {
-    let a = face::put_name(page, at, name);
-    let b = face::put_month_name(page, a, month);
-    let c = output::put(page, b, 32);
-    let d = output::put_number(page, c, year as u64);
-    output::put(page, d, 10)
-}
-
 // Puts the scales, what the sheet stands on, and the columns.
 fn put_scales<'a>(page: &mut [u8], at: usize, face: Face, zone: &'a [u8], unit: &'a [u8]) -> usize {
-    let a = face::put_scales(page, at, zone, unit);
-    let b = output::put(page, a, 10);
-    let c = face::put_face(page, b, face);
+    let next = face::put_stand(page, at, face, zone, unit);
     output::put_bytes(
         page,
-        c,
+        next,
         b"\n\nday  swing            high (H) and low (L) waters\n",
     )
 }
@@ -163,8 +156,10 @@ pub fn put_month<'a>(
     first: bool,
     minutes: &'a [u32],
     heights: &'a [i64],
-) -> usize {
-    let title = put_title(page, at, name, year, month);
+) -> usize
+    ensures { λ r. ⌜ r ≤ length (now (page .entry)) ⌝ }
+{
+    let title = face::put_title(page, at, name, year, month);
     let next = put_scales(page, title, face, zone, unit);
     put_days(
         page,

@@ -1,6 +1,6 @@
 // Writing to standard output by pages: what is put stands in a lent page until the page is full or flushed.
 ghost use mathlib.Core.Path.{_≡_};
-ghost use Prim.Native.Nat.{_≤_};
+ghost use Prim.Native.Nat.{_≤_, min};
 ghost use lib.ListN.{length};
 use libc::STDOUT_FILENO;
 
@@ -30,11 +30,18 @@ pub fn put(page: &mut [u8], at: usize, byte: u8) -> usize
     0
 }
 
+// A place on a page of a length, or its end where the place lies behind it.
+pub fn on_page(length: usize, at: usize) -> usize
+    ensures { λ r. ⌜ r ≡ min at length ⌝ }
+{
+    if at < length { at } else { length }
+}
+
 // Puts bytes one after another; gives the place after the last.
 pub fn put_bytes(page: &mut [u8], at: usize, bytes: &[u8]) -> usize
-    ensures { λ r. ⌜ (at ≤ length (now (page .entry)) → r ≤ length (now (page .entry))) ⌝ }
+    ensures { λ r. ⌜ r ≤ length (now (page .entry)) ⌝ }
 {
-    let mut next = at;
+    let mut next = on_page(page.len(), at);
     let mut i = 0;
     while i < bytes.len() {
         next = put(page, next, bytes[i]);
@@ -45,21 +52,27 @@ pub fn put_bytes(page: &mut [u8], at: usize, bytes: &[u8]) -> usize
 
 // Puts a number in decimal; gives the place after it.
 pub fn put_number(page: &mut [u8], at: usize, number: u64) -> usize
-    ensures { λ r. ⌜ (at ≤ length (now (page .entry)) → r ≤ length (now (page .entry))) ⌝ }
+    ensures { λ r. ⌜ r ≤ length (now (page .entry)) ⌝ }
 {
     let mut text = [0u8; 20];
     let n = io::decimal(number, &mut text);
     put_bytes(page, at, &text[..n])
 }
 
-// Puts a number in decimal, with a minus where it is negative; gives the place after it.
-pub fn put_signed(page: &mut [u8], at: usize, number: i64) -> usize
-    ensures { λ r. ⌜ (at ≤ length (now (page .entry)) → r ≤ length (now (page .entry))) ⌝ }
+// Puts a number of a size in decimal, with a minus where it is negative; gives the place after it.
+pub fn put_size(page: &mut [u8], at: usize, negative: bool, size: u64) -> usize
+    ensures { λ r. ⌜ r ≤ length (now (page .entry)) ⌝ }
 {
-    let size = angles::size(number);
-    if number < 0 {
+    if negative {
         let next = put(page, at, b'-');
         return put_number(page, next, size);
     }
     put_number(page, at, size)
+}
+
+// Puts a number in decimal, with a minus where it is negative; gives the place after it.
+pub fn put_signed(page: &mut [u8], at: usize, number: i64) -> usize
+    ensures { λ r. ⌜ r ≤ length (now (page .entry)) ⌝ }
+{
+    put_size(page, at, number < 0, angles::size(number))
 }

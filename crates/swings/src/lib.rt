@@ -1,60 +1,36 @@
-// How far the water moves from turn to turn, and on which day a turn stands.
+// How far the water moves from turn to turn, and which turns stand on a day. Turns are lent as two rows, their minutes and their heights.
 ghost use mathlib.Core.Path.{_≡_};
-ghost use Prim.Native.Nat.{_+_, _≤_, max};
-
-// A height's size, at most 10^12: no clock gives a larger one.
-fn size_of(height: i64) -> u64
-    ensures { λ r. ⌜ r ≤ 1_000_000_000_000 ⌝ }
-{
-    let size = angles::size(height);
-    if size < 1_000_000_000_000 {
-        size
-    } else {
-        1_000_000_000_000
-    }
-}
-
-// How far two sizes lie apart.
-fn between(a: u64, b: u64) -> u64
-    ensures { λ r. ⌜ r ≤ a + b ⌝ }
-{
-    if a < b { b - a } else { a - b }
-}
+ghost use Prim.Native.Nat.{_+_, _-_, _≤_, max};
+ghost use Rattle.swings.specs.Swings.{apart, swing, largestSwing, barLength, isHigh, turnFrom, dayEnd};
 
 // How far two heights lie apart.
 pub fn apart(a: i64, b: i64) -> u64
-    ensures { λ r. ⌜ r ≤ 2_000_000_000_000 ⌝ }
+    ensures is { λ r. ⌜ r ≡ apart a b ⌝ }
+    ensures small { λ r. ⌜ r ≤ 2_000_000_000_000 ⌝ }
 {
-    let x = size_of(a);
-    let y = size_of(b);
-    if a < 0 {
-        if b < 0 {
-            return between(x, y);
-        }
-        return x + y;
+    let x = scale::raised(a);
+    let y = scale::raised(b);
+    if x < y {
+        (y - x) as u64
+    } else {
+        (x - y) as u64
     }
-    if b < 0 {
-        return x + y;
-    }
-    between(x, y)
 }
 
 // The rise or fall that ends at a turn; for the first turn the one that begins there.
 fn swing(heights: &[i64], count: usize, i: usize) -> u64
-    ensures { λ r. ⌜ r ≤ 2_000_000_000_000 ⌝ }
+    ensures is { λ r. ⌜ r ≡ swing (now (heights .entry)) count i ⌝ }
+    ensures small { λ r. ⌜ r ≤ 2_000_000_000_000 ⌝ }
 {
     if count < 2 {
         return 0;
     }
     if i < 1 {
-        return apart(
-            figures::height_at(heights, 0),
-            figures::height_at(heights, 1),
-        );
+        return apart(digits::height_at(heights, 0), digits::height_at(heights, 1));
     }
     apart(
-        figures::height_at(heights, i - 1),
-        figures::height_at(heights, i),
+        digits::height_at(heights, i - 1),
+        digits::height_at(heights, i),
     )
 }
 
@@ -67,7 +43,8 @@ fn larger(a: u64, b: u64) -> u64
 
 // The largest swing of the turns from one to before another.
 pub fn largest_swing(heights: &[i64], count: usize, from: usize, to: usize) -> u64
-    ensures { λ r. ⌜ r ≤ 2_000_000_000_000 ⌝ }
+    ensures is { λ r. ⌜ r ≡ largestSwing (now (heights .entry)) count from (to - from) ⌝ }
+    ensures small { λ r. ⌜ r ≤ 2_000_000_000_000 ⌝ }
 {
     let mut most: u64 = 0;
     let mut i = from;
@@ -81,6 +58,7 @@ pub fn largest_swing(heights: &[i64], count: usize, from: usize, to: usize) -> u
 // The length of a swing's bar, in tenths of the largest, rounded.
 pub fn bar_length(swing: u64, largest: u64) -> u64
     requires { ⌜ (swing ≤ 2_000_000_000_000) × (largest ≤ 2_000_000_000_000) ⌝ }
+    ensures { λ r. ⌜ r ≡ barLength swing largest ⌝ }
 {
     if largest == 0 {
         return 0;
@@ -89,21 +67,32 @@ pub fn bar_length(swing: u64, largest: u64) -> u64
 }
 
 // Whether a turn is a high water: they alternate.
-pub fn is_high(first: bool, i: usize) -> bool {
+pub fn is_high(first: bool, i: usize) -> bool
+    ensures { λ r. ⌜ r ≡ isHigh first i ⌝ }
+{
     if i % 2 == 0 { first } else { !first }
 }
 
-// Where the turns of a day end, from the turn on with which they begin. The last day has all that are left.
-pub fn day_end(minutes: &[u32], from: usize, count: usize, day: u32, days: u32) -> usize {
-    if days <= day {
-        return count;
-    }
+// The first turn, from one on and before a count, that stands at a minute or behind it.
+pub fn turn_from(minutes: &[u32], from: usize, count: usize, minute: u64) -> usize
+    ensures { λ r. ⌜ r ≡ turnFrom (now (minutes .entry)) minute from (count - from) ⌝ }
+{
     let mut i = from;
     while i < count {
-        if day < figures::day_of(figures::minute_at(minutes, i)) {
+        if minute <= digits::minute_at(minutes, i) as u64 {
             return i;
         }
         i += 1;
     }
     i
+}
+
+// Where the turns of a day end, from the turn on with which they begin. The last day has all that are left.
+pub fn day_end(minutes: &[u32], from: usize, count: usize, day: u32, days: u32) -> usize
+    ensures { λ r. ⌜ r ≡ dayEnd (now (minutes .entry)) from count day days ⌝ }
+{
+    if days <= day {
+        return count;
+    }
+    turn_from(minutes, from, count, day as u64 * 1_440)
 }

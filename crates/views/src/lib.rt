@@ -15,6 +15,15 @@ use face::Face;
 use refusals::Answer;
 use refusals::Refusal;
 
+// What is shown of a month: its sheet, a day's, heights from a start on, a step apart and so many, or a drawing.
+enum View {
+    Month,
+    Day(u32, u32),
+    Series(u32, u32, u32),
+    MonthDrawing,
+    DayDrawing(u32),
+}
+
 // The line of the station file on which a record stands.
 fn line_of(place: usize) -> usize {
     if place < 1_000_000 { place + 1 } else { place }
@@ -96,6 +105,52 @@ fn prepared_month<'a>(
     }
 }
 
+// What is asked of the month that a clock has prepared.
+fn show<'a>(
+    clock: Clock,
+    face: Face,
+    station: &'a [u8],
+    unit: &'a [u8],
+    year: u32,
+    month: u32,
+    view: View,
+)
+    requires { ⌜ Made clock ⌝ }
+{
+    match view {
+        View::Month => prepared_month(clock, face, station, unit, year, month),
+        View::Day(day, minute) => {
+            prepared_day(clock, face, station, unit, year, month, day, minute)
+        }
+        View::Series(start, step, count) => {
+            rows::prepared_series(clock, face, station, unit, year, month, start, step, count)
+        }
+        View::MonthDrawing => svg::draw_month(clock, face, station, unit, year, month),
+        View::DayDrawing(day) => svg::draw_day(clock, face, station, unit, year, month, day),
+    }
+}
+
+// Sets the clock's date and shows what is asked of that month, or says the clock's refusal.
+fn of_month<'a>(
+    clock: Clock,
+    face: Face,
+    station: &'a [u8],
+    unit: &'a [u8],
+    path: &'a [u8],
+    year: u32,
+    month: u32,
+    view: View,
+)
+    requires { ⌜ Made clock ⌝ }
+{
+    let after = clock::set_date(clock, year, month);
+    let answer = after.answer;
+    match answer {
+        Answer::Accepted => show(after.clock, face, station, unit, year, month, view),
+        Answer::Refused(refusal, place) => say_date(path, year, month, refusal, place),
+    }
+}
+
 // month YEAR MONTH: the high and low waters of each day.
 pub fn month<'a>(
     clock: Clock,
@@ -108,13 +163,7 @@ pub fn month<'a>(
 )
     requires { ⌜ Made clock ⌝ }
 {
-    let after = clock::set_date(clock, year, month);
-    let answer = after.answer;
-    let dated = after.clock;
-    match answer {
-        Answer::Accepted => prepared_month(dated, face, station, unit, year, month),
-        Answer::Refused(refusal, place) => say_date(path, year, month, refusal, place),
-    }
+    of_month(clock, face, station, unit, path, year, month, View::Month)
 }
 
 // No next turn.
@@ -143,8 +192,8 @@ fn first_turn<'a>(
             return Next {
                 found: true,
                 later,
-                minute: figures::minute_at(minutes, i),
-                height: figures::height_at(heights, i),
+                minute: digits::minute_at(minutes, i),
+                height: digits::height_at(heights, i),
             };
         }
         i += 1;
@@ -152,26 +201,29 @@ fn first_turn<'a>(
     no_turn()
 }
 
-// The first high or low water of the month after a month; none where the clock refuses that month.
-fn turn_behind(clock: Clock, high: bool, year: u32, month: u32) -> Next
+// The first high or low water of the month that a clock has prepared, whose last minute is given; `later` in the month after.
+fn month_turn(clock: Clock, high: bool, last: u32) -> Next
     requires { ⌜ Made clock ⌝ }
 {
     let mut minutes = [0u32; 512];
     let mut heights = [0i64; 512];
-    let last = calendar::month_minutes(year, month);
+    let found = monthturns::month_turns(clock, last, &mut minutes, &mut heights);
+    match found {
+        TurnsAnswer::Turns(count, first) => {
+            first_turn(high, 0, count, first, true, &minutes, &heights)
+        }
+        TurnsAnswer::Refused(_, _) => no_turn(),
+    }
+}
+
+// The first high or low water of the month after a month; none where the clock refuses that month.
+fn turn_behind(clock: Clock, high: bool, year: u32, month: u32) -> Next
+    requires { ⌜ Made clock ⌝ }
+{
     let after = clock::set_date(clock, year, month);
-    let dated = after.clock;
     let answer = after.answer;
     match answer {
-        Answer::Accepted => {
-            let found = monthturns::month_turns(dated, last, &mut minutes, &mut heights);
-            match found {
-                TurnsAnswer::Turns(count, first) => {
-                    first_turn(high, 0, count, first, true, &minutes, &heights)
-                }
-                TurnsAnswer::Refused(_, _) => no_turn(),
-            }
-        }
+        Answer::Accepted => month_turn(after.clock, high, calendar::month_minutes(year, month)),
         Answer::Refused(_, _) => no_turn(),
     }
 }
@@ -190,7 +242,7 @@ fn next_turn<'a>(
 ) -> Next
     requires { ⌜ Made clock ⌝ }
 {
-    let from = daysheet::turn_from(minutes, 0, count, std::num::wrapping_add_u32(minute, 1));
+    let from = swings::turn_from(minutes, 0, count, minute as u64 + 1);
     let next = first_turn(high, from, count, first, false, minutes, heights);
     if next.found {
         return next;
@@ -198,8 +250,8 @@ fn next_turn<'a>(
     turn_behind(
         clock,
         high,
-        face::year_behind(year, month),
-        face::month_behind(month),
+        dates::year_behind(year, month),
+        dates::month_behind(month),
     )
 }
 
@@ -355,7 +407,7 @@ fn prepared_day<'a>(
     requires { ⌜ Made clock ⌝ }
 {
     let mut hourly = [0i64; 25];
-    let start = commandline::minute_of_month(day, 0);
+    let start = dates::minute_of_month(day, 0);
     let answer = clock::series(clock, start, 60, &mut hourly);
     match answer {
         Answer::Accepted => day_water(
@@ -366,7 +418,7 @@ fn prepared_day<'a>(
             year,
             month,
             day,
-            commandline::minute_of_month(day, minute),
+            dates::minute_of_month(day, minute),
             &hourly,
         ),
         Answer::Refused(refusal, _) => messages::refused_number(b"day", day as u64, refusal),
@@ -387,11 +439,14 @@ pub fn day<'a>(
 )
     requires { ⌜ Made clock ⌝ }
 {
-    let after = clock::set_date(clock, year, month);
-    let answer = after.answer;
-    let dated = after.clock;
-    match answer {
-        Answer::Accepted => prepared_day(dated, face, station, unit, year, month, day, minute),
-        Answer::Refused(refusal, place) => say_date(path, year, month, refusal, place),
-    }
+    of_month(
+        clock,
+        face,
+        station,
+        unit,
+        path,
+        year,
+        month,
+        View::Day(day, minute),
+    )
 }

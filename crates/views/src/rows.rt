@@ -2,7 +2,8 @@
 ghost use mathlib.Core.Path.{_≡_};
 ghost use lib.ListN.{length};
 ghost use Rattle.clock.specs.View.{Made};
-use crate::say_date;
+use crate::View;
+use crate::of_month;
 use clock::Clock;
 use face::Face;
 use refusals::Answer;
@@ -78,6 +79,35 @@ fn lent_series<'a>(
     }
 }
 
+// So many heights of the month that a clock has prepared.
+pub fn prepared_series<'a>(
+    clock: Clock,
+    face: Face,
+    station: &'a [u8],
+    unit: &'a [u8],
+    year: u32,
+    month: u32,
+    start: u32,
+    step: u32,
+    count: u32,
+)
+    requires { ⌜ Made clock ⌝ }
+{
+    let mut places = height_places();
+    lent_series(
+        clock,
+        face,
+        station,
+        unit,
+        year,
+        month,
+        start,
+        step,
+        count,
+        &mut places,
+    )
+}
+
 // series YEAR MONTH DAY HH:MM STEP COUNT: so many heights from a minute on, a step apart.
 pub fn series<'a>(
     clock: Clock,
@@ -93,27 +123,16 @@ pub fn series<'a>(
 )
     requires { ⌜ Made clock ⌝ }
 {
-    let after = clock::set_date(clock, year, month);
-    let answer = after.answer;
-    let dated = after.clock;
-    match answer {
-        Answer::Accepted => {
-            let mut places = height_places();
-            lent_series(
-                dated,
-                face,
-                station,
-                unit,
-                year,
-                month,
-                start,
-                step,
-                count,
-                &mut places,
-            )
-        }
-        Answer::Refused(refusal, place) => say_date(path, year, month, refusal, place),
-    }
+    of_month(
+        clock,
+        face,
+        station,
+        unit,
+        path,
+        year,
+        month,
+        View::Series(start, step, count),
+    )
 }
 
 // How many heights a step apart a month has, its last minute among them; 1 for a step that the clock refuses.

@@ -1,6 +1,7 @@
 // Drawings, in SVG. What the clock would refuse is asked first, so that it is said and nothing is drawn.
 ghost use Rattle.clock.specs.View.{Made};
-use crate::say_date;
+use crate::View;
+use crate::of_month;
 use clock::Clock;
 use clock::TurnsAnswer;
 use face::Face;
@@ -28,7 +29,7 @@ fn has_day(clock: Clock, day: u32) -> bool
     requires { ⌜ Made clock ⌝ }
 {
     let mut hourly = [0i64; 25];
-    let start = commandline::minute_of_month(day, 0);
+    let start = dates::minute_of_month(day, 0);
     let answer = clock::series(clock, start, 60, &mut hourly);
     match answer {
         Answer::Accepted => true,
@@ -40,7 +41,7 @@ fn has_day(clock: Clock, day: u32) -> bool
 }
 
 // Draws the month that a clock has prepared.
-fn draw_month<'a>(
+pub fn draw_month<'a>(
     clock: Clock,
     face: Face,
     station: &'a [u8],
@@ -66,7 +67,7 @@ fn draw_month<'a>(
 }
 
 // Draws a day of the month that a clock has prepared.
-fn draw_day<'a>(
+pub fn draw_day<'a>(
     clock: Clock,
     face: Face,
     station: &'a [u8],
@@ -105,13 +106,16 @@ pub fn month_drawing<'a>(
 )
     requires { ⌜ Made clock ⌝ }
 {
-    let after = clock::set_date(clock, year, month);
-    let answer = after.answer;
-    let dated = after.clock;
-    match answer {
-        Answer::Accepted => draw_month(dated, face, station, unit, year, month),
-        Answer::Refused(refusal, place) => say_date(path, year, month, refusal, place),
-    }
+    of_month(
+        clock,
+        face,
+        station,
+        unit,
+        path,
+        year,
+        month,
+        View::MonthDrawing,
+    )
 }
 
 // svg YEAR MONTH DAY: a drawing of the day.
@@ -127,11 +131,14 @@ pub fn day_drawing<'a>(
 )
     requires { ⌜ Made clock ⌝ }
 {
-    let after = clock::set_date(clock, year, month);
-    let answer = after.answer;
-    let dated = after.clock;
-    match answer {
-        Answer::Accepted => draw_day(dated, face, station, unit, year, month, day),
-        Answer::Refused(refusal, place) => say_date(path, year, month, refusal, place),
-    }
+    of_month(
+        clock,
+        face,
+        station,
+        unit,
+        path,
+        year,
+        month,
+        View::DayDrawing(day),
+    )
 }

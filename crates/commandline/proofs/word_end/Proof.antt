@@ -1,47 +1,16 @@
--- `commandline::word_end` is safe and ends: what is left of the row falls at each turn. Assumes nothing.
+-- `commandline::word_end` meets its contract: the bytes that are not 0 end at the next 0. Assumes nothing.
+use Rattle.commandline.specs.Words.{wordAt}
+use Rattle.commandline.proofs.Words.{row-from}
 use borrow.Author.Needs.{needs}
-use Prim.Native.Nat.{_-_}
-use lib.ListN.{length}
 use Rattle.commandline.proofs.word_end.Statement.{statement}
 use Rattle.commandline.proofs.word_end.Tie as tie
 
-abbrev Inv-loop : tie.InvT-loop
-Inv-loop words at i₀ i = Unit {0}
+run-end-requires : tie.Need-run-end-requires
+run-end-requires c κs = search needs
 
-abbrev μ-loop : tie.MeasureT-loop
-μ-loop words at i₀ i = length words - i
-
-loop-holds : tie.Need-loop-holds Inv-loop μ-loop
-loop-holds c = search needs
-
-shared-slice-read-if1 : tie.Need-shared-slice-read-if1 Inv-loop μ-loop
-shared-slice-read-if1 c = search needs
-
-returns : tie.Need-returns Inv-loop μ-loop
-returns c = search needs
-
-add-i : tie.Need-add-i Inv-loop μ-loop
-add-i c = search needs
-
-loop-less : tie.Need-loop-less Inv-loop μ-loop
-loop-less c = search needs
-
-loop-again : tie.Need-loop-again Inv-loop μ-loop
-loop-again c = search needs
-
-returns-2 : tie.Need-returns-2 Inv-loop μ-loop
-returns-2 c = search needs
+returns : tie.Need-returns
+unfolding wordAt
+returns c = let a = c .before .before .args in rw (row-from (a .words .now) (a .at)) at (c .run-end .ensures)
 
 pub word-end-spec : {M : Type 1} → statement M
-word-end-spec =
-    tie.close
-    (tie.spec
-    Inv-loop
-    μ-loop
-    loop-holds
-    shared-slice-read-if1
-    returns
-    add-i
-    loop-less
-    loop-again
-    returns-2)
+word-end-spec = tie.close (tie.spec run-end-requires returns)

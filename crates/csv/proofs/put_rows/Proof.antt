@@ -1,16 +1,20 @@
--- `csv::put_rows` is safe and ends: the page keeps its length. Assumes nothing.
+-- `csv::put_rows` meets its contract: the page keeps its length, and the next place stays on it. Assumes nothing.
 use borrow.Author.Needs.{needs}
-use Prim.Native.Nat.{_-_}
+use Prim.Native.Nat.{_-_, _≤_}
 use mathlib.Core.Path.{_≡_}
 use lib.ListN.{length}
 use Rattle.csv.proofs.put_rows.Statement.{statement}
 use Rattle.csv.proofs.put_rows.Tie as tie
 
 abbrev Inv-loop : tie.InvT-loop
-Inv-loop page₀ at greenwich year month start step heights next₀ minute₀ i₀ page next minute i = length page ≡ length page₀
+Inv-loop page₀ at greenwich year month start step heights next₀ minute₀ i₀ page next minute i =
+    (length page ≡ length page₀) × (next ≤ length page₀)
 
 abbrev μ-loop : tie.MeasureT-loop
 μ-loop page₀ at greenwich year month start step heights next₀ minute₀ i₀ page next minute i = length heights - i
+
+on-page-requires : tie.Need-on-page-requires Inv-loop μ-loop
+on-page-requires c κs = search needs
 
 loop-holds : tie.Need-loop-holds Inv-loop μ-loop
 loop-holds c = search needs
@@ -48,6 +52,7 @@ put-rows-spec =
     (tie.spec
     Inv-loop
     μ-loop
+    on-page-requires
     loop-holds
     mul-put-row
     shared-slice-copy-out-put-row

@@ -1,4 +1,4 @@
--- `daysheet::put_curve` is safe and ends: the page keeps its length, and the hours left fall at each turn. Assumes nothing.
+-- `daysheet::put_curve` meets its contract: the next place stays on the page, and the hours left fall at each turn. Assumes nothing.
 use borrow.Author.Needs.{needs}
 use Prim.Native.Nat.{_≤_, _-_}
 use mathlib.Core.Path.{_≡_}
@@ -8,7 +8,7 @@ use Rattle.daysheet.proofs.put_curve.Tie as tie
 
 abbrev Inv-loop : tie.InvT-loop
 Inv-loop page₀ at start from to first low high hourly minutes heights day next₀ turn₀ hour₀ page next turn hour =
-    (length page ≡ length page₀) × (hour ≤ 25)
+    (length page ≡ length page₀) × (hour ≤ 25) × (next ≤ length page₀)
 
 abbrev μ-loop : tie.MeasureT-loop
 μ-loop page₀ at start from to first low high hourly minutes heights day next₀ turn₀ hour₀ page next turn hour =
@@ -17,11 +17,17 @@ abbrev μ-loop : tie.MeasureT-loop
 day-of-requires : tie.Need-day-of-requires Inv-loop μ-loop
 day-of-requires c κs = search needs
 
+on-page-requires : tie.Need-on-page-requires Inv-loop μ-loop
+on-page-requires c κs = search needs
+
 loop-holds : tie.Need-loop-holds Inv-loop μ-loop
 loop-holds c = search needs
 
 hour-minute-requires : tie.Need-hour-minute-requires Inv-loop μ-loop
 hour-minute-requires c κs = search needs
+
+cast-turn-from : tie.Need-cast-turn-from Inv-loop μ-loop
+cast-turn-from c = search needs
 
 turn-from-requires : tie.Need-turn-from-requires Inv-loop μ-loop
 turn-from-requires c κs = search needs
@@ -63,8 +69,10 @@ put-curve-spec =
     Inv-loop
     μ-loop
     day-of-requires
+    on-page-requires
     loop-holds
     hour-minute-requires
+    cast-turn-from
     turn-from-requires
     put-turns-requires
     cast-height-at

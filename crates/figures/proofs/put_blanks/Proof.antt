@@ -1,15 +1,20 @@
--- `figures::put_blanks` is safe and ends: the page keeps its length. Assumes nothing.
+-- `figures::put_blanks` meets its contract: the page keeps its length, and the next place stays on it. Assumes nothing.
 use borrow.Author.Needs.{needs}
+use Prim.Native.Nat.{_≤_}
 use mathlib.Core.Path.{_≡_}
 use lib.ListN.{length}
 use Rattle.figures.proofs.put_blanks.Statement.{statement}
 use Rattle.figures.proofs.put_blanks.Tie as tie
 
 abbrev Inv-loop : tie.InvT-loop
-Inv-loop page₀ at blanks next₀ left₀ page next left = length page ≡ length page₀
+Inv-loop page₀ at blanks next₀ left₀ page next left =
+    (length page ≡ length page₀) × (next ≤ length page₀)
 
 abbrev μ-loop : tie.MeasureT-loop
 μ-loop page₀ at blanks next₀ left₀ page next left = left
+
+on-page-requires : tie.Need-on-page-requires Inv-loop μ-loop
+on-page-requires c κs = search needs
 
 loop-holds : tie.Need-loop-holds Inv-loop μ-loop
 loop-holds c = search needs
@@ -38,6 +43,7 @@ put-blanks-spec =
     (tie.spec
     Inv-loop
     μ-loop
+    on-page-requires
     loop-holds
     put-requires
     sub-left

@@ -1,4 +1,4 @@
--- `monthsheet::put_days` is safe and ends: the days left fall at each turn. Assumes nothing.
+-- `monthsheet::put_days` meets its contract: the next place stays on the page, and the days left fall at each turn. Assumes nothing.
 use borrow.Author.Needs.{needs}
 use Prim.Native.Nat.{_≤_}
 use mathlib.Core.Path.{_≡_}
@@ -8,13 +8,16 @@ use Rattle.monthsheet.proofs.put_days.Tie as tie
 
 abbrev Inv-loop : tie.InvT-loop
 Inv-loop page₀ at days count first minutes heights largest next₀ from₀ left₀ page next from left =
-    (length page ≡ length page₀) × (left ≤ days)
+    (length page ≡ length page₀) × (left ≤ days) × (next ≤ length page₀)
 
 abbrev μ-loop : tie.MeasureT-loop
 μ-loop page₀ at days count first minutes heights largest next₀ from₀ left₀ page next from left = left
 
 largest-swing-requires : tie.Need-largest-swing-requires Inv-loop μ-loop
 largest-swing-requires c κs = search needs
+
+on-page-requires : tie.Need-on-page-requires Inv-loop μ-loop
+on-page-requires c κs = search needs
 
 loop-holds : tie.Need-loop-holds Inv-loop μ-loop
 loop-holds c = search needs
@@ -53,6 +56,7 @@ put-days-spec =
     Inv-loop
     μ-loop
     largest-swing-requires
+    on-page-requires
     loop-holds
     sub-day
     add-day

@@ -8,10 +8,13 @@ use Rattle.output.proofs.put_bytes.Statement.{statement}
 use Rattle.output.proofs.put_bytes.Tie as tie
 
 abbrev Inv-loop : tie.InvT-loop
-Inv-loop page₀ at bytes next₀ i₀ page next i = (length page ≡ length page₀) × (at ≤ length page₀ → next ≤ length page₀)
+Inv-loop page₀ at bytes next₀ i₀ page next i = (length page ≡ length page₀) × (next ≤ length page₀)
 
 abbrev μ-loop : tie.MeasureT-loop
 μ-loop page₀ at bytes next₀ i₀ page next i = length bytes - i
+
+on-page-requires : tie.Need-on-page-requires Inv-loop μ-loop
+on-page-requires c κs = search needs
 
 loop-holds : tie.Need-loop-holds Inv-loop μ-loop
 loop-holds c = search needs
@@ -43,6 +46,7 @@ put-bytes-spec =
     (tie.spec
     Inv-loop
     μ-loop
+    on-page-requires
     loop-holds
     shared-slice-read-put
     put-requires

@@ -1,54 +1,20 @@
--- `swings::day_end` is safe and ends: the turns left fall at each turn of the loop. Assumes nothing.
+-- `swings::day_end` meets its contract: a case for the last day. Assumes nothing.
+use borrow.Author.Tests.{le-leb, lt-leb}
 use borrow.Author.Needs.{needs}
-use Prim.Native.Nat.{_-_}
 use Rattle.swings.proofs.day_end.Statement.{statement}
 use Rattle.swings.proofs.day_end.Tie as tie
 
-abbrev Inv-loop : tie.InvT-loop
-Inv-loop minutes from count day days i₀ i = Unit {0}
+returns : tie.Need-returns
+returns c = rw (le-leb _ _ (c .if1 .taken))
 
-abbrev μ-loop : tie.MeasureT-loop
-μ-loop minutes from count day days i₀ i = count - i
+mul-turn-from : tie.Need-mul-turn-from
+mul-turn-from c = search needs
 
-returns : tie.Need-returns Inv-loop μ-loop
-returns c = search needs
+turn-from-requires : tie.Need-turn-from-requires
+turn-from-requires c κs = search needs
 
-loop-holds : tie.Need-loop-holds Inv-loop μ-loop
-loop-holds c = search needs
-
-minute-at-requires : tie.Need-minute-at-requires Inv-loop μ-loop
-minute-at-requires c κs = search needs
-
-day-of-requires : tie.Need-day-of-requires Inv-loop μ-loop
-day-of-requires c κs = search needs
-
-returns-2 : tie.Need-returns-2 Inv-loop μ-loop
-returns-2 c = search needs
-
-add-i : tie.Need-add-i Inv-loop μ-loop
-add-i c = search needs
-
-loop-less : tie.Need-loop-less Inv-loop μ-loop
-loop-less c = search needs
-
-loop-again : tie.Need-loop-again Inv-loop μ-loop
-loop-again c = search needs
-
-returns-3 : tie.Need-returns-3 Inv-loop μ-loop
-returns-3 c = search needs
+returns-2 : tie.Need-returns-2
+returns-2 c = rw (lt-leb _ _ (c .before .if1 .left)) (c .turn-from .ensures)
 
 pub day-end-spec : {M : Type 1} → statement M
-day-end-spec =
-    tie.close
-    (tie.spec
-    Inv-loop
-    μ-loop
-    returns
-    loop-holds
-    minute-at-requires
-    day-of-requires
-    returns-2
-    add-i
-    loop-less
-    loop-again
-    returns-3)
+day-end-spec = tie.close (tie.spec returns mul-turn-from turn-from-requires returns-2)

@@ -1,0 +1,16 @@
+-- What holds of the numbers that a command line asks with. Assumes nothing.
+use Prim.Native.Nat.{ℕ, _≤_}
+use Rattle.commandline.specs.declared.Asked.{Asked}
+use Rattle.commandline.specs.declared.Asked.the-variants.{Help, Refusals, Month, Day, Heights, Series, MonthDrawing, DayDrawing, Wrong}
+
+-- where a day is asked, it is at least the month's first: day 0 is a wrong word
+abbrev pub DayAsked : Asked → Type 0
+DayAsked Help = Unit {0}
+DayAsked Refusals = Unit {0}
+DayAsked (Month year month) = Unit {0}
+DayAsked (Day year month day minute) = 1 ≤ day
+DayAsked (Heights year month step) = Unit {0}
+DayAsked (Series year month start step count) = Unit {0}
+DayAsked (MonthDrawing year month) = Unit {0}
+DayAsked (DayDrawing year month day) = 1 ≤ day
+DayAsked (Wrong wrong start) = Unit {0}
