@@ -124,14 +124,7 @@ fn first_heights(heights: &[i64], count: usize) -> &[i64] {
 }
 
 // Begins a drawing of a height: its head.
-fn begin<'a>(
-    page: &mut [u8],
-    name: &'a [u8],
-    zone: &'a [u8],
-    unit: &'a [u8],
-    when: When,
-    height: u64,
-) -> usize {
+fn begin(page: &mut [u8], name: &[u8], zone: &[u8], unit: &[u8], when: When, height: u64) -> usize {
     let next = title::put_start(page, 0, height);
     title::put_head(page, next, name, zone, unit, when)
 }
@@ -211,9 +204,9 @@ fn month_foot(when: When) -> u64
 fn draw_day<'a>(
     page: &mut [u8],
     face: Face,
-    name: &'a [u8],
-    zone: &'a [u8],
-    unit: &'a [u8],
+    name: &[u8],
+    zone: &[u8],
+    unit: &[u8],
     when: When,
     heights: &'a [i64],
     minutes: &'a [u32],
@@ -231,9 +224,9 @@ fn draw_day<'a>(
 fn draw_month<'a>(
     page: &mut [u8],
     face: Face,
-    name: &'a [u8],
-    zone: &'a [u8],
-    unit: &'a [u8],
+    name: &[u8],
+    zone: &[u8],
+    unit: &[u8],
     when: When,
     heights: &'a [i64],
     minutes: &'a [u32],

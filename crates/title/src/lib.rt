@@ -101,12 +101,12 @@ fn put_unit(page: &mut [u8], at: usize, unit: &[u8]) -> usize
 }
 
 // Puts the head of a drawing: its title, the station's name, when, the times' zone and the heights' unit.
-pub fn put_head<'a>(
+pub fn put_head(
     page: &mut [u8],
     at: usize,
-    name: &'a [u8],
-    zone: &'a [u8],
-    unit: &'a [u8],
+    name: &[u8],
+    zone: &[u8],
+    unit: &[u8],
     when: When,
 ) -> usize
     ensures { λ r. ⌜ r ≤ length (now (page .entry)) ⌝ }
