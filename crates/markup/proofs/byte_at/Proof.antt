@@ -1,20 +1,16 @@
+-- `markup::byte_at` meets its contract: past the end there is a 0. Assumes nothing.
 use borrow.Author.Needs.{needs}
 use Rattle.markup.proofs.byte_at.Statement.{statement}
 use Rattle.markup.proofs.byte_at.Tie as tie
-use Rattle.markup.proofs.byte_at.Reads as reads
-use Rattle.markup.proofs.byte_at.Lts as lts
 use mathlib.Core.Path.{sym}
 use lib.ListN.{List·getD-eq-default}
 
--- src/lib.rt:58:25
 shared-slice-read-result : tie.Need-shared-slice-read-result
 shared-slice-read-result c = search needs
 
--- src/lib.rt:55:1
 returns : tie.Need-returns
 returns c = search needs
 
--- src/lib.rt:55:1
 returns-2 : tie.Need-returns-2
 returns-2 c = sym (List·getD-eq-default (c .before .args .text .now) _ (c .if1 .left))
 

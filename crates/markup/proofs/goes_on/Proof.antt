@@ -1,35 +1,26 @@
+-- `markup::goes_on` meets its contract: the tests in order, each of which decides one branch. Assumes nothing.
 use borrow.Author.Needs.{needs}
 use Rattle.markup.proofs.goes_on.Statement.{statement}
 use Rattle.markup.proofs.goes_on.Tie as tie
-use Rattle.markup.proofs.goes_on.Reads as reads
-use Rattle.markup.proofs.goes_on.Lts as lts
-use Rattle.markup.proofs.is_later.Reads as is-later-reads
-use Rattle.markup.proofs.is_second.Reads as is-second-reads
 use Rattle.markup.specs.Utf8.{goesOn}
 
--- src/lib.rt:83:8
 is-second-requires : tie.Need-is-second-requires
 is-second-requires c κs = search needs
 
--- src/lib.rt:84:12
 is-later-requires : tie.Need-is-later-requires
 is-later-requires c κs = search needs
 
--- src/lib.rt:85:13
 is-later-requires-2 : tie.Need-is-later-requires-2
 is-later-requires-2 c κs = search needs
 
--- src/lib.rt:85:13
 returns : tie.Need-returns
 unfolding goesOn
 returns c = rw (← c .before .before .before .before .is-second .ensures, c .before .before .before .if1 .taken, ← c .before .before .is-later .ensures, c .before .if2 .taken) (c .is-later2 .ensures)
 
--- src/lib.rt:87:9
 returns-2 : tie.Need-returns-2
 unfolding goesOn
 returns-2 c = rw (← c .before .before .before .is-second .ensures, c .before .before .if1 .taken, ← c .before .is-later .ensures, c .if2 .left)
 
--- src/lib.rt:80:1
 returns-3 : tie.Need-returns-3
 unfolding goesOn
 returns-3 c = rw (← c .before .is-second .ensures, c .if1 .left)

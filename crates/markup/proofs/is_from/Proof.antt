@@ -1,16 +1,13 @@
+-- `markup::is_from` meets its contract: the two tests in order, each of which decides one branch. Assumes nothing.
 use Rattle.markup.proofs.is_from.Statement.{statement}
 use Rattle.markup.proofs.is_from.Tie as tie
-use Rattle.markup.proofs.is_from.Reads as reads
-use Rattle.markup.proofs.is_from.Lts as lts
 use borrow.Author.Tests.{le-leb, lt-leb}
 use Rattle.markup.specs.Utf8.{isFrom}
 
--- src/lib.rt:15:1
 returns : tie.Need-returns
 unfolding isFrom
 returns c = simp (le-leb _ _ (c .if1 .taken))
 
--- src/lib.rt:15:1
 returns-2 : tie.Need-returns-2
 unfolding isFrom
 returns-2 c = simp (lt-leb _ _ (c .if1 .left))

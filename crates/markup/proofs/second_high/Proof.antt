@@ -1,21 +1,17 @@
+-- `markup::second_high` meets its contract: the tests in order, each of which decides one branch. Assumes nothing.
 use Rattle.markup.proofs.second_high.Statement.{statement}
 use Rattle.markup.proofs.second_high.Tie as tie
-use Rattle.markup.proofs.second_high.Reads as reads
-use Rattle.markup.proofs.second_high.Lts as lts
 use borrow.Author.Tests.{eq-eqb, ne-eqb}
 use Rattle.markup.specs.Utf8.{secondHigh}
 
--- src/lib.rt:49:9
 returns : tie.Need-returns
 unfolding secondHigh
 returns c = rw (eq-eqb _ _ (c .if1 .taken))
 
--- src/lib.rt:45:1
 returns-2 : tie.Need-returns-2
 unfolding secondHigh
 returns-2 c = rw (ne-eqb _ _ (c .before .if1 .left), eq-eqb _ _ (c .if2 .taken))
 
--- src/lib.rt:45:1
 returns-3 : tie.Need-returns-3
 unfolding secondHigh
 returns-3 c = rw (ne-eqb _ _ (c .before .if1 .left), ne-eqb _ _ (c .if2 .left))

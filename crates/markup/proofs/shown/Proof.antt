@@ -1,21 +1,16 @@
+-- `markup::shown` meets its contract: the test is the definition's. Assumes nothing.
 use borrow.Author.Needs.{needs}
 use Rattle.markup.proofs.shown.Statement.{statement}
 use Rattle.markup.proofs.shown.Tie as tie
-use Rattle.markup.proofs.shown.Reads as reads
-use Rattle.markup.proofs.shown.Lts as lts
-use Rattle.markup.proofs.is_from.Reads as is-from-reads
 use Rattle.markup.specs.Escapes.{shownAs}
 
--- src/lib.rt:139:8
 is-from-requires : tie.Need-is-from-requires
 is-from-requires c κs = search needs
 
--- src/lib.rt:136:1
 returns : tie.Need-returns
 unfolding shownAs
 returns c = rw (← c .before .is-from .ensures, c .if1 .taken)
 
--- src/lib.rt:136:1
 returns-2 : tie.Need-returns-2
 unfolding shownAs
 returns-2 c = rw (← c .before .is-from .ensures, c .if1 .left)

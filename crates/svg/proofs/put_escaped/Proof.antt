@@ -5,12 +5,6 @@ use borrow.Author.Needs.{needs}
 use lib.ListN.{length}
 use Rattle.svg.proofs.put_escaped.Statement.{statement}
 use Rattle.svg.proofs.put_escaped.Tie as tie
-use Rattle.svg.proofs.put_escaped.Reads as reads
-use Rattle.svg.proofs.put_escaped.Lts as lts
-use Rattle.svg.proofs.on_page.Reads as on-page-reads
-use Rattle.svg.proofs.one_less.Reads as one-less-reads
-use Rattle.svg.proofs.passing.Reads as passing-reads
-use Rattle.svg.proofs.put_byte.Reads as put-byte-reads
 use native.Mathlib.Omega.{arith}
 
 abbrev Inv-loop : tie.InvT-loop
@@ -19,59 +13,45 @@ Inv-loop page₀ at text next₀ left₀ i₀ page next left i = (length page �
 abbrev μ-loop : tie.MeasureT-loop
 μ-loop page₀ at text next₀ left₀ i₀ page next left i = length text - i
 
--- src/lib.rt:96:9
 on-page-requires : tie.Need-on-page-requires Inv-loop μ-loop
 on-page-requires c κs = search needs
 
--- src/lib.rt:99:5
 loop-holds : tie.Need-loop-holds Inv-loop μ-loop
 loop-holds c = search needs
 
--- src/lib.rt:100:28
 sub-passing : tie.Need-sub-passing Inv-loop μ-loop
 sub-passing c = search needs
 
--- src/lib.rt:100:28
 part-passing-start : tie.Need-part-passing-start Inv-loop μ-loop
 part-passing-start c = search needs
 
--- src/lib.rt:100:28
 part-passing-end : tie.Need-part-passing-end Inv-loop μ-loop
 part-passing-end c = search needs
 
--- src/lib.rt:100:13
 passing-requires : tie.Need-passing-requires Inv-loop μ-loop
 passing-requires c κs = search needs
 
--- src/lib.rt:101:37
 shared-slice-read-put-byte : tie.Need-shared-slice-read-put-byte Inv-loop μ-loop
 shared-slice-read-put-byte c = search needs
 
--- src/lib.rt:101:9
 put-byte-requires : tie.Need-put-byte-requires Inv-loop μ-loop
 put-byte-requires c κs = search needs
 
--- src/lib.rt:102:9
 one-less-requires : tie.Need-one-less-requires Inv-loop μ-loop
 one-less-requires c κs = search needs
 
--- src/lib.rt:103:9
 add-i : tie.Need-add-i Inv-loop μ-loop
 add-i c = search needs
 
--- src/lib.rt:99:5
 loop-less : tie.Need-loop-less Inv-loop μ-loop
 loop-less c = search needs
 
--- src/lib.rt:99:5
 loop-again : tie.Need-loop-again Inv-loop μ-loop
 loop-again c = (search needs, omega (arith, c .before .before .before .put-byte .ensures (omega arith)))
 
--- src/lib.rt:93:1
 same-length : tie.Need-same-length Inv-loop μ-loop
 same-length c = search needs
 
--- src/lib.rt:93:1
 returns : tie.Need-returns Inv-loop μ-loop
 returns c = search needs
 

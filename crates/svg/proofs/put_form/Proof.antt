@@ -5,11 +5,6 @@ use borrow.Author.Needs.{needs}
 use lib.ListN.{length}
 use Rattle.svg.proofs.put_form.Statement.{statement}
 use Rattle.svg.proofs.put_form.Tie as tie
-use Rattle.svg.proofs.put_form.Reads as reads
-use Rattle.svg.proofs.put_form.Lts as lts
-use Rattle.markup.proofs.number_for.Reads as number-for-reads
-use Rattle.svg.proofs.on_page.Reads as on-page-reads
-use Rattle.svg.proofs.put_filled.Reads as put-filled-reads
 use native.Mathlib.Omega.{arith}
 
 abbrev Inv-loop : tie.InvT-loop
@@ -18,47 +13,36 @@ Inv-loop page₀ at form a b c d next₀ i₀ page next i = (length page ≡ len
 abbrev μ-loop : tie.MeasureT-loop
 μ-loop page₀ at form a b c d next₀ i₀ page next i = length form - i
 
--- src/lib.rt:29:9
 on-page-requires : tie.Need-on-page-requires Inv-loop μ-loop
 on-page-requires c κs = search needs
 
--- src/lib.rt:31:5
 loop-holds : tie.Need-loop-holds Inv-loop μ-loop
 loop-holds c = search needs
 
--- src/lib.rt:32:39
 shared-slice-read-put-filled : tie.Need-shared-slice-read-put-filled Inv-loop μ-loop
 shared-slice-read-put-filled c = search needs
 
--- src/lib.rt:32:67
 shared-slice-read-number-for : tie.Need-shared-slice-read-number-for Inv-loop μ-loop
 shared-slice-read-number-for c = search needs
 
--- src/lib.rt:32:48
 number-for-requires : tie.Need-number-for-requires Inv-loop μ-loop
 number-for-requires c κs = search needs
 
--- src/lib.rt:32:9
 put-filled-requires : tie.Need-put-filled-requires Inv-loop μ-loop
 put-filled-requires c κs = search needs
 
--- src/lib.rt:33:9
 add-i : tie.Need-add-i Inv-loop μ-loop
 add-i c = search needs
 
--- src/lib.rt:31:5
 loop-less : tie.Need-loop-less Inv-loop μ-loop
 loop-less c = search needs
 
--- src/lib.rt:31:5
 loop-again : tie.Need-loop-again Inv-loop μ-loop
 loop-again c = (search needs, omega (arith, c .before .before .put-filled .ensures (omega arith)))
 
--- src/lib.rt:26:1
 same-length : tie.Need-same-length Inv-loop μ-loop
 same-length c = search needs
 
--- src/lib.rt:26:1
 returns : tie.Need-returns Inv-loop μ-loop
 returns c = search needs
 
