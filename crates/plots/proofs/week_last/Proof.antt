@@ -1,9 +1,7 @@
+-- `plots::week_last` meets its contract: a minute is taken away where a week follows. Assumes nothing.
 use borrow.Author.Needs.{needs}
 use Rattle.plots.proofs.week_last.Statement.{statement}
 use Rattle.plots.proofs.week_last.Tie as tie
-use Rattle.plots.proofs.week_last.Reads as reads
-use Rattle.plots.proofs.week_last.Lts as lts
-use Rattle.plots.proofs.week_days.Reads as week-days-reads
 use native.Mathlib.Omega.{arith}
 use mathlib.Core.Path.{_≡_}
 use Prim.Native.Nat.{ℕ, _≤_, _-_, min}
@@ -12,43 +10,33 @@ use Prim.Native.Nat.{ℕ, _≤_, _-_, min}
 one-less : (x next : ℕ) → 1 ≤ next → x - 1 ≡ x - min next 1
 one-less x next h = omega arith
 
--- src/lib.rt:99:15
 mul-end : tie.Need-mul-end
 mul-end c = search needs
 
--- src/lib.rt:99:38
 week-days-requires : tie.Need-week-days-requires
 week-days-requires c κs = search needs
 
--- src/lib.rt:99:38
 cast-end : tie.Need-cast-end
 cast-end c = search needs
 
--- src/lib.rt:99:38
 mul-end-2 : tie.Need-mul-end-2
 mul-end-2 c = search needs
 
--- src/lib.rt:99:15
 add-end : tie.Need-add-end
 add-end c = search needs
 
--- src/lib.rt:100:24
 add-week-days : tie.Need-add-week-days
 add-week-days c = search needs
 
--- src/lib.rt:100:8
 week-days-requires-2 : tie.Need-week-days-requires-2
 week-days-requires-2 c κs = search needs
 
--- src/lib.rt:101:9
 returns : tie.Need-returns
 returns c = search needs
 
--- src/lib.rt:103:5
 sub-result : tie.Need-sub-result
 sub-result c = search needs
 
--- src/lib.rt:95:1
 returns-2 : tie.Need-returns-2
 returns-2 c = rw (← c .before .before .week-days .ensures .0, ← c .before .week-days2 .ensures .0) (one-less _ _ (c .if1 .left))
 
