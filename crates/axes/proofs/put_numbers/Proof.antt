@@ -5,12 +5,6 @@ use lib.ListN.{length}
 use borrow.Author.Needs.{needs}
 use Rattle.axes.proofs.put_numbers.Statement.{statement}
 use Rattle.axes.proofs.put_numbers.Tie as tie
-use Rattle.axes.proofs.put_numbers.Reads as reads
-use Rattle.axes.proofs.put_numbers.Lts as lts
-use Rattle.axes.proofs.number_at.Reads as number-at-reads
-use Rattle.axes.proofs.put_under.Reads as put-under-reads
-use Rattle.svg.proofs.end_group.Reads as end-group-reads
-use Rattle.svg.proofs.put_group.Reads as put-group-reads
 
 abbrev Inv-loop : tie.InvT-loop
 Inv-loop page₀ at plot first apart next₀ minute₀ page next minute = length page ≡ length page₀
@@ -18,47 +12,36 @@ Inv-loop page₀ at plot first apart next₀ minute₀ page next minute = length
 abbrev μ-loop : tie.MeasureT-loop
 μ-loop page₀ at plot first apart next₀ minute₀ page next minute = plot .minutes + 1 - minute
 
--- src/lib.rt:92:9
 put-group-requires : tie.Need-put-group-requires Inv-loop μ-loop
 put-group-requires c κs = search needs
 
--- src/lib.rt:94:5
 loop-holds : tie.Need-loop-holds Inv-loop μ-loop
 loop-holds c = search needs
 
--- src/lib.rt:94:21
 cast-if1 : tie.Need-cast-if1 Inv-loop μ-loop
 cast-if1 c = search needs
 
--- src/lib.rt:95:52
 number-at-requires : tie.Need-number-at-requires Inv-loop μ-loop
 number-at-requires c κs = search needs
 
--- src/lib.rt:95:9
 put-under-requires : tie.Need-put-under-requires Inv-loop μ-loop
 put-under-requires c κs = search needs
 
--- src/lib.rt:96:9
 add-minute : tie.Need-add-minute Inv-loop μ-loop
 add-minute c = search needs
 
--- src/lib.rt:94:5
 loop-less : tie.Need-loop-less Inv-loop μ-loop
 loop-less c = search needs
 
--- src/lib.rt:94:5
 loop-again : tie.Need-loop-again Inv-loop μ-loop
 loop-again c = search needs
 
--- src/lib.rt:98:5
 end-group-requires : tie.Need-end-group-requires Inv-loop μ-loop
 end-group-requires c κs = search needs
 
--- src/lib.rt:88:1
 same-length : tie.Need-same-length Inv-loop μ-loop
 same-length c = search needs
 
--- src/lib.rt:88:1
 returns : tie.Need-returns Inv-loop μ-loop
 returns c = search needs
 

@@ -1,18 +1,10 @@
 -- `levels::put_scale` meets its contract and ends: the page keeps its length. The measure: so many lines are left. Assumes nothing.
 use mathlib.Core.Path.{_≡_}
-use Prim.Native.Nat.{_+_, _-_}
+use Prim.Native.Nat.{_-_}
 use lib.ListN.{length}
 use borrow.Author.Needs.{needs}
 use Rattle.levels.proofs.put_scale.Statement.{statement}
 use Rattle.levels.proofs.put_scale.Tie as tie
-use Rattle.levels.proofs.put_scale.Reads as reads
-use Rattle.levels.proofs.put_scale.Lts as lts
-use Rattle.levels.proofs.is_within.Reads as is-within-reads
-use Rattle.levels.proofs.next_line.Reads as next-line-reads
-use Rattle.levels.proofs.put_level.Reads as put-level-reads
-use Rattle.levels.proofs.raised_line.Reads as raised-line-reads
-use Rattle.svg.proofs.end_group.Reads as end-group-reads
-use Rattle.svg.proofs.put_form.Reads as put-form-reads
 
 abbrev Inv-loop : tie.InvT-loop
 Inv-loop page₀ at plot next₀ line₀ left₀ page next line left = length page ≡ length page₀
@@ -20,59 +12,45 @@ Inv-loop page₀ at plot next₀ line₀ left₀ page next line left = length pa
 abbrev μ-loop : tie.MeasureT-loop
 μ-loop page₀ at plot next₀ line₀ left₀ page next line left = left
 
--- src/lib.rt:106:9
 slice-aggregate-put-form : tie.Need-slice-aggregate-put-form Inv-loop μ-loop
 slice-aggregate-put-form c = search needs
 
--- src/lib.rt:107:9
 cast-put-form : tie.Need-cast-put-form Inv-loop μ-loop
 cast-put-form c = search needs
 
--- src/lib.rt:103:9
 put-form-requires : tie.Need-put-form-requires Inv-loop μ-loop
 put-form-requires c κs = search needs
 
--- src/lib.rt:114:5
 loop-holds : tie.Need-loop-holds Inv-loop μ-loop
 loop-holds c = search needs
 
--- src/lib.rt:114:23
 is-within-requires : tie.Need-is-within-requires Inv-loop μ-loop
 is-within-requires c κs = search needs
 
--- src/lib.rt:115:44
 raised-line-requires : tie.Need-raised-line-requires Inv-loop μ-loop
 raised-line-requires c κs = search needs
 
--- src/lib.rt:115:9
 put-level-requires : tie.Need-put-level-requires Inv-loop μ-loop
 put-level-requires c κs = search needs
 
--- src/lib.rt:116:9
 next-line-requires : tie.Need-next-line-requires Inv-loop μ-loop
 next-line-requires c κs = search needs
 
--- src/lib.rt:117:9
 sub-left : tie.Need-sub-left Inv-loop μ-loop
 sub-left c = search needs
 
--- src/lib.rt:114:5
 loop-less : tie.Need-loop-less Inv-loop μ-loop
 loop-less c = search needs
 
--- src/lib.rt:114:5
 loop-again : tie.Need-loop-again Inv-loop μ-loop
 loop-again c = search needs
 
--- src/lib.rt:119:5
 end-group-requires : tie.Need-end-group-requires Inv-loop μ-loop
 end-group-requires c κs = search needs
 
--- src/lib.rt:100:1
 same-length : tie.Need-same-length Inv-loop μ-loop
 same-length c = search needs
 
--- src/lib.rt:100:1
 returns : tie.Need-returns Inv-loop μ-loop
 returns c = search needs
 
