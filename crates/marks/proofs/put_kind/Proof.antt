@@ -1,15 +1,10 @@
 -- `marks::put_kind` meets its contract and ends: the page keeps its length. The measure: the turns left. Assumes nothing.
 use mathlib.Core.Path.{_≡_}
-use Prim.Native.Nat.{_+_, _-_}
+use Prim.Native.Nat.{_-_}
 use lib.ListN.{length}
 use borrow.Author.Needs.{needs}
 use Rattle.marks.proofs.put_kind.Statement.{statement}
 use Rattle.marks.proofs.put_kind.Tie as tie
-use Rattle.marks.proofs.put_kind.Reads as reads
-use Rattle.marks.proofs.put_kind.Lts as lts
-use Rattle.figures.proofs.height_at.Reads as height-at-reads
-use Rattle.marks.proofs.put_turn.Reads as put-turn-reads
-use Rattle.scale.proofs.free_lanes.Reads as free-lanes-reads
 
 abbrev Inv-loop : tie.InvT-loop
 Inv-loop page₀ at plot minutes heights first-high kind marked₀ high₀ i₀ page marked high i = length page ≡ length page₀
@@ -17,47 +12,36 @@ Inv-loop page₀ at plot minutes heights first-high kind marked₀ high₀ i₀ 
 abbrev μ-loop : tie.MeasureT-loop
 μ-loop page₀ at plot minutes heights first-high kind marked₀ high₀ i₀ page marked high i = length minutes - i
 
--- src/lib.rt:49:16
 free-lanes-requires : tie.Need-free-lanes-requires Inv-loop μ-loop
 free-lanes-requires c κs = search needs
 
--- src/lib.rt:53:5
 loop-holds : tie.Need-loop-holds Inv-loop μ-loop
 loop-holds c = search needs
 
--- src/lib.rt:55:21
 mul-t13 : tie.Need-mul-t13 Inv-loop μ-loop
 mul-t13 c = search needs
 
--- src/lib.rt:55:21
 shared-slice-read-t16 : tie.Need-shared-slice-read-t16 Inv-loop μ-loop
 shared-slice-read-t16 c = search needs
 
--- src/lib.rt:56:21
 height-at-requires : tie.Need-height-at-requires Inv-loop μ-loop
 height-at-requires c κs = search needs
 
--- src/lib.rt:59:9
 put-turn-requires : tie.Need-put-turn-requires Inv-loop μ-loop
 put-turn-requires c κs = search needs
 
--- src/lib.rt:61:9
 add-i : tie.Need-add-i Inv-loop μ-loop
 add-i c = search needs
 
--- src/lib.rt:53:5
 loop-less : tie.Need-loop-less Inv-loop μ-loop
 loop-less c = search needs
 
--- src/lib.rt:53:5
 loop-again : tie.Need-loop-again Inv-loop μ-loop
 loop-again c = search needs
 
--- src/lib.rt:38:1
 same-length : tie.Need-same-length Inv-loop μ-loop
 same-length c = search needs
 
--- src/lib.rt:38:1
 returns : tie.Need-returns Inv-loop μ-loop
 returns c = search needs
 
