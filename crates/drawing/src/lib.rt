@@ -1,6 +1,7 @@
 // Drawings of the clock's month, as SVG on standard output.
 //
 // Heights and turns are the clock's; crate picture gives them places. What the clock refuses is not drawn.
+ghost use Prim.Native.Nat.{_<_};
 ghost use lib.ListN.{length};
 ghost use mathlib.Core.Path.{_≡_};
 ghost use Rattle.clock.specs.View.{Made};
@@ -8,6 +9,7 @@ use clock::Clock;
 use clock::TurnsAnswer;
 use face::Face;
 use refusals::Answer;
+use title::When;
 
 // Room for a day's heights, five minutes apart. (Each a function's result, so that its length is known as a fact.)
 fn day_places() -> [i64; 289]
@@ -37,7 +39,15 @@ fn turn_heights() -> [i64; 512]
     [0; 512]
 }
 
-// What a search for turns gave: whether it was answered, how many, and whether the first is high.
+// What is asked of a clock: the turns of its month up to the last minute, and so many heights from a minute on, a step apart.
+struct Asked {
+    last: u32,
+    start: u32,
+    step: u32,
+    count: usize,
+}
+
+// What a clock gave: whether it answered, how many turns, and whether the first is high.
 struct Found {
     good: bool,
     count: usize,
@@ -64,16 +74,36 @@ fn find_turns(clock: Clock, last: u32, minutes: &mut [u32], heights: &mut [i64])
 }
 
 // So many heights of the clock's month from a minute on, a step apart; whether they were given.
-fn find_heights(clock: Clock, start: u32, step: u32, heights: &mut [i64], count: usize) -> bool
+fn find_heights(clock: Clock, asked: Asked, heights: &mut [i64]) -> bool
     requires { ⌜ Made clock ⌝ }
 {
+    let count = asked.count;
     if heights.len() < count {
         return false;
     }
-    let answer = clock::series(clock, start, step, &mut heights[..count]);
+    let answer = clock::series(clock, asked.start, asked.step, &mut heights[..count]);
     match answer {
         Answer::Accepted => true,
         Answer::Refused(_, _) => false,
+    }
+}
+
+// The turns and the heights that are asked of a clock.
+fn find(
+    clock: Clock,
+    asked: Asked,
+    heights: &mut [i64],
+    minutes: &mut [u32],
+    turns: &mut [i64],
+) -> Found
+    requires { ⌜ Made clock ⌝ }
+{
+    let found = find_turns(clock, asked.last, minutes, turns);
+    let given = find_heights(clock, asked, heights);
+    Found {
+        good: found.good && given,
+        count: found.count,
+        high: found.high,
     }
 }
 
@@ -93,6 +123,124 @@ fn first_heights(heights: &[i64], count: usize) -> &[i64] {
     heights
 }
 
+// Begins a drawing of a height: its head.
+fn begin(page: &mut [u8], name: &[u8], zone: &[u8], unit: &[u8], when: When, height: u64) -> usize {
+    let next = title::put_start(page, 0, height);
+    title::put_head(page, next, name, zone, unit, when)
+}
+
+// Ends a drawing with its foot so far down, and writes it out.
+fn end(page: &mut [u8], at: usize, top: u64, face: Face) {
+    let next = title::put_foot(page, at, top, face);
+    output::flush(page, next);
+}
+
+// Puts the plot of a day from what was found.
+fn put_day<'a>(
+    page: &mut [u8],
+    at: usize,
+    when: When,
+    heights: &'a [i64],
+    minutes: &'a [u32],
+    turns: &'a [i64],
+    found: Found,
+) -> usize {
+    let days = calendar::month_days(when.year, when.month);
+    let known = first_minutes(minutes, found.count);
+    let waters = first_heights(turns, found.count);
+    picture::put_day(page, at, when.day, days, heights, known, waters, found.high)
+}
+
+// Puts the plots of a month from what was found.
+fn put_month<'a>(
+    page: &mut [u8],
+    at: usize,
+    when: When,
+    heights: &'a [i64],
+    minutes: &'a [u32],
+    turns: &'a [i64],
+    found: Found,
+) -> usize {
+    let days = calendar::month_days(when.year, when.month);
+    let shown = first_heights(heights, plots::month_count(days));
+    let known = first_minutes(minutes, found.count);
+    let waters = first_heights(turns, found.count);
+    picture::put_month(page, at, plots::few(days), shown, known, waters, found.high)
+}
+
+// What a day's drawing asks of a clock.
+fn day_asked(when: When) -> Asked {
+    Asked {
+        last: calendar::month_minutes(when.year, when.month),
+        start: plots::day_first(when.day),
+        step: 5,
+        count: 289,
+    }
+}
+
+// What a month's drawing asks of a clock.
+fn month_asked(when: When) -> Asked {
+    Asked {
+        last: calendar::month_minutes(when.year, when.month),
+        start: 0,
+        step: 20,
+        count: plots::month_count(calendar::month_days(when.year, when.month)),
+    }
+}
+
+// Whether a month has a day.
+fn has_day(when: When) -> bool {
+    0 < when.day && when.day <= calendar::month_days(when.year, when.month)
+}
+
+// Where the foot of a month's drawing stands.
+fn month_foot(when: When) -> u64
+    ensures { λ r. ⌜ r < 20_000 ⌝ }
+{
+    plots::month_foot(plots::few(calendar::month_days(when.year, when.month))) as u64
+}
+
+// Writes the drawing of a day from what was found; nothing where nothing was.
+fn draw_day<'a>(
+    page: &mut [u8],
+    face: Face,
+    name: &[u8],
+    zone: &[u8],
+    unit: &[u8],
+    when: When,
+    heights: &'a [i64],
+    minutes: &'a [u32],
+    turns: &'a [i64],
+    found: Found,
+) {
+    if found.good && has_day(when) {
+        let a = begin(page, name, zone, unit, when, 5_760);
+        let b = put_day(page, a, when, heights, minutes, turns, found);
+        end(page, b, 5_450, face);
+    }
+}
+
+// Writes the drawing of a month from what was found; nothing where nothing was.
+fn draw_month<'a>(
+    page: &mut [u8],
+    face: Face,
+    name: &[u8],
+    zone: &[u8],
+    unit: &[u8],
+    when: When,
+    heights: &'a [i64],
+    minutes: &'a [u32],
+    turns: &'a [i64],
+    found: Found,
+) {
+    if found.good {
+        let foot = month_foot(when);
+        let a = begin(page, name, zone, unit, when, foot + 310);
+        let b = put_month(page, a, when, heights, minutes, turns, found);
+        end(page, b, foot, face);
+    }
+}
+
 // Writes the drawing of a day of the clock's month to standard output; nothing where the clock refuses or there is no such day.
 pub fn day_svg(
     page: &mut [u8],
@@ -107,53 +255,29 @@ pub fn day_svg(
 )
     requires { ⌜ Made clock ⌝ }
 {
-    let days = calendar::month_days(year, month);
-    if day < 1 {
-        return;
-    }
-    if days < day {
-        return;
-    }
     let mut heights = day_places();
     let mut minutes = turn_minutes();
     let mut turns = turn_heights();
-    let end = calendar::month_minutes(year, month);
-    let found = find_turns(clock, end, &mut minutes, &mut turns);
-    let given = find_heights(clock, picture::day_first(day), 5, &mut heights, 289);
-    if !found.good {
-        return;
-    }
-    if !given {
-        return;
-    }
-    picture::draw_day(
+    let when = When { year, month, day };
+    let found = find(
+        clock,
+        day_asked(when),
+        &mut heights,
+        &mut minutes,
+        &mut turns,
+    );
+    draw_day(
         page,
         face,
         name,
         zone,
         unit,
-        year,
-        month,
-        day,
-        days,
+        when,
         &heights,
-        first_minutes(&minutes, found.count),
-        first_heights(&turns, found.count),
-        found.high,
+        &minutes,
+        &turns,
+        found,
     );
-}
-
-// How many heights a month of some days has, 20 minutes apart, with both ends.
-fn month_count(days: u32) -> usize {
-    if days < 32 {
-        return days as usize * 72 + 1;
-    }
-    2233
-}
-
-// The days of a month, which are at most 31.
-fn few(days: u32) -> u16 {
-    if days < 32 { days as u16 } else { 31 }
 }
 
 // Writes the drawing of the clock's month to standard output; nothing where the clock refuses.
@@ -169,32 +293,31 @@ pub fn month_svg(
 )
     requires { ⌜ Made clock ⌝ }
 {
-    let days = calendar::month_days(year, month);
     let mut heights = month_places();
     let mut minutes = turn_minutes();
     let mut turns = turn_heights();
-    let end = calendar::month_minutes(year, month);
-    let found = find_turns(clock, end, &mut minutes, &mut turns);
-    let count = month_count(days);
-    let given = find_heights(clock, 0, 20, &mut heights, count);
-    if !found.good {
-        return;
-    }
-    if !given {
-        return;
-    }
-    picture::draw_month(
+    let when = When {
+        year,
+        month,
+        day: 0,
+    };
+    let found = find(
+        clock,
+        month_asked(when),
+        &mut heights,
+        &mut minutes,
+        &mut turns,
+    );
+    draw_month(
         page,
         face,
         name,
         zone,
         unit,
-        year,
-        month,
-        few(days),
-        first_heights(&heights, count),
-        first_minutes(&minutes, found.count),
-        first_heights(&turns, found.count),
-        found.high,
+        when,
+        &heights,
+        &minutes,
+        &turns,
+        found,
     );
 }

@@ -1,75 +1,86 @@
 // The height axis of a plot: a line for each round height, with its figure.
+ghost use Prim.Native.Nat.{_≤_};
+ghost use lib.ListN.{length};
 use scale::Plot;
-use scale::Scale;
-use sizes::right;
+use spots::Level;
 
-// Puts the size of a height with the decimals that the multiples of a step have: none, one or two.
-fn put_size(page: &mut [u8], at: usize, size: u64, step: u32) -> usize {
+// Puts the decimals that the multiples of a step have, of a number of hundredths: none, one or two.
+fn put_decimals(page: &mut [u8], at: usize, hundredths: u64, step: u32) -> usize {
     if step % 10_000 == 0 {
-        return svg::put_form(page, at, b"@", size / 10_000, 0, 0, 0);
+        return at;
     }
+    let tenth = svg::put_form(page, at, b".@", hundredths / 10, 0, 0, 0);
     if step % 1_000 == 0 {
-        return svg::put_form(page, at, b"@.@", size / 10_000, size / 1_000 % 10, 0, 0);
+        return tenth;
     }
-    svg::put_form(
-        page,
-        at,
-        b"@.@@",
-        size / 10_000,
-        size / 1_000 % 10,
-        size / 100 % 10,
-        0,
-    )
+    output::put_number(page, tenth, hundredths % 10)
+}
+
+// Puts the size of a height in metres.
+fn put_size(page: &mut [u8], at: usize, size: u32, step: u32) -> usize {
+    let whole = output::put_number(page, at, size as u64 / 10_000);
+    put_decimals(page, whole, size as u64 / 100 % 100, step)
 }
 
 // Puts the height of a line, which is a raised height.
 fn put_height(page: &mut [u8], at: usize, line: u32, step: u32) -> usize {
     if line < scale::ZERO {
         let next = output::put(page, at, b'-');
-        return put_size(page, next, (scale::ZERO - line) as u64, step);
+        return put_size(page, next, scale::ZERO - line, step);
     }
-    put_size(page, at, (line - scale::ZERO) as u64, step)
+    put_size(page, at, line - scale::ZERO, step)
 }
 
 // Puts the line of a height across a plot, darker at zero.
-fn put_height_line(page: &mut [u8], at: usize, plot: Plot, line: u32) -> usize {
-    let y = scale::down(plot, line) as u64;
-    if line == scale::ZERO {
+fn put_line(page: &mut [u8], at: usize, level: Level, zero: bool) -> usize
+    ensures { λ r. ⌜ r ≤ length (now (page .entry)) ⌝ }
+{
+    if zero {
         return svg::put_form(
             page,
             at,
-            b"<path d=\"M@ @H@\" stroke=\"#777\" stroke-width=\"8\"/>\n",
-            plot.left as u64,
-            y,
-            right(plot) as u64,
+            b"<path d=\"M@ $H~\" stroke=\"#777\" stroke-width=\"8\"/>\n",
+            level.left,
+            level.down,
+            level.right,
             0,
         );
     }
     svg::put_form(
         page,
         at,
-        b"<path d=\"M@ @H@\" stroke=\"#ccc\" stroke-width=\"6\"/>\n",
-        plot.left as u64,
-        y,
-        right(plot) as u64,
+        b"<path d=\"M@ $H~\" stroke=\"#ccc\" stroke-width=\"6\"/>\n",
+        level.left,
+        level.down,
+        level.right,
         0,
     )
 }
 
 // Puts the height at the left of its line.
-fn put_height_label(
-    page: &mut [u8],
-    at: usize,
-    plot: Plot,
-    text: u16,
-    line: u32,
-    step: u32,
-) -> usize {
-    let x = scale::beyond(plot.left as u64, 60);
-    let y = scale::down(plot, line) as u64 + text as u64 / 3;
-    let start = svg::put_form(page, at, b"<text x=\"@\" y=\"@\">", x, y, 0, 0);
+fn put_figure(page: &mut [u8], at: usize, level: Level, line: u32, step: u32) -> usize
+    ensures { λ r. ⌜ r ≤ length (now (page .entry)) ⌝ }
+{
+    let start = svg::put_form(
+        page,
+        at,
+        b"<text x=\"@\" y=\"$\">",
+        level.end,
+        level.base,
+        0,
+        0,
+    );
     let end = put_height(page, start, line, step);
-    output::put_bytes(page, end, b"</text>\n")
+    svg::put_plain(page, end, b"</text>\n")
+}
+
+// Puts a line of a scale with its height.
+fn put_level(page: &mut [u8], at: usize, plot: Plot, line: u32) -> usize
+    ensures { λ r. ⌜ r ≤ length (now (page .entry)) ⌝ }
+{
+    let level = spots::level_of(plot, line);
+    let next = put_line(page, at, level, line == scale::ZERO);
+    put_figure(page, next, level, line, plot.step)
 }
 
 // The next line, a step higher.
@@ -88,32 +99,30 @@ fn raised_line(line: u64) -> u32 {
     4_000_000_000
 }
 
-// Puts a line of a scale with its height.
-fn put_level(page: &mut [u8], at: usize, plot: Plot, text: u16, line: u64, step: u32) -> usize {
-    let height = raised_line(line);
-    let next = put_height_line(page, at, plot, height);
-    put_height_label(page, next, plot, text, height, step)
+// Whether a line is not above the highest of a plot.
+fn is_within(plot: Plot, line: u64) -> bool {
+    scale::beyond(line, plot.low) <= plot.span
 }
 
-// Puts the lines of a scale. A scale has fewer than 32.
-pub fn put_scale(page: &mut [u8], at: usize, plot: Plot, text: u16, lines: Scale) -> usize {
+// Puts the lines of a plot. It has fewer than 32.
+pub fn put_scale(page: &mut [u8], at: usize, plot: Plot) -> usize
+    ensures { λ r. ⌜ r ≤ length (now (page .entry)) ⌝ }
+{
     let mut next = svg::put_form(
         page,
         at,
         b"<g text-anchor=\"end\" font-size=\"@\">\n",
-        text as u64,
+        plot.text as u64,
         0,
         0,
         0,
     );
-    let step = lines.step;
-    let high = lines.high;
-    let mut line = lines.low;
+    let mut line = plot.low;
     let mut left: u32 = 32;
-    while 0 < left && line <= high {
-        next = put_level(page, next, plot, text, line, step);
-        line = next_line(line, step);
+    while 0 < left && is_within(plot, line) {
+        next = put_level(page, next, plot, raised_line(line));
+        line = next_line(line, plot.step);
         left -= 1;
     }
-    output::put_bytes(page, next, b"</g>\n")
+    svg::end_group(page, next)
 }

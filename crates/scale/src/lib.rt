@@ -53,15 +53,20 @@ pub struct Scale {
     pub step: u32,
 }
 
-// A part of the drawing, in units of the drawing: its minutes go across it from its left, raised heights up it from its foot.
+// A part of the drawing, in units of the drawing: its minutes go across it from its left, raised heights up it from its foot, where its
+// lowest line is; its lines are a step apart. With the size of its text, and the first and the last minute of the month that belong to it.
 pub struct Plot {
     pub left: u16,
     pub width: u16,
     pub top: u16,
     pub depth: u16,
-    pub minutes: u32,
+    pub minutes: u16,
     pub low: u64,
     pub span: u64,
+    pub step: u32,
+    pub text: u16,
+    pub first: u32,
+    pub last: u32,
 }
 
 // From where on the two lanes for labels are free.

@@ -1,117 +1,83 @@
 // The pieces that an SVG drawing is written of: forms with numbers in them, and text as XML has it.
 //
-// A function takes a lent page and a place on it, as those of `output` do, and gives the place behind what it put.
-// One of four numbers, from 0 on; the last past the end.
-fn pick(k: u8, a: u64, b: u64, c: u64, d: u64) -> u64 {
-    match k {
-        0 => a,
-        1 => b,
-        2 => c,
-        _ => d,
-    }
+// A function takes a lent page and a place on it, as those of `output` do, and gives the place behind what it put, which lies on the page.
+ghost use mathlib.Core.Path.{_≡_};
+ghost use Prim.Native.Nat.{_≤_, min};
+ghost use lib.ListN.{length};
+
+// A place on a page of a size: its end for a place beyond it.
+fn on_page(at: usize, size: usize) -> usize
+    ensures { λ r. ⌜ r ≡ min at size ⌝ }
+{
+    if at < size { at } else { size }
 }
 
-// The blank that comes next in a form after a byte, where a form has at most four.
-fn blank_after(k: u8, byte: u8) -> u8 {
-    if byte != b'@' {
-        return k;
-    }
-    if k < 3 { k + 1 } else { k }
-}
-
-// Puts a byte of a form as it is, and for an @ a number.
-fn put_filled(page: &mut [u8], at: usize, byte: u8, number: u64) -> usize {
-    if byte == b'@' {
+// Puts a byte of a form as it is, and for a blank its number.
+fn put_filled(page: &mut [u8], at: usize, byte: u8, number: u64) -> usize
+    ensures { λ r. ⌜ (at ≤ length (now (page .entry)) → r ≤ length (now (page .entry))) ⌝ }
+{
+    if markup::is_blank(byte) {
         return output::put_number(page, at, number);
     }
     output::put(page, at, byte)
 }
 
-// Puts a form: its bytes as they are, and for each @ the next of four numbers.
-pub fn put_form(page: &mut [u8], at: usize, form: &[u8], a: u64, b: u64, c: u64, d: u64) -> usize {
-    let mut next = at;
-    let mut blank = 0;
+// Puts a form: its bytes as they are, and the four numbers for its blanks @ $ ~ ^.
+pub fn put_form(page: &mut [u8], at: usize, form: &[u8], a: u64, b: u64, c: u64, d: u64) -> usize
+    ensures { λ r. ⌜ r ≤ length (now (page .entry)) ⌝ }
+{
+    let mut next = on_page(at, page.len());
     let mut i = 0;
     while i < form.len() {
-        next = put_filled(page, next, form[i], pick(blank, a, b, c, d));
-        blank = blank_after(blank, form[i]);
+        next = put_filled(page, next, form[i], markup::number_for(form[i], a, b, c, d));
         i += 1;
     }
     next
 }
 
-// How many bytes a character of UTF-8 has that begins with a byte; 0 where it is ASCII or no character begins so.
-fn sequence_size(byte: u8) -> usize {
-    match byte {
-        194..=223 => 2,
-        224..=239 => 3,
-        240..=244 => 4,
-        _ => 0,
-    }
+// Puts a form without blanks.
+pub fn put_plain(page: &mut [u8], at: usize, form: &[u8]) -> usize
+    ensures { λ r. ⌜ r ≤ length (now (page .entry)) ⌝ }
+{
+    put_form(page, at, form, 0, 0, 0, 0)
 }
 
-// The least second byte after a first.
-fn second_low(first: u8) -> u8 {
-    match first {
-        224 => 160,
-        240 => 144,
-        _ => 128,
-    }
+// Begins a group of texts of a size, each in the middle of its place.
+pub fn put_group(page: &mut [u8], at: usize, size: u64) -> usize
+    ensures { λ r. ⌜ r ≤ length (now (page .entry)) ⌝ }
+{
+    put_form(
+        page,
+        at,
+        b"<g text-anchor=\"middle\" font-size=\"@\">\n",
+        size,
+        0,
+        0,
+        0,
+    )
 }
 
-// The greatest second byte after a first.
-fn second_high(first: u8) -> u8 {
-    match first {
-        237 => 159,
-        244 => 143,
-        _ => 191,
-    }
+// Ends a group.
+pub fn end_group(page: &mut [u8], at: usize) -> usize
+    ensures { λ r. ⌜ r ≤ length (now (page .entry)) ⌝ }
+{
+    put_plain(page, at, b"</g>\n")
 }
 
-// Whether the byte at a place is from one byte to another; not past the end.
-fn is_between(text: &[u8], i: usize, low: u8, high: u8) -> bool {
-    if text.len() <= i {
-        return false;
-    }
-    low <= text[i] && text[i] <= high
-}
-
-// The bytes of the character beyond ASCII with which a text begins; 0 where it begins with none.
-fn sequence(text: &[u8]) -> usize {
-    if text.len() == 0 {
-        return 0;
-    }
-    let first = text[0];
-    let size = sequence_size(first);
-    if size == 0 {
-        return 0;
-    }
-    if !is_between(text, 1, second_low(first), second_high(first)) {
-        return 0;
-    }
-    if 2 < size && !is_between(text, 2, 128, 191) {
-        return 0;
-    }
-    if 3 < size && !is_between(text, 3, 128, 191) {
-        return 0;
-    }
-    size
-}
-
-// Puts an ASCII character of text. What XML keeps for itself is written out; what it does not have becomes a question mark.
-fn put_character(page: &mut [u8], at: usize, byte: u8) -> usize {
-    match byte {
-        34 => output::put_bytes(page, at, b"&quot;"),
-        38 => output::put_bytes(page, at, b"&amp;"),
-        60 => output::put_bytes(page, at, b"&lt;"),
-        62 => output::put_bytes(page, at, b"&gt;"),
-        32..=126 => output::put(page, at, byte),
-        _ => output::put(page, at, b'?'),
-    }
+// Puts an ASCII character of text as XML has it.
+fn put_character(page: &mut [u8], at: usize, byte: u8) -> usize
+    ensures { λ r. ⌜ (at ≤ length (now (page .entry)) → r ≤ length (now (page .entry))) ⌝ }
+{
+    let written = markup::written(byte);
+    let bytes = written.bytes;
+    let size = written.size;
+    output::put_bytes(page, at, &bytes[..size])
 }
 
 // Puts a byte of text: as it is where it belongs to a character beyond ASCII.
-fn put_byte(page: &mut [u8], at: usize, byte: u8, pass: usize) -> usize {
+fn put_byte(page: &mut [u8], at: usize, byte: u8, pass: usize) -> usize
+    ensures { λ r. ⌜ (at ≤ length (now (page .entry)) → r ≤ length (now (page .entry))) ⌝ }
+{
     if pass == 0 {
         return put_character(page, at, byte);
     }
@@ -121,7 +87,7 @@ fn put_byte(page: &mut [u8], at: usize, byte: u8, pass: usize) -> usize {
 // How many bytes pass as they are, from the first of a text on, where so many were left to pass.
 fn passing(text: &[u8], left: usize) -> usize {
     if left == 0 {
-        return sequence(text);
+        return markup::sequence(text);
     }
     left
 }
@@ -132,8 +98,10 @@ fn one_less(number: usize) -> usize {
 }
 
 // Puts text so that it is text in XML, whatever its bytes.
-pub fn put_escaped(page: &mut [u8], at: usize, text: &[u8]) -> usize {
-    let mut next = at;
+pub fn put_escaped(page: &mut [u8], at: usize, text: &[u8]) -> usize
+    ensures { λ r. ⌜ r ≤ length (now (page .entry)) ⌝ }
+{
+    let mut next = on_page(at, page.len());
     let mut left = 0;
     let mut i = 0;
     while i < text.len() {

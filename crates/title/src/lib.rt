@@ -1,134 +1,137 @@
 // What a drawing says on its face: the station, the month, the times' zone, the heights' unit, and what it stands on.
+ghost use Prim.Native.Nat.{_≤_};
+ghost use lib.ListN.{length};
 use face::Face;
 
-// Puts the day, where it is not 0, the month and the year.
-fn put_when(page: &mut [u8], at: usize, year: u32, month: u32, day: u32) -> usize {
+// The width of a drawing, and where its text and its plots begin; ten units make a pixel.
+const WIDTH: u64 = 9_700;
+
+const LEFT: u64 = 700;
+
+// A day of a month, or day 0 for the whole month.
+pub struct When {
+    pub year: u32,
+    pub month: u32,
+    pub day: u32,
+}
+
+// Begins a drawing of a height, with its white ground.
+pub fn put_start(page: &mut [u8], at: usize, height: u64) -> usize
+    ensures { λ r. ⌜ r ≤ length (now (page .entry)) ⌝ }
+{
+    svg::put_form(
+        page,
+        at,
+        b"<svg xmlns=\"http://www.w3.org/2000/svg\" width=\"@\" height=\"$\" viewBox=\"0 0 ~ ^\" font-family=\"Helvetica, Arial, sans-serif\" fill=\"#111\">\n<rect width=\"100%\" height=\"100%\" fill=\"#fff\"/>\n",
+        WIDTH / 10,
+        height / 10,
+        WIDTH,
+        height,
+    )
+}
+
+// Puts a form with two numbers, and text behind it.
+fn put_lead<'a>(page: &mut [u8], at: usize, form: &'a [u8], a: u64, b: u64, text: &'a [u8]) -> usize
+    ensures { λ r. ⌜ r ≤ length (now (page .entry)) ⌝ }
+{
+    let next = svg::put_form(page, at, form, a, b, 0, 0);
+    svg::put_escaped(page, next, text)
+}
+
+// Puts the day, where it is not 0.
+fn put_day(page: &mut [u8], at: usize, day: u32) -> usize {
     if day == 0 {
-        let name = face::put_month_name(page, at, month);
-        return svg::put_form(page, name, b" @", year as u64, 0, 0, 0);
+        return at;
     }
-    let number = svg::put_form(page, at, b"@ ", day as u64, 0, 0, 0);
-    let name = face::put_month_name(page, number, month);
-    svg::put_form(page, name, b" @", year as u64, 0, 0, 0)
+    svg::put_form(page, at, b"@ ", day as u64, 0, 0, 0)
+}
+
+// Puts a form with a number, and the day, where it is not 0, and the month behind it.
+fn put_dated(page: &mut [u8], at: usize, form: &[u8], a: u64, when: When) -> usize {
+    let next = svg::put_form(page, at, form, a, 0, 0, 0);
+    let day = put_day(page, next, when.day);
+    face::put_month_name(page, day, when.month)
+}
+
+// Puts the title that a reader of the file sees, up to its year: the station and when.
+fn put_title(page: &mut [u8], at: usize, name: &[u8], when: When) -> usize {
+    let next = put_lead(page, at, b"<title>", 0, 0, name);
+    put_dated(page, next, b", ", 0, when)
+}
+
+// Puts the title's year, and the station's name, large.
+fn put_name(page: &mut [u8], at: usize, name: &[u8], year: u32) -> usize {
+    put_lead(
+        page,
+        at,
+        b" @</title>\n<text x=\"$\" y=\"400\" font-size=\"260\" font-weight=\"bold\">",
+        year as u64,
+        LEFT,
+        name,
+    )
+}
+
+// Puts when.
+fn put_when(page: &mut [u8], at: usize, when: When) -> usize {
+    let next = put_dated(
+        page,
+        at,
+        b"</text>\n<text x=\"@\" y=\"660\" font-size=\"160\">",
+        LEFT,
+        when,
+    );
+    svg::put_form(page, next, b" @; times ", when.year as u64, 0, 0, 0)
 }
 
 // Puts what the times are: GMT, or the station file's own zone.
 fn put_zone(page: &mut [u8], at: usize, zone: &[u8]) -> usize {
     if face::is_greenwich(zone) {
-        return output::put_bytes(page, at, b"GMT");
+        return svg::put_plain(page, at, b"GMT");
     }
     let next = svg::put_escaped(page, at, face::trimmed(zone));
-    output::put_bytes(page, next, b" (the station file's zone)")
+    svg::put_plain(page, next, b" (the station file's zone)")
 }
 
-// Begins a drawing of a size, with its white ground.
-pub fn put_start(page: &mut [u8], at: usize, width: u32, height: u32) -> usize {
-    let a = svg::put_form(
-        page,
-        at,
-        b"<svg xmlns=\"http://www.w3.org/2000/svg\" width=\"@\" height=\"@\" viewBox=\"0 0 @ @\"",
-        width as u64 / 10,
-        height as u64 / 10,
-        width as u64,
-        height as u64,
-    );
-    let b = output::put_bytes(
-        page,
-        a,
-        b" font-family=\"Helvetica, Arial, sans-serif\" fill=\"#111\">\n",
-    );
-    output::put_bytes(
-        page,
-        b,
-        b"<rect width=\"100%\" height=\"100%\" fill=\"#fff\"/>\n",
-    )
+// Puts the heights' unit.
+fn put_unit(page: &mut [u8], at: usize, unit: &[u8]) -> usize
+    ensures { λ r. ⌜ r ≤ length (now (page .entry)) ⌝ }
+{
+    let next = put_lead(page, at, b"; heights in ", 0, 0, unit);
+    svg::put_plain(page, next, b"</text>\n")
 }
 
-// Puts the title that a reader of the file sees: the station and when.
-fn put_title(page: &mut [u8], at: usize, name: &[u8], year: u32, month: u32, day: u32) -> usize {
-    let a = output::put_bytes(page, at, b"<title>");
-    let b = svg::put_escaped(page, a, face::trimmed(name));
-    let c = output::put_bytes(page, b, b", ");
-    let d = put_when(page, c, year, month, day);
-    output::put_bytes(page, d, b"</title>\n")
-}
-
-// Puts the station's name, large.
-fn put_name(page: &mut [u8], at: usize, left: u32, name: &[u8]) -> usize {
-    let a = svg::put_form(
-        page,
-        at,
-        b"<text x=\"@\" y=\"400\" font-size=\"260\" font-weight=\"bold\">",
-        left as u64,
-        0,
-        0,
-        0,
-    );
-    let b = svg::put_escaped(page, a, face::trimmed(name));
-    output::put_bytes(page, b, b"</text>\n")
-}
-
-// Puts the times' zone and the heights' unit.
-fn put_units(page: &mut [u8], at: usize, zone: &[u8], unit: &[u8]) -> usize {
-    let a = output::put_bytes(page, at, b"; times ");
-    let b = put_zone(page, a, zone);
-    let c = output::put_bytes(page, b, b"; heights in ");
-    svg::put_escaped(page, c, unit)
-}
-
-// Puts when, the times' zone and the heights' unit.
-fn put_terms(
-    page: &mut [u8],
-    at: usize,
-    left: u32,
-    zone: &[u8],
-    unit: &[u8],
-    year: u32,
-    month: u32,
-    day: u32,
-) -> usize {
-    let a = svg::put_form(
-        page,
-        at,
-        b"<text x=\"@\" y=\"660\" font-size=\"160\">",
-        left as u64,
-        0,
-        0,
-        0,
-    );
-    let b = put_when(page, a, year, month, day);
-    let c = put_units(page, b, zone, unit);
-    output::put_bytes(page, c, b"</text>\n")
-}
-
-// Puts the head of a drawing. Day 0 stands for the whole month.
+// Puts the head of a drawing: its title, the station's name, when, the times' zone and the heights' unit.
 pub fn put_head(
     page: &mut [u8],
     at: usize,
-    left: u32,
     name: &[u8],
     zone: &[u8],
     unit: &[u8],
-    year: u32,
-    month: u32,
-    day: u32,
-) -> usize {
-    let a = put_title(page, at, name, year, month, day);
-    let b = put_name(page, a, left, name);
-    put_terms(page, b, left, zone, unit, year, month, day)
+    when: When,
+) -> usize
+    ensures { λ r. ⌜ r ≤ length (now (page .entry)) ⌝ }
+{
+    let word = face::trimmed(name);
+    let a = put_title(page, at, word, when);
+    let b = put_name(page, a, word, when.year);
+    let c = put_when(page, b, when);
+    let d = put_zone(page, c, zone);
+    put_unit(page, d, unit)
 }
 
 // Puts what the marks are, what the drawing stands on, and its end.
-pub fn put_foot(page: &mut [u8], at: usize, left: u32, top: u32, stands_on: Face) -> usize {
+pub fn put_foot(page: &mut [u8], at: usize, top: u64, stands_on: Face) -> usize
+    ensures { λ r. ⌜ r ≤ length (now (page .entry)) ⌝ }
+{
     let a = svg::put_form(
         page,
         at,
-        b"<text x=\"@\" y=\"@\" font-size=\"115\" fill=\"#444\">full marks: high water; open marks: low water<tspan x=\"@\" dy=\"170\">",
-        left as u64,
-        top as u64,
-        left as u64,
+        b"<text x=\"@\" y=\"$\" font-size=\"115\" fill=\"#444\">full marks: high water; open marks: low water<tspan x=\"@\" dy=\"170\">",
+        LEFT,
+        top,
+        0,
         0,
     );
     let b = face::put_face(page, a, stands_on);
-    output::put_bytes(page, b, b"</tspan></text>\n</svg>\n")
+    svg::put_plain(page, b, b"</tspan></text>\n</svg>\n")
 }

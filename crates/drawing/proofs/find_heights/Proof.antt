@@ -1,9 +1,9 @@
--- `drawing::find_heights` is safe: the part that it lends is as long as it says. Assumes nothing.
-use mathlib.Core.Path.{sym}
-use lib.Seq.{length-take-le}
+-- `drawing::find_heights` meets its contract: the part that it lends is as long as it says. Assumes nothing.
 use borrow.Author.Needs.{needs}
 use Rattle.drawing.proofs.find_heights.Statement.{statement}
 use Rattle.drawing.proofs.find_heights.Tie as tie
+use mathlib.Core.Path.{sym}
+use lib.Seq.{length-take-le}
 
 returns : tie.Need-returns
 returns c = search needs

@@ -1,25 +1,34 @@
--- `levels::put_scale` is safe and ends: the page keeps its length. The measure is the lines left. Assumes nothing.
+-- `levels::put_scale` meets its contract and ends: the page keeps its length. The measure: so many lines are left. Assumes nothing.
 use mathlib.Core.Path.{_≡_}
-use Prim.Native.Nat.{_-_, _≤_, _+_, _*_}
+use Prim.Native.Nat.{_-_}
 use lib.ListN.{length}
 use borrow.Author.Needs.{needs}
 use Rattle.levels.proofs.put_scale.Statement.{statement}
 use Rattle.levels.proofs.put_scale.Tie as tie
 
 abbrev Inv-loop : tie.InvT-loop
-Inv-loop page₀ at plot text next₀ step high line₀ left₀ t12 page next line left = length page ≡ length page₀
+Inv-loop page₀ at plot next₀ line₀ left₀ page next line left = length page ≡ length page₀
 
 abbrev μ-loop : tie.MeasureT-loop
-μ-loop page₀ at plot text next₀ step high line₀ left₀ t12 page next line left = left
+μ-loop page₀ at plot next₀ line₀ left₀ page next line left = left
 
 slice-aggregate-put-form : tie.Need-slice-aggregate-put-form Inv-loop μ-loop
 slice-aggregate-put-form c = search needs
+
+cast-put-form : tie.Need-cast-put-form Inv-loop μ-loop
+cast-put-form c = search needs
 
 put-form-requires : tie.Need-put-form-requires Inv-loop μ-loop
 put-form-requires c κs = search needs
 
 loop-holds : tie.Need-loop-holds Inv-loop μ-loop
 loop-holds c = search needs
+
+is-within-requires : tie.Need-is-within-requires Inv-loop μ-loop
+is-within-requires c κs = search needs
+
+raised-line-requires : tie.Need-raised-line-requires Inv-loop μ-loop
+raised-line-requires c κs = search needs
 
 put-level-requires : tie.Need-put-level-requires Inv-loop μ-loop
 put-level-requires c κs = search needs
@@ -36,11 +45,8 @@ loop-less c = search needs
 loop-again : tie.Need-loop-again Inv-loop μ-loop
 loop-again c = search needs
 
-slice-aggregate-put-bytes : tie.Need-slice-aggregate-put-bytes Inv-loop μ-loop
-slice-aggregate-put-bytes c = search needs
-
-put-bytes-requires : tie.Need-put-bytes-requires Inv-loop μ-loop
-put-bytes-requires c κs = search needs
+end-group-requires : tie.Need-end-group-requires Inv-loop μ-loop
+end-group-requires c κs = search needs
 
 same-length : tie.Need-same-length Inv-loop μ-loop
 same-length c = search needs
@@ -55,14 +61,16 @@ put-scale-spec =
     Inv-loop
     μ-loop
     slice-aggregate-put-form
+    cast-put-form
     put-form-requires
     loop-holds
+    is-within-requires
+    raised-line-requires
     put-level-requires
     next-line-requires
     sub-left
     loop-less
     loop-again
-    slice-aggregate-put-bytes
-    put-bytes-requires
+    end-group-requires
     same-length
     returns)

@@ -1,16 +1,20 @@
--- `svg::put_escaped` is safe and ends: the page keeps its length. The measure is what is left of the text. Assumes nothing.
+-- `svg::put_escaped` meets its contract: the page keeps its length, and the next place stays on it. The measure is what is left of the text. Assumes nothing.
 use mathlib.Core.Path.{_≡_}
-use Prim.Native.Nat.{_-_, _≤_, _+_, _*_}
-use lib.ListN.{length}
+use Prim.Native.Nat.{_-_, _≤_}
 use borrow.Author.Needs.{needs}
+use lib.ListN.{length}
 use Rattle.svg.proofs.put_escaped.Statement.{statement}
 use Rattle.svg.proofs.put_escaped.Tie as tie
+use native.Mathlib.Omega.{arith}
 
 abbrev Inv-loop : tie.InvT-loop
-Inv-loop page₀ at text next₀ left₀ i₀ page next left i = length page ≡ length page₀
+Inv-loop page₀ at text next₀ left₀ i₀ page next left i = (length page ≡ length page₀) × (next ≤ length page₀)
 
 abbrev μ-loop : tie.MeasureT-loop
 μ-loop page₀ at text next₀ left₀ i₀ page next left i = length text - i
+
+on-page-requires : tie.Need-on-page-requires Inv-loop μ-loop
+on-page-requires c κs = search needs
 
 loop-holds : tie.Need-loop-holds Inv-loop μ-loop
 loop-holds c = search needs
@@ -43,7 +47,7 @@ loop-less : tie.Need-loop-less Inv-loop μ-loop
 loop-less c = search needs
 
 loop-again : tie.Need-loop-again Inv-loop μ-loop
-loop-again c = search needs
+loop-again c = (search needs, omega (arith, c .before .before .before .put-byte .ensures (omega arith)))
 
 same-length : tie.Need-same-length Inv-loop μ-loop
 same-length c = search needs
@@ -57,6 +61,7 @@ put-escaped-spec =
     (tie.spec
     Inv-loop
     μ-loop
+    on-page-requires
     loop-holds
     sub-passing
     part-passing-start

@@ -1,0 +1,3 @@
+pub mod Forms
+pub mod Utf8
+pub mod Escapes
