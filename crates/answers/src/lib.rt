@@ -1,6 +1,8 @@
 // The lines that answer a script. Each function puts one on the page and gives the place behind it, which is on the page.
+ghost use mathlib.Core.Path.{_≡_};
 ghost use Prim.Native.Nat.{_≤_};
-ghost use lib.ListN.{length};
+ghost use lib.IntN.{pos};
+ghost use lib.ListN.{length, getD};
 use refusals::Answer;
 use refusals::Refusal;
 
@@ -9,8 +11,8 @@ pub fn put_script(page: &mut [u8], at: usize, line: u64) -> usize
     ensures { λ r. ⌜ r ≤ length (now (page .entry)) ⌝ }
 {
     let word = output::put_bytes(page, at, b"script ");
-    let end = output::put_number(page, word, line);
-    output::put(page, end, 10)
+    let digits = output::put_number(page, word, line);
+    output::put(page, digits, 10)
 }
 
 // refused NUMBER PLACE
@@ -95,12 +97,16 @@ fn put_turn(page: &mut [u8], at: usize, minute: u32, height: i64) -> usize {
 }
 
 // The minute at a place; 0 past the end.
-fn minute_at(minutes: &[u32], i: usize) -> u32 {
+fn minute_at(minutes: &[u32], i: usize) -> u32
+    ensures { λ r. ⌜ r ≡ getD (now (minutes .entry)) i 0 ⌝ }
+{
     if i < minutes.len() { minutes[i] } else { 0 }
 }
 
 // The height at a place; 0 past the end.
-fn height_at(heights: &[i64], i: usize) -> i64 {
+fn height_at(heights: &[i64], i: usize) -> i64
+    ensures { λ r. ⌜ r ≡ getD (now (heights .entry)) i (pos 0) ⌝ }
+{
     if i < heights.len() { heights[i] } else { 0 }
 }
 

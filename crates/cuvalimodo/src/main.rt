@@ -180,7 +180,7 @@ fn with_station<'a>(
 {
     let table = cardfile::read_cards(cards).table;
     let names = table.names;
-    let read = stationcards::read_station(station, &names, table.frequencies);
+    let read = stationfile::read_station(station, &names, table.frequencies);
     let answer = read.answer;
     match answer {
         Answer::Refused(refusal, line) => {

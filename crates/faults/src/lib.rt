@@ -1,5 +1,11 @@
 // Faults of a refused line, in terms of the card's fields: what is at fault and what is wrong with it. The library has refused the line; a
 // fault only says in which words, and where none is found, the general words of the refusal stand.
+ghost use mathlib.Core.Path.{_≡_};
+ghost use Rattle.faults.specs.Faults as spec;
+ghost use Rattle.columns.specs.Lines.{linesOf};
+ghost use Rattle.faults.specs.Faults.{lineAt, only, badLine, badName, fieldFault, found};
+ghost use Rattle.faults.specs.declared.What.the-variants as what;
+ghost use Rattle.faults.specs.declared.Fault.the-variants as fault;
 use fields::Field;
 use fields::Format;
 
@@ -29,7 +35,6 @@ pub enum What {
 
 // What is wrong with it.
 pub enum Trouble {
-    General,
     TooLong,
     BadByte,
     Malformed,
@@ -53,11 +58,10 @@ pub enum Trouble {
     NoStationCard,
 }
 
-// A fault: what, which of several, from 1 (0: there is one only), and what is wrong with it.
-pub struct Fault {
-    pub what: What,
-    pub which: usize,
-    pub trouble: Trouble,
+// A fault: what, which of several, from 1 (0: there is one only), and what is wrong with it; or no words but the refusal's own.
+pub enum Fault {
+    Unsaid,
+    Of(What, usize, Trouble),
 }
 
 // A number field of a card, as its format has it: what it is, its columns, format and range.
@@ -72,43 +76,37 @@ pub struct Place {
 }
 
 // No words but the refusal's own.
-pub fn no_words() -> Fault {
-    Fault {
-        what: What::Card,
-        which: 0,
-        trouble: Trouble::General,
-    }
+pub fn no_words() -> Fault
+    ensures { λ r. ⌜ r ≡ fault.Unsaid ⌝ }
+{
+    Fault::Unsaid
 }
 
 // A fault of the card itself.
-pub fn of_card(trouble: Trouble) -> Fault {
-    Fault {
-        what: What::Card,
-        which: 0,
-        trouble,
-    }
+pub fn of_card(trouble: Trouble) -> Fault
+    ensures { λ r. ⌜ r ≡ only what.Card trouble ⌝ }
+{
+    Fault::Of(What::Card, 0, trouble)
 }
 
 // A fault of the file as a whole.
-pub fn of_file(trouble: Trouble) -> Fault {
-    Fault {
-        what: What::File,
-        which: 0,
-        trouble,
-    }
+pub fn of_file(trouble: Trouble) -> Fault
+    ensures { λ r. ⌜ r ≡ only what.File trouble ⌝ }
+{
+    Fault::Of(What::File, 0, trouble)
 }
 
 // A fault of the constituent's own name.
-pub fn of_name(trouble: Trouble) -> Fault {
-    Fault {
-        what: What::Name,
-        which: 0,
-        trouble,
-    }
+pub fn of_name(trouble: Trouble) -> Fault
+    ensures { λ r. ⌜ r ≡ only what.Name trouble ⌝ }
+{
+    Fault::Of(What::Name, 0, trouble)
 }
 
 // A line that is not good: longer than 80 columns, or with a byte that is not a character.
-pub fn bad_line(line: &[u8]) -> Fault {
+pub fn bad_line(line: &[u8]) -> Fault
+    ensures { λ r. ⌜ r ≡ badLine (now (line .entry)) ⌝ }
+{
     if 80 < line.len() {
         return of_card(Trouble::TooLong);
     }
@@ -116,7 +114,9 @@ pub fn bad_line(line: &[u8]) -> Fault {
 }
 
 // A constituent's own name that is refused by 4: blank, or there before.
-pub fn bad_name(line: &[u8], from: usize) -> Fault {
+pub fn bad_name(line: &[u8], from: usize) -> Fault
+    ensures { λ r. ⌜ r ≡ badName (now (line .entry)) from ⌝ }
+{
     if names::name_blank(names::name_part(line, from)) {
         return of_name(Trouble::Blank);
     }
@@ -124,62 +124,48 @@ pub fn bad_name(line: &[u8], from: usize) -> Fault {
 }
 
 // The field of a place on a line.
-pub fn field_of(line: &[u8], place: Place) -> Field {
+pub fn field_of(line: &[u8], place: Place) -> Field
+    ensures { λ r. ⌜ r ≡ spec.fieldOf (now (line .entry)) place ⌝ }
+{
     let format = place.format;
     fields::ranged_field(line, place.from, place.width, format, place.low, place.high)
 }
 
-// The fault of a field: General where it has none.
-pub fn field_fault(line: &[u8], place: Place) -> Fault {
+// The fault of the number in a field.
+pub fn field_fault(line: &[u8], place: Place) -> Fault
+    ensures { λ r. ⌜ r ≡ fieldFault (now (line .entry)) place ⌝ }
+{
     let field = field_of(line, place);
     let what = place.what;
     match field {
-        Field::Value(_) => no_words(),
-        Field::Malformed => Fault {
-            what,
-            which: place.which,
-            trouble: Trouble::Malformed,
-        },
-        Field::OutOfRange => Fault {
-            what,
-            which: place.which,
-            trouble: Trouble::OutOfRange,
-        },
+        Field::Value(_) => Fault::Unsaid,
+        Field::Malformed => Fault::Of(what, place.which, Trouble::Malformed),
+        Field::OutOfRange => Fault::Of(what, place.which, Trouble::OutOfRange),
     }
 }
 
 // Whether a fault says more than the refusal.
-pub fn is_found(fault: Fault) -> bool {
-    let trouble = fault.trouble;
-    if let Trouble::General = trouble {
-        return false;
+pub fn is_found(fault: Fault) -> bool
+    ensures { λ r. ⌜ r ≡ found fault ⌝ }
+{
+    match fault {
+        Fault::Unsaid => false,
+        Fault::Of(_, _, _) => true,
     }
-    true
 }
 
-// Where the line ends that begins at a byte of a file.
-fn line_end(file: &[u8], at: usize) -> usize {
-    let mut i = at;
-    while i < file.len() {
-        if file[i] == 10 {
-            return i;
+// Line n of a text, from 0; empty past the last.
+pub fn line_of(text: &[u8], n: usize) -> &[u8]
+    ensures { λ r. ⌜ now r ≡ lineAt (linesOf (now (text .entry))) n ⌝ }
+{
+    let mut at = 0;
+    let mut left = n;
+    while at < text.len() {
+        if left == 0 {
+            return lines::line_at(text, at);
         }
-        i += 1;
+        at = lines::next_line(text, at);
+        left -= 1;
     }
-    i
-}
-
-// Where the line behind it begins; the file's end where there is none.
-pub fn line_behind(file: &[u8], at: usize) -> usize {
-    let end = line_end(file, at);
-    if end < file.len() {
-        end + 1
-    } else {
-        file.len()
-    }
-}
-
-// The line that begins at a byte of a file.
-pub fn line_at(file: &[u8], at: usize) -> &[u8] {
-    columns::first_line(columns::part(file, at, file.len()))
+    &text[..0]
 }

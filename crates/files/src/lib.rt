@@ -1,4 +1,10 @@
 // Files read whole into a lent buffer, by name or from where the program itself lies.
+ghost use mathlib.Core.Path.{_≡_};
+ghost use mathlib.Core.Bool.{true};
+ghost use Prim.Native.Nat.{_≤_};
+ghost use lib.IntN.{pos, negℤ};
+ghost use lib.ListN.{length};
+ghost use lib.Signed.{leZ};
 ghost use Rattle.io.specs.Counts.{Counts};
 
 // How a reading ended.
@@ -50,17 +56,21 @@ fn behind_slash(path: &[u8], bytes: usize) -> usize {
     0
 }
 
-// Writes a byte into a path, where there is room; gives the place behind it.
-fn put_byte(path: &mut [u8], at: usize, byte: u8) -> usize {
+// Writes a byte into a path, where there is room; gives the place behind it, which is on the path.
+fn put_byte(path: &mut [u8], at: usize, byte: u8) -> usize
+    ensures { λ r. ⌜ r ≤ length (now (path .entry)) ⌝ }
+{
     if at < path.len() {
         path[at] = byte;
         return at + 1;
     }
-    at
+    path.len()
 }
 
-// Writes text into a path from a place on, as much as there is room for; gives the place behind it.
-fn put_text(path: &mut [u8], at: usize, text: &[u8]) -> usize {
+// Writes text into a path from a place on, as much as there is room for; gives the place behind it, which is on the path.
+fn put_text(path: &mut [u8], at: usize, text: &[u8]) -> usize
+    ensures { λ r. ⌜ (at ≤ length (now (path .entry)) → r ≤ length (now (path .entry))) ⌝ }
+{
     let mut next = at;
     let mut i = 0;
     while i < text.len() {
@@ -68,6 +78,16 @@ fn put_text(path: &mut [u8], at: usize, text: &[u8]) -> usize {
         i += 1;
     }
     next
+}
+
+// A descriptor, or -1.
+fn descriptor(fd: i32) -> i32
+    ensures { λ r. ⌜ leZ (negℤ (pos 1)) r ≡ true ⌝ }
+{
+    if fd < 0 {
+        return -1;
+    }
+    fd
 }
 
 // Opens a file that lies two folders above the program's own; a descriptor, or -1.
@@ -84,10 +104,12 @@ fn open_above(name: &[u8]) -> i32 {
 }
 
 // Opens a file of the program's own data, in the current folder or else two folders above the program; a descriptor, or -1.
-pub fn open_own(name: &[u8]) -> i32 {
+pub fn open_own(name: &[u8]) -> i32
+    ensures { λ r. ⌜ leZ (negℤ (pos 1)) r ≡ true ⌝ }
+{
     let fd = os::open_read(name);
     if 0 <= fd {
-        return fd;
+        return descriptor(fd);
     }
-    open_above(name)
+    descriptor(open_above(name))
 }

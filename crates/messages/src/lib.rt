@@ -3,7 +3,6 @@ mod words;
 
 use commandline::Wrong;
 use faults::Fault;
-use faults::Trouble;
 use libc::STDERR_FILENO;
 use libc::STDOUT_FILENO;
 use refusals::Refusal;
@@ -35,15 +34,15 @@ fn say_which(which: usize) {
 
 // Says what is wrong on a line.
 fn say_fault(fault: Fault, refusal: Refusal) {
-    let trouble = fault.trouble;
-    let what = fault.what;
-    if let Trouble::General = trouble {
-        words::write_general(STDERR_FILENO, refusal);
-        return;
+    match fault {
+        Fault::Unsaid => words::write_general(STDERR_FILENO, refusal),
+        Fault::Of(what, which, trouble) => {
+            words::write_what(STDERR_FILENO, what);
+            say_which(which);
+            say(b" ");
+            words::write_trouble(STDERR_FILENO, trouble)
+        }
     }
-    words::write_what(STDERR_FILENO, what);
-    say_which(fault.which);
-    words::write_trouble(STDERR_FILENO, trouble);
 }
 
 // FILE line N: words (refusal n)
@@ -80,16 +79,7 @@ pub fn too_long() {
 // WORD: what is wrong with it, try --help
 pub fn wrong_word(word: &[u8], wrong: Wrong) {
     say(word);
-    match wrong {
-        Wrong::NoCommand => say(b": no such command"),
-        Wrong::NoOption => say(b": no such option"),
-        Wrong::NoValue => say(b": its value is missing"),
-        Wrong::TooFew => say(b": more words are wanted"),
-        Wrong::TooMany => say(b": one word too many"),
-        Wrong::NotNumber => say(b": not a whole number"),
-        Wrong::NotTime => say(b": not a time HH:MM"),
-        Wrong::NotDay => say(b": not a day of a month"),
-    }
+    words::write_wrong(STDERR_FILENO, wrong);
     say(b", try --help\n");
 }
 

@@ -1,88 +1,108 @@
-// The words of faults and refusals, written to a descriptor.
+// The words, a row each, in the order that `phrases` has.
+use commandline::Wrong;
 use faults::Trouble;
 use faults::What;
 use refusals::Refusal;
 
+// The rows of what is at fault.
+fn what_text() -> [u8; 267] {
+    *b"the file\n\
+       the line\n\
+       name\n\
+       frequency\n\
+       longitude\n\
+       increase of longitude\n\
+       Doodson number\n\
+       phase\n\
+       satellite count\n\
+       a difference of satellite\n\
+       phase of satellite\n\
+       ratio of satellite\n\
+       number of parts\n\
+       coefficient\n\
+       part\n\
+       degrees of latitude\n\
+       minutes of latitude\n\
+       latitude\n\
+       amplitude\n\
+       phase lag"
+}
+
 // What is at fault.
 pub fn write_what(fd: i32, what: What) {
-    match what {
-        What::File => io::write_all(fd, b"the file"),
-        What::Card => io::write_all(fd, b"the line"),
-        What::Name => io::write_all(fd, b"name"),
-        What::Frequency => io::write_all(fd, b"frequency"),
-        What::Longitude => io::write_all(fd, b"longitude"),
-        What::Increase => io::write_all(fd, b"increase of longitude"),
-        What::Doodson => io::write_all(fd, b"Doodson number"),
-        What::Phase => io::write_all(fd, b"phase"),
-        What::SatelliteCount => io::write_all(fd, b"satellite count"),
-        What::Difference => io::write_all(fd, b"a difference of satellite"),
-        What::SatellitePhase => io::write_all(fd, b"phase of satellite"),
-        What::Ratio => io::write_all(fd, b"ratio of satellite"),
-        What::PartCount => io::write_all(fd, b"number of parts"),
-        What::Coefficient => io::write_all(fd, b"coefficient"),
-        What::PartName => io::write_all(fd, b"part"),
-        What::Degrees => io::write_all(fd, b"degrees of latitude"),
-        What::Minutes => io::write_all(fd, b"minutes of latitude"),
-        What::Latitude => io::write_all(fd, b"latitude"),
-        What::Amplitude => io::write_all(fd, b"amplitude"),
-        What::PhaseLag => io::write_all(fd, b"phase lag"),
-    }
-    ;
+    let text = what_text();
+    io::write_all(fd, phrases::what_words(&text, what));
+}
+
+// The rows of what is wrong with it.
+fn trouble_text() -> [u8; 518] {
+    *b"is over 80 columns long\n\
+       has a byte outside 32 to 126\n\
+       is a malformed number\n\
+       is out of range\n\
+       is not a whole number\n\
+       takes the sizes past 12\n\
+       is blank\n\
+       stands twice\n\
+       has no frequency\n\
+       has no definition\n\
+       is not a main constituent\n\
+       is past 160 frequencies\n\
+       is past 64 main constituents\n\
+       takes the satellites past 256\n\
+       is past 128 shallow-water constituents\n\
+       is past 146 constituents\n\
+       ends inside the frequencies\n\
+       ends inside the longitudes\n\
+       ends inside the main constituents\n\
+       ends inside the shallow-water constituents\n\
+       has no station card"
 }
 
 // What is wrong with it.
 pub fn write_trouble(fd: i32, trouble: Trouble) {
-    match trouble {
-        Trouble::General => io::write_all(fd, b" is refused"),
-        Trouble::TooLong => io::write_all(fd, b" is over 80 columns long"),
-        Trouble::BadByte => io::write_all(fd, b" has a byte outside 32 to 126"),
-        Trouble::Malformed => io::write_all(fd, b" is a malformed number"),
-        Trouble::OutOfRange => io::write_all(fd, b" is out of range"),
-        Trouble::NotWhole => io::write_all(fd, b" is not a whole number"),
-        Trouble::PastTwelve => io::write_all(fd, b" takes the sizes past 12"),
-        Trouble::Blank => io::write_all(fd, b" is blank"),
-        Trouble::Twice => io::write_all(fd, b" stands twice"),
-        Trouble::NoFrequency => io::write_all(fd, b" has no frequency"),
-        Trouble::NoDefinition => io::write_all(fd, b" has no definition"),
-        Trouble::NotMain => io::write_all(fd, b" is not a main constituent"),
-        Trouble::TooManyFrequencies => io::write_all(fd, b" is past 160 frequencies"),
-        Trouble::TooManyMains => io::write_all(fd, b" is past 64 main constituents"),
-        Trouble::TooManySatellites => io::write_all(fd, b" takes the satellites past 256"),
-        Trouble::TooManyShallows => io::write_all(fd, b" is past 128 shallow-water constituents"),
-        Trouble::TooManyRecords => io::write_all(fd, b" is past 146 constituents"),
-        Trouble::EndedInFrequencies => io::write_all(fd, b" ends inside the frequencies"),
-        Trouble::EndedInLongitudes => io::write_all(fd, b" ends inside the longitudes"),
-        Trouble::EndedInMains => io::write_all(fd, b" ends inside the main constituents"),
-        Trouble::EndedInShallows => {
-            io::write_all(fd, b" ends inside the shallow-water constituents")
-        }
-        Trouble::NoStationCard => io::write_all(fd, b" has no station card"),
-    }
-    ;
+    let text = trouble_text();
+    io::write_all(fd, phrases::trouble_words(&text, trouble));
+}
+
+// The rows of the general words of a refusal, which are 01's.
+fn general_text() -> [u8; 402] {
+    *b"line over 80 columns or a byte outside 32 to 126\n\
+       malformed number\n\
+       number outside its stated range\n\
+       name blank or twice, or place repeated\n\
+       no such frequency, main or definition\n\
+       more entries than stated\n\
+       file ends inside a part\n\
+       year or month out of range\n\
+       minutes outside the month or reversed, or step out of range\n\
+       more turns than the lent buffers hold\n\
+       size of X or Y over 2^22\n\
+       no table\n\
+       no station\n\
+       no month"
 }
 
 // The general words of a refusal, which are 01's.
 pub fn write_general(fd: i32, refusal: Refusal) {
-    match refusal {
-        Refusal::BadLine => io::write_all(fd, b"line over 80 columns or a byte outside 32 to 126"),
-        Refusal::Malformed => io::write_all(fd, b"malformed number"),
-        Refusal::OutOfRange => io::write_all(fd, b"number outside its stated range"),
-        Refusal::BadName => io::write_all(fd, b"name blank or twice, or place repeated"),
-        Refusal::Missing => io::write_all(fd, b"no such frequency, main or definition"),
-        Refusal::TooMany => io::write_all(fd, b"more entries than stated"),
-        Refusal::Ended => io::write_all(fd, b"file ends inside a part"),
-        Refusal::BadDate => io::write_all(fd, b"year or month out of range"),
-        Refusal::BadMinutes => {
-            io::write_all(
-                fd,
-                b"minutes outside the month or reversed, or step out of range",
-            )
-        }
-        Refusal::TooManyTurns => io::write_all(fd, b"more turns than the lent buffers hold"),
-        Refusal::TooLarge => io::write_all(fd, b"size of X or Y over 2^22"),
-        Refusal::NoTable => io::write_all(fd, b"no table"),
-        Refusal::NoStation => io::write_all(fd, b"no station"),
-        Refusal::NoMonth => io::write_all(fd, b"no month"),
-    }
-    ;
+    let text = general_text();
+    io::write_all(fd, phrases::refusal_words(&text, refusal));
+}
+
+// The rows of what is wrong with a word of the command line.
+fn wrong_text() -> [u8; 164] {
+    *b": no such command\n\
+       : no such option\n\
+       : its value is missing\n\
+       : more words are wanted\n\
+       : one word too many\n\
+       : not a whole number\n\
+       : not a time HH:MM\n\
+       : not a day of a month"
+}
+
+// What is wrong with a word of the command line.
+pub fn write_wrong(fd: i32, wrong: Wrong) {
+    let text = wrong_text();
+    io::write_all(fd, phrases::wrong_words(&text, wrong));
 }

@@ -1,10 +1,22 @@
--- What the reader of a card file hands on, over a buffer of n bytes. Assumes nothing.
-use Prim.Native.Nat.{ℕ, _≤_}
+-- What the readers of a card file and of a station's lines hand on. Assumes nothing.
+use Prim.Native.Nat.{ℕ, _+_, _≤_}
+use mathlib.Core.Path.{_≡_}
+use mathlib.Core.Bool.{true, cond}
+use mathlib.Core.List.{List}
+use lib.Dec.{ltb}
+use lib.ListN.{getD}
 use Rattle.input.specs.Window.{Within}
+use Rattle.records.specs.declared.Rows.{Rows}
+use Rattle.records.specs.Rows.{putRow}
 use Rattle.reading.specs.declared.CardFile.{CardFile}
 
--- the card file stands in the buffer
-pub record FilePost (n : ℕ) (f : CardFile) : Type 0 where
+-- the card file stands in the buffer of n bytes; one that came whole has the bytes asked for, and LF (10) behind them
+pub record FilePost (n bytes : ℕ) (left : List ℕ) (f : CardFile) : Type 0 where
   pub within : Within n (f .window)
   pub ordered : f .from ≤ f .end
   pub inside : f .end ≤ n
+  pub whole : f .good ≡ true → (f .end ≡ f .from + bytes) × (getD left (f .end) 0 ≡ 10)
+
+-- the rows with record k, from 0: 146 are kept
+abbrev pub keptRow : Rows → ℕ → ℕ → ℕ → ℕ → Rows
+keptRow rows k place amplitude phase = cond (ltb k 146) (putRow rows k place amplitude phase) rows

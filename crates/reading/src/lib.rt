@@ -1,8 +1,10 @@
 // The parts of a script, read from the window: a call's line, a card file, the records of a station.
+ghost use mathlib.Core.Path.{_≡_};
 ghost use Prim.Native.Nat.{_+_, _≤_, _<_};
 ghost use lib.ListN.{length};
 ghost use Rattle.input.specs.Window.{Within};
-ghost use Rattle.reading.specs.Posts.{FilePost};
+ghost use Rattle.records.specs.Rows.{noRows};
+ghost use Rattle.reading.specs.Posts.{FilePost, keptRow};
 use input::Window;
 use records::Rows;
 use script::Call;
@@ -67,7 +69,7 @@ pub fn read_call(buffer: &mut [u8], window: Window) -> Heard
 pub fn read_file(buffer: &mut [u8], window: Window, bytes: usize) -> CardFile
     requires { ⌜ bytes < length (now buffer) ⌝ }
     requires { ⌜ Within (length (now buffer)) window ⌝ }
-    ensures { λ r. ⌜ FilePost (length (now (buffer .entry))) r ⌝ }
+    ensures { λ r. ⌜ FilePost (length (now (buffer .entry))) bytes (now (buffer .exit)) r ⌝ }
 {
     let held = input::gather(buffer, window, bytes + 1);
     let from = held.from;
@@ -131,7 +133,9 @@ fn read_record(buffer: &mut [u8], window: Window) -> Told
 }
 
 // No records yet.
-fn no_rows() -> Rows {
+fn no_rows() -> Rows
+    ensures { λ r. ⌜ r ≡ noRows ⌝ }
+{
     Rows {
         places: [0u8; 146],
         amplitudes: [0u32; 146],
@@ -140,7 +144,9 @@ fn no_rows() -> Rows {
 }
 
 // The rows with record k, from 0; past the first 146 nothing is kept.
-fn with_row(rows: Rows, k: usize, place: u8, amplitude: u32, phase: u32) -> Rows {
+fn with_row(rows: Rows, k: usize, place: u8, amplitude: u32, phase: u32) -> Rows
+    ensures { λ r. ⌜ r ≡ keptRow rows k place amplitude phase ⌝ }
+{
     if 146 <= k {
         return rows;
     }

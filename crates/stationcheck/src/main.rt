@@ -5,7 +5,7 @@ use card::natural_field;
 use libc::STDOUT_FILENO;
 use records::Rows;
 use refusals::Answer;
-use stationcards::StationCards;
+use stationfile::StationCards;
 
 // A text as it stands.
 fn put(text: &[u8]) {
@@ -107,7 +107,7 @@ fn put_input(input: &[u8]) {
             let names = columns::part(rest, 0, k);
             let station = columns::part(rest, k, 65_536);
             put_face(names, station);
-            put_station(stationcards::read_station(station, names, k / 5));
+            put_station(stationfile::read_station(station, names, k / 5));
         }
         Natural::Bad(_) => {}
     }

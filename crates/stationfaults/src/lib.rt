@@ -1,34 +1,21 @@
 // What is wrong on a refused line of the station file.
+ghost use mathlib.Core.Path.{_≡_};
+ghost use Prim.Native.Nat.{_-_};
+ghost use Rattle.stationfaults.specs.Station as spec;
+ghost use Rattle.stationfaults.specs.Station.{firstOf, numberFault, faultOn, stationFault};
 use faults::Fault;
 use faults::Place;
 use faults::Trouble;
 use faults::What;
-use faults::bad_line;
-use faults::bad_name;
 use faults::field_fault;
 use faults::is_found;
-use faults::line_at;
-use faults::line_behind;
-use faults::no_words;
-use faults::of_card;
-use faults::of_file;
-use faults::of_name;
 use fields::Format;
 use refusals::Refusal;
 
-// Where a line begins, by its number from 1; the file's end where it has no such line.
-fn line_start(file: &[u8], line: usize) -> usize {
-    let mut at = 0;
-    let mut k = 1;
-    while k < line && at < file.len() {
-        at = line_behind(file, at);
-        k += 1;
-    }
-    at
-}
-
-// The latitude's degrees and minutes.
-fn degrees() -> Place {
+// The latitude's degrees.
+fn degrees() -> Place
+    ensures { λ r. ⌜ r ≡ spec.degrees ⌝ }
+{
     Place {
         what: What::Degrees,
         which: 0,
@@ -40,7 +27,10 @@ fn degrees() -> Place {
     }
 }
 
-fn minutes() -> Place {
+// The latitude's minutes.
+fn minutes() -> Place
+    ensures { λ r. ⌜ r ≡ spec.minutes ⌝ }
+{
     Place {
         what: What::Minutes,
         which: 0,
@@ -52,8 +42,10 @@ fn minutes() -> Place {
     }
 }
 
-// A constituent's amplitude and phase lag.
-fn amplitude() -> Place {
+// A constituent's amplitude.
+fn amplitude() -> Place
+    ensures { λ r. ⌜ r ≡ spec.amplitude ⌝ }
+{
     Place {
         what: What::Amplitude,
         which: 0,
@@ -65,7 +57,10 @@ fn amplitude() -> Place {
     }
 }
 
-fn phase_lag() -> Place {
+// A constituent's phase lag.
+fn phase_lag() -> Place
+    ensures { λ r. ⌜ r ≡ spec.phaseLag ⌝ }
+{
     Place {
         what: What::PhaseLag,
         which: 0,
@@ -77,8 +72,10 @@ fn phase_lag() -> Place {
     }
 }
 
-// The first of two fields that has a fault; where none has, the words of a third fault.
-fn first_of(line: &[u8], first: Place, second: Place, other: Fault) -> Fault {
+// The first of two fields that has a fault; where none has, another fault.
+fn first_of(line: &[u8], first: Place, second: Place, other: Fault) -> Fault
+    ensures { λ r. ⌜ r ≡ firstOf (now (line .entry)) first second other ⌝ }
+{
     let fault = field_fault(line, first);
     if is_found(fault) {
         return fault;
@@ -91,35 +88,48 @@ fn first_of(line: &[u8], first: Place, second: Place, other: Fault) -> Fault {
 }
 
 // A number that is refused: on the station card degrees, minutes or the latitude that they make, else amplitude or phase lag.
-fn number_fault(line: &[u8], number: usize) -> Fault {
+fn number_fault(line: &[u8], number: usize) -> Fault
+    ensures { λ r. ⌜ r ≡ numberFault (now (line .entry)) number ⌝ }
+{
     if number <= 1 {
-        let whole = Fault {
-            what: What::Latitude,
-            which: 0,
-            trouble: Trouble::OutOfRange,
-        };
+        let whole = Fault::Of(What::Latitude, 0, Trouble::OutOfRange);
         return first_of(line, degrees(), minutes(), whole);
     }
-    first_of(line, amplitude(), phase_lag(), no_words())
+    first_of(line, amplitude(), phase_lag(), Fault::Unsaid)
+}
+
+// The fault of a line, by its number from 1 and its refusal.
+fn fault_on(line: &[u8], number: usize, refusal: Refusal) -> Fault
+    ensures { λ r. ⌜ r ≡ faultOn (now (line .entry)) number refusal ⌝ }
+{
+    match refusal {
+        Refusal::BadLine => faults::bad_line(line),
+        Refusal::Malformed => number_fault(line, number),
+        Refusal::OutOfRange => number_fault(line, number),
+        Refusal::BadName => faults::bad_name(line, 5),
+        Refusal::Missing => faults::of_name(Trouble::NoFrequency),
+        Refusal::TooMany => faults::of_card(Trouble::TooManyRecords),
+        Refusal::Ended => faults::of_file(Trouble::NoStationCard),
+        Refusal::TooLarge => Fault::Unsaid,
+        Refusal::BadDate => Fault::Unsaid,
+        Refusal::BadMinutes => Fault::Unsaid,
+        Refusal::TooManyTurns => Fault::Unsaid,
+        Refusal::NoTable => Fault::Unsaid,
+        Refusal::NoStation => Fault::Unsaid,
+        Refusal::NoMonth => Fault::Unsaid,
+    }
+}
+
+// A line's number from 0.
+fn from_zero(number: usize) -> usize
+    ensures { λ r. ⌜ r ≡ number - 1 ⌝ }
+{
+    if number == 0 { 0 } else { number - 1 }
 }
 
 // The fault for which a line of the station file, by its number from 1, is refused.
-pub fn station_fault(file: &[u8], number: usize, refusal: Refusal) -> Fault {
-    let line = line_at(file, line_start(file, number));
-    match refusal {
-        Refusal::BadLine => bad_line(line),
-        Refusal::Malformed => number_fault(line, number),
-        Refusal::OutOfRange => number_fault(line, number),
-        Refusal::BadName => bad_name(line, 5),
-        Refusal::Missing => of_name(Trouble::NoFrequency),
-        Refusal::TooMany => of_card(Trouble::TooManyRecords),
-        Refusal::Ended => of_file(Trouble::NoStationCard),
-        Refusal::TooLarge => no_words(),
-        Refusal::BadDate => no_words(),
-        Refusal::BadMinutes => no_words(),
-        Refusal::TooManyTurns => no_words(),
-        Refusal::NoTable => no_words(),
-        Refusal::NoStation => no_words(),
-        Refusal::NoMonth => no_words(),
-    }
+pub fn station_fault(file: &[u8], number: usize, refusal: Refusal) -> Fault
+    ensures { λ r. ⌜ r ≡ stationFault (now (file .entry)) number refusal ⌝ }
+{
+    fault_on(faults::line_of(file, from_zero(number)), number, refusal)
 }

@@ -1,23 +1,31 @@
--- `cardfaults::part_fault` is safe and ends: the parts left fall at each turn. Assumes nothing.
-use borrow.Author.Needs.{needs}
-use Prim.Native.Nat.{_-_}
+-- `cardfaults::part_fault` meets its contract: the parts left have the first that is no main. Assumes nothing.
 use Rattle.cardfaults.proofs.part_fault.Statement.{statement}
+use borrow.Author.Needs.{needs}
+use mathlib.Core.Path.{_≡_, refl}
+use Prim.Native.Nat.{_-_, _+_}
+use native.Mathlib.Omega.{arith}
+use Rattle.columns.specs.Lines.{linesOf}
+use Rattle.cardfaults.specs.Card.{partFrom}
+use Rattle.cardfaults.proofs.Faults.{part-more, part-none}
 use Rattle.cardfaults.proofs.part_fault.Tie as tie
 
 abbrev Inv-loop : tie.InvT-loop
-Inv-loop file line j₀ j = Unit {0}
+Inv-loop file line j₀ j = partFrom (linesOf file) line j (4 - j) ≡ partFrom (linesOf file) line 0 4
 
 abbrev μ-loop : tie.MeasureT-loop
 μ-loop file line j₀ j = 4 - j
 
 loop-holds : tie.Need-loop-holds Inv-loop μ-loop
-loop-holds c = search needs
+loop-holds c = refl
 
 mul-name-part : tie.Need-mul-name-part Inv-loop μ-loop
-mul-name-part c = search needs
+mul-name-part c = omega arith
 
 add-name-part : tie.Need-add-name-part Inv-loop μ-loop
-add-name-part c = search needs
+add-name-part c = omega arith
+
+add-name-part-2 : tie.Need-add-name-part-2 Inv-loop μ-loop
+add-name-part-2 c = omega arith
 
 name-part-requires : tie.Need-name-part-requires Inv-loop μ-loop
 name-part-requires c κs = search needs
@@ -25,26 +33,32 @@ name-part-requires c κs = search needs
 is-defined-requires : tie.Need-is-defined-requires Inv-loop μ-loop
 is-defined-requires c κs = search needs
 
-add-t10 : tie.Need-add-t10 Inv-loop μ-loop
-add-t10 c = search needs
-
-returns : tie.Need-returns Inv-loop μ-loop
-returns c = search needs
-
 add-j : tie.Need-add-j Inv-loop μ-loop
-add-j c = search needs
+add-j c = omega arith
 
 loop-less : tie.Need-loop-less Inv-loop μ-loop
-loop-less c = search needs
+loop-less c = omega arith
 
 loop-again : tie.Need-loop-again Inv-loop μ-loop
-loop-again c = search needs
+loop-again c =
+    let s = c .before .before .before .before in
+    let a = s .before .before .before .args in
+    rw (part-more (linesOf (a .file .now)) (a .line .now) (s .loop .j) 4 (omega arith), ← c .before .before .name-part .ensures .1, ← c .before .is-defined .ensures, c .if1 .taken) at (s .loop .inv)
 
-no-words-requires : tie.Need-no-words-requires Inv-loop μ-loop
-no-words-requires c κs = search needs
+add-t11 : tie.Need-add-t11 Inv-loop μ-loop
+add-t11 c = omega arith
+
+returns : tie.Need-returns Inv-loop μ-loop
+returns c =
+    let s = c .before .before .before .before in
+    let a = s .before .before .before .args in
+    rw (part-more (linesOf (a .file .now)) (a .line .now) (s .loop .j) 4 (omega arith), ← c .before .before .name-part .ensures .1, ← c .before .is-defined .ensures, c .if1 .left) at (s .loop .inv)
 
 returns-2 : tie.Need-returns-2 Inv-loop μ-loop
-returns-2 c = search needs
+returns-2 c =
+    let s = c .before in
+    let a = s .before .before .before .args in
+    rw (part-none (linesOf (a .file .now)) (a .line .now) (s .loop .j) 4 (c .loop-test .left)) at (s .loop .inv)
 
 pub part-fault-spec : {M : Type 1} → statement M
 part-fault-spec =
@@ -55,12 +69,12 @@ part-fault-spec =
     loop-holds
     mul-name-part
     add-name-part
+    add-name-part-2
     name-part-requires
     is-defined-requires
-    add-t10
-    returns
     add-j
     loop-less
     loop-again
-    no-words-requires
+    add-t11
+    returns
     returns-2)

@@ -1,13 +1,13 @@
--- `files::put_text` is safe and ends: the path keeps its length. Assumes nothing.
+-- `files::put_text` meets its contract: the path keeps its length, and the next place stays on it. Assumes nothing.
 use borrow.Author.Needs.{needs}
-use Prim.Native.Nat.{_-_}
+use Prim.Native.Nat.{_-_, _≤_}
 use mathlib.Core.Path.{_≡_}
 use lib.ListN.{length}
 use Rattle.files.proofs.put_text.Statement.{statement}
 use Rattle.files.proofs.put_text.Tie as tie
 
 abbrev Inv-loop : tie.InvT-loop
-Inv-loop path₀ at text next₀ i₀ path next i = length path ≡ length path₀
+Inv-loop path₀ at text next₀ i₀ path next i = (length path ≡ length path₀) × (at ≤ length path₀ → next ≤ length path₀)
 
 abbrev μ-loop : tie.MeasureT-loop
 μ-loop path₀ at text next₀ i₀ path next i = length text - i

@@ -1,6 +1,8 @@
 -- `script::call_at` meets its contract: the word decides, in the order of the definition. Assumes nothing.
 use borrow.Author.Needs.{needs}
-use Rattle.script.specs.Script.{callOfWords}
+use mathlib.Core.Path.{_≡_, sym, _∙_}
+use mathlib.Core.Bool.{true}
+use Rattle.script.specs.Script.{callOfWords, same, turnsWord}
 use Rattle.script.proofs.call_at.Statement.{statement}
 use Rattle.script.proofs.call_at.Tie as tie
 
@@ -80,7 +82,9 @@ turns-at-requires c κs = search needs
 
 returns-6 : tie.Need-returns-6
 unfolding callOfWords
-returns-6 c = rw (← c .before .before .before .before .before .before .before .before .before .before .before .before .before .before .before .before .before .is-word .ensures, c .before .before .before .before .before .before .before .before .before .before .before .before .before .before .before .before .if1 .left, ← c .before .before .before .before .before .before .before .before .before .before .before .before .before .before .is-word2 .ensures, c .before .before .before .before .before .before .before .before .before .before .before .before .before .if2 .left, ← c .before .before .before .before .before .before .before .before .before .before .before .is-word3 .ensures, c .before .before .before .before .before .before .before .before .before .before .if3 .left, ← c .before .before .before .before .before .before .before .before .is-word4 .ensures, c .before .before .before .before .before .before .before .if4 .left, ← c .before .before .before .before .before .is-word5 .ensures, c .before .before .before .before .if5 .left, ← c .before .before .is-word6 .ensures, c .before .if6 .taken) (c .turns-at .ensures)
+returns-6 c =
+    let turns : same _ turnsWord ≡ true = sym (c .before .before .is-word6 .ensures) ∙ c .before .if6 .taken in
+    rw (← c .before .before .before .before .before .before .before .before .before .before .before .before .before .before .before .before .before .is-word .ensures, c .before .before .before .before .before .before .before .before .before .before .before .before .before .before .before .before .if1 .left, ← c .before .before .before .before .before .before .before .before .before .before .before .before .before .before .is-word2 .ensures, c .before .before .before .before .before .before .before .before .before .before .before .before .before .if2 .left, ← c .before .before .before .before .before .before .before .before .before .before .before .is-word3 .ensures, c .before .before .before .before .before .before .before .before .before .before .if3 .left, ← c .before .before .before .before .before .before .before .before .is-word4 .ensures, c .before .before .before .before .before .before .before .if4 .left, ← c .before .before .before .before .before .is-word5 .ensures, c .before .before .before .before .if5 .left, turns) (c .turns-at .ensures)
 
 returns-7 : tie.Need-returns-7
 unfolding callOfWords

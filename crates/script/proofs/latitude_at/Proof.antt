@@ -1,11 +1,13 @@
 -- `script::latitude_at` meets its contract: a minus or none, then a size that fits, then the count. Assumes nothing.
-use mathlib.Core.Path.{sym, _∙_}
+use mathlib.Core.Path.{_≡_, sym, _∙_}
 use Prim.Native.Nat.{_+_, _-_, _^_}
 use mir.Syntax.{w32}
 use mir.Val.{SFits}
 use mir.ValLaws.{toZ-ofZ}
 use borrow.Author.Needs.{needs}
 use Rattle.script.specs.Script.{stationOf}
+use Rattle.words.specs.Words.{reading}
+use Rattle.words.specs.Left.{wordsFrom, readingAt}
 use Rattle.words.proofs.Words.{field-most}
 use Rattle.script.proofs.Latitudes.{behind-is}
 use Rattle.script.proofs.latitude_at.Statement.{statement}
@@ -54,7 +56,10 @@ enum-told-2 c = search needs
 
 returns-3 : tie.Need-returns-3
 unfolding stationOf
-returns-3 c = rw (sym (c .before .before .before .before .minus-at .ensures) ∙ c .before .before .before .if1 .left, ← c .before .before .field-at2 .ensures, c .enum-told2 .given .1)
+returns-3 c =
+    let a = c .before .before .before .before .before .before .args in
+    let north : reading (2 ^ 31 - 1) (wordsFrom (a .line .now) (a .at)) ≡ readingAt (a .line .now) (c .before .before .field-at2 .result) = sym (c .before .before .field-at2 .ensures) in
+    rw (sym (c .before .before .before .before .minus-at .ensures) ∙ c .before .before .before .if1 .left, north, c .enum-told2 .given .1)
 
 north-requires : tie.Need-north-requires
 north-requires c κs = field-most (c .before .before .before .before .before .before .before .args .line .now) (c .before .before .before .before .before .before .before .args .at) (2 ^ 31 - 1) (c .before .before .before .field-at2 .result) _ _ (c .before .before .before .field-at2 .ensures) (c .before .northern .given .1)

@@ -2,7 +2,7 @@
 use borrow.Author.Needs.{needs}
 use Rattle.stationfields.proofs.record_fields.Statement.{statement}
 use Rattle.stationfields.proofs.record_fields.Tie as tie
-use mathlib.Core.Path.{sym}
+use mathlib.Core.Path.{refl, sym}
 use Prim.Native.Nat.{_≤_, _<_}
 use Rattle.places.proofs.Defined.{place-within}
 use Rattle.stationfields.specs.Cards.{recordFields}
@@ -67,7 +67,7 @@ returns-3 c = rw (← c .before .before .before .before .before .before .before 
 
 returns-4 : tie.Need-returns-4
 unfolding recordFields
-returns-4 c = rw (← c .before .before .before .name-part .ensures .1, ← c .before .before .find-name .ensures, c .enum-told .given .1)
+returns-4 c = rw (← c .before .before .before .name-part .ensures .1, ← c .before .before .find-name .ensures, c .enum-told .given .1) refl
 
 pub record-fields-spec : {M : Type 1} → statement M
 record-fields-spec =

@@ -1,0 +1,85 @@
+-- The row of a text that has the words of each thing, in the order in which they are declared. Assumes nothing.
+use Prim.Native.Nat.{ℕ}
+use Rattle.faults.specs.declared.What.{What}
+use Rattle.faults.specs.declared.What.the-variants as what
+use Rattle.faults.specs.declared.Trouble.{Trouble}
+use Rattle.faults.specs.declared.Trouble.the-variants as trouble
+use Rattle.refusals.specs.declared.Refusal.{Refusal}
+use Rattle.refusals.specs.declared.Refusal.the-variants as refusal
+use Rattle.commandline.specs.declared.Wrong.{Wrong}
+use Rattle.commandline.specs.declared.Wrong.the-variants as wrong
+
+-- what is at fault
+abbrev pub whatRow : What → ℕ
+whatRow what.File = 0
+whatRow what.Card = 1
+whatRow what.Name = 2
+whatRow what.Frequency = 3
+whatRow what.Longitude = 4
+whatRow what.Increase = 5
+whatRow what.Doodson = 6
+whatRow what.Phase = 7
+whatRow what.SatelliteCount = 8
+whatRow what.Difference = 9
+whatRow what.SatellitePhase = 10
+whatRow what.Ratio = 11
+whatRow what.PartCount = 12
+whatRow what.Coefficient = 13
+whatRow what.PartName = 14
+whatRow what.Degrees = 15
+whatRow what.Minutes = 16
+whatRow what.Latitude = 17
+whatRow what.Amplitude = 18
+whatRow what.PhaseLag = 19
+
+-- what is wrong with it
+abbrev pub troubleRow : Trouble → ℕ
+troubleRow trouble.TooLong = 0
+troubleRow trouble.BadByte = 1
+troubleRow trouble.Malformed = 2
+troubleRow trouble.OutOfRange = 3
+troubleRow trouble.NotWhole = 4
+troubleRow trouble.PastTwelve = 5
+troubleRow trouble.Blank = 6
+troubleRow trouble.Twice = 7
+troubleRow trouble.NoFrequency = 8
+troubleRow trouble.NoDefinition = 9
+troubleRow trouble.NotMain = 10
+troubleRow trouble.TooManyFrequencies = 11
+troubleRow trouble.TooManyMains = 12
+troubleRow trouble.TooManySatellites = 13
+troubleRow trouble.TooManyShallows = 14
+troubleRow trouble.TooManyRecords = 15
+troubleRow trouble.EndedInFrequencies = 16
+troubleRow trouble.EndedInLongitudes = 17
+troubleRow trouble.EndedInMains = 18
+troubleRow trouble.EndedInShallows = 19
+troubleRow trouble.NoStationCard = 20
+
+-- 01's refusals, in the order of its tables
+abbrev pub refusalRow : Refusal → ℕ
+refusalRow refusal.BadLine = 0
+refusalRow refusal.Malformed = 1
+refusalRow refusal.OutOfRange = 2
+refusalRow refusal.BadName = 3
+refusalRow refusal.Missing = 4
+refusalRow refusal.TooMany = 5
+refusalRow refusal.Ended = 6
+refusalRow refusal.BadDate = 7
+refusalRow refusal.BadMinutes = 8
+refusalRow refusal.TooManyTurns = 9
+refusalRow refusal.TooLarge = 10
+refusalRow refusal.NoTable = 11
+refusalRow refusal.NoStation = 12
+refusalRow refusal.NoMonth = 13
+
+-- a word of the command line that cannot be followed
+abbrev pub wrongRow : Wrong → ℕ
+wrongRow wrong.NoCommand = 0
+wrongRow wrong.NoOption = 1
+wrongRow wrong.NoValue = 2
+wrongRow wrong.TooFew = 3
+wrongRow wrong.TooMany = 4
+wrongRow wrong.NotNumber = 5
+wrongRow wrong.NotTime = 6
+wrongRow wrong.NotDay = 7
