@@ -1,7 +1,7 @@
 // Reads a card file of up to 65,536 bytes from standard input and says in one line what it comes to: the counts of an accepted file's
 // frequencies, mains, satellites and shallow constituents, or the refusal's number and line.
+use cardcounts::Counts;
 use libc::STDOUT_FILENO;
-use refusals::Answer;
 
 // A number, with a blank before it.
 fn put(n: u64) {
@@ -9,20 +9,17 @@ fn put(n: u64) {
     io::print_decimal(STDOUT_FILENO, n);
 }
 
-fn report(answer: Answer, frequencies: usize, mains: usize, satellites: usize, shallows: usize) {
-    match answer {
-        Answer::Accepted => {
-            io::write_all(STDOUT_FILENO, b"accepted");
-            put(frequencies as u64);
-            put(mains as u64);
-            put(satellites as u64);
-            put(shallows as u64);
-        }
-        Answer::Refused(r, line) => {
-            io::write_all(STDOUT_FILENO, b"refused");
-            put(refusals::number_of(r) as u64);
-            put(line as u64);
-        }
+fn report(counts: Counts) {
+    if counts.number == 0 {
+        io::write_all(STDOUT_FILENO, b"accepted");
+        put(counts.frequencies as u64);
+        put(counts.mains as u64);
+        put(counts.satellites as u64);
+        put(counts.shallows as u64);
+    } else {
+        io::write_all(STDOUT_FILENO, b"refused");
+        put(counts.number as u64);
+        put(counts.line as u64);
     }
     io::write_all(STDOUT_FILENO, b"\n");
 }
@@ -30,14 +27,5 @@ fn report(answer: Answer, frequencies: usize, mains: usize, satellites: usize, s
 fn main() {
     let mut file = io::large_buffer();
     let n = io::read_full(0, &mut file);
-    let read = cardfile::read_cards(&file[..n]);
-    let answer = read.answer;
-    let table = read.table;
-    report(
-        answer,
-        table.frequencies,
-        table.mains,
-        table.satellites,
-        table.shallows,
-    );
+    report(cardcounts::check_cards(&file[..n]));
 }

@@ -1,5 +1,5 @@
 // What the program says of a refusal or of a command line that it cannot follow: one line on standard error each.
-mod words;
+mod pieces;
 
 use commandline::Wrong;
 use faults::Fault;
@@ -35,12 +35,12 @@ fn say_which(which: usize) {
 // Says what is wrong on a line.
 fn say_fault(fault: Fault, refusal: Refusal) {
     match fault {
-        Fault::Unsaid => words::write_general(STDERR_FILENO, refusal),
+        Fault::Unsaid => pieces::write_general(STDERR_FILENO, refusal),
         Fault::Of(what, which, trouble) => {
-            words::write_what(STDERR_FILENO, what);
+            pieces::write_what(STDERR_FILENO, what);
             say_which(which);
             say(b" ");
-            words::write_trouble(STDERR_FILENO, trouble)
+            pieces::write_trouble(STDERR_FILENO, trouble)
         }
     }
 }
@@ -61,7 +61,7 @@ pub fn refused_number(subject: &[u8], number: u64, refusal: Refusal) {
     say(b" ");
     say_number(number);
     say(b": ");
-    words::write_general(STDERR_FILENO, refusal);
+    pieces::write_general(STDERR_FILENO, refusal);
     say_refusal(refusal);
 }
 
@@ -79,7 +79,7 @@ pub fn too_long() {
 // WORD: what is wrong with it, try --help
 pub fn wrong_word(word: &[u8], wrong: Wrong) {
     say(word);
-    words::write_wrong(STDERR_FILENO, wrong);
+    pieces::write_wrong(STDERR_FILENO, wrong);
     say(b", try --help\n");
 }
 
@@ -87,7 +87,7 @@ pub fn wrong_word(word: &[u8], wrong: Wrong) {
 fn list_one(refusal: Refusal) {
     io::print_decimal(STDOUT_FILENO, refusals::number_of(refusal) as u64);
     io::write_all(STDOUT_FILENO, b" ");
-    words::write_general(STDOUT_FILENO, refusal);
+    pieces::write_general(STDOUT_FILENO, refusal);
     io::write_all(STDOUT_FILENO, b"\n");
 }
 

@@ -1,11 +1,11 @@
 // The views: each asks the clock, which has a table and a station, and writes a sheet on standard output, or says the clock's refusal.
-mod rows;
-mod svg;
+mod pictured;
+mod tabulated;
 
-pub use rows::heights;
-pub use rows::series;
-pub use svg::day_drawing;
-pub use svg::month_drawing;
+pub use pictured::day_drawing;
+pub use pictured::month_drawing;
+pub use tabulated::heights;
+pub use tabulated::series;
 ghost use Rattle.clock.specs.View.{Made};
 use clock::Clock;
 use clock::HeightAnswer;
@@ -123,10 +123,10 @@ fn show<'a>(
             prepared_day(clock, face, station, unit, year, month, day, minute)
         }
         View::Series(start, step, count) => {
-            rows::prepared_series(clock, face, station, unit, year, month, start, step, count)
+            tabulated::prepared_series(clock, face, station, unit, year, month, start, step, count)
         }
-        View::MonthDrawing => svg::draw_month(clock, face, station, unit, year, month),
-        View::DayDrawing(day) => svg::draw_day(clock, face, station, unit, year, month, day),
+        View::MonthDrawing => pictured::draw_month(clock, face, station, unit, year, month),
+        View::DayDrawing(day) => pictured::draw_day(clock, face, station, unit, year, month, day),
     }
 }
 

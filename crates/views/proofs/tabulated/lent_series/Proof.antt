@@ -2,8 +2,8 @@
 use mathlib.Core.Path.{sym}
 use lib.Seq.{length-take-le}
 use borrow.Author.Needs.{needs}
-use Rattle.views.proofs.rows.lent_series.Statement.{statement}
-use Rattle.views.proofs.rows.lent_series.Tie as tie
+use Rattle.views.proofs.tabulated.lent_series.Statement.{statement}
+use Rattle.views.proofs.tabulated.lent_series.Tie as tie
 
 at-most-requires : tie.Need-at-most-requires
 at-most-requires c κs = search needs
