@@ -3,7 +3,7 @@
 
     tools/must_fail.py CRATE [LABEL ...]
 
-The crates below CRATE must be proved (`rt check CRATE`). For each edit of crates/CRATE/must-fail it prints the place and text of the first
+The crates below CRATE must be proved (`rt check CRATE`). For each edit of crates/CRATE/must-fail and extra-edits it prints where it was refused and the first
 error, to be looked at: a good wrong answer is refused at a fact that no longer holds.
 """
 
@@ -15,6 +15,7 @@ import tempfile
 import time
 
 import kit
+import refused_at
 
 
 def replacements(text):
@@ -44,9 +45,10 @@ def tried(crate, edit):
         began = time.time()
         run = subprocess.run(kit.check(crate, copy), capture_output=True, text=True)
         said = (run.stdout + run.stderr).replace(room + "/", "")
+        where = refused_at.place(list(refused_at.refusals(copy, said)))
     errors = [line for line in said.split("\n") if ": error" in line]
     verdict = "refused" if run.returncode == 1 and "\nlogic=not-proved" in said else "NOT REFUSED"
-    return f"{verdict} in {time.time() - began:.0f} s: {errors[0][:240] if errors else said[-240:]}"
+    return f"{verdict} in {time.time() - began:.0f} s: {' '.join(where)}. {errors[0][:240] if errors else ''}"
 
 
 def main():

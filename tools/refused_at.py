@@ -19,17 +19,16 @@ NOTE = re.compile(r"^note: (\S+?/)?(src/\S+?):(\d+):\d+: it is not proved that (
 PROMISE = re.compile(r"^(returns|loop-less|.*-(holds|again))(-\d+)?$")
 
 
-def needs(crate, label, name):
+def needs(folder, name):
     """The names under which a proof file answers for what its function's code needs and promises."""
-    text = (kit.ROOT / "target/must-fail" / crate / label / name).read_text(errors="replace")
-    return set(re.findall(r"^\s*(\S+) : tie\.Need-", text, re.M))
+    return set(re.findall(r"^\s*(\S+) : tie\.Need-", (folder / name).read_text(errors="replace"), re.M))
 
 
-def of_error(crate, label, found):
+def of_error(folder, found):
     _, name, line, declared, said = found.groups()
     if FOLLOWS.search(said):
         return "follows", name, line, declared
-    missing = name.startswith("proofs/") and declared in needs(crate, label, name) and not PROMISE.match(declared)
+    missing = name.startswith("proofs/") and declared in needs(folder, name) and not PROMISE.match(declared)
     return "need" if missing else "fact", name, line, declared
 
 
@@ -38,26 +37,30 @@ def of_note(found):
     return "fact" if said.startswith("what the function ensures") else "need", name, line, said[:60]
 
 
-def refusals(crate, label):
-    """What the prover said of a wrong answer: kind, file, line, name."""
-    log = (kit.ROOT / "target/must-fail" / crate / label / ".log").read_text(errors="replace")
+def refusals(folder, log):
+    """What the prover said of a crate with a wrong answer, which stands in a folder: kind, file, line, name."""
     for said in log.splitlines():
         error, note = ERROR.match(said), NOTE.match(said)
         if error:
-            yield of_error(crate, label, error)
+            yield of_error(folder, error)
         elif note:
             yield of_note(note)
+
+
+def place(said):
+    """The first fact at which it was refused; else the first thing said."""
+    facts = [one for one in said if one[0] == "fact"]
+    return (facts or said or [("nothing", "-", "-", "-")])[0]
 
 
 def main():
     edits = [(crate, edit.stem) for crate in kit.crates() for edit in sorted((kit.ROOT / "crates" / crate / "must-fail").glob("*.edit"))]
     at_facts = 0
     for crate, label in edits:
-        said = list(refusals(crate, label))
-        facts = [place for place in said if place[0] == "fact"]
-        at_facts += bool(facts)
-        kind, name, line, declared = (facts or said or [("nothing", "-", "-", "-")])[0]
-        if not facts or "--facts" not in sys.argv:
+        folder = kit.ROOT / "target/must-fail" / crate / label
+        kind, name, line, declared = place(list(refusals(folder, (folder / ".log").read_text(errors="replace"))))
+        at_facts += kind == "fact"
+        if kind != "fact" or "--facts" not in sys.argv:
             print(f"{crate}/{label}: {kind} at {name}:{line}, {declared}")
     print(f"{at_facts} of {len(edits)} wrong answers were refused at a fact")
     sys.exit(at_facts != len(edits))
