@@ -21,7 +21,7 @@ from stationcheck import answer  # noqa: E402
 LATITUDES = [b"-48 25", b" -5 25", b" -0 30", b" 00 30S", b" 48 60", b" 48 59s", b" 99 59", b" 90 00N", b"- 7  7", b" 4a 25", b"       ", b" 48 -1", b"+12 34"]
 AMPLITUDES = [b"  1.2345", b"   -.001", b"-0.00000", b"429496.7295", b"429496.7296", b"65536.0 ", b"        ", b" 1.23456", b"12345678", b"1 .2345 ", b"9999999."]
 PHASES = [b" 359.99", b" 360.00", b"-000.00", b"  -1.00", b"999999.", b"       ", b"  1.234", b"     .1", b"      ."]
-NAMES = [b"M2   ", b" M2  ", b"     ", b"M2  x", b"XXXX ", b"m2   ", b"Z0   "]
+NAMES = [b"M2   ", b" M2  ", b"     ", b"M2  x", b"Q999 ", b"m2   ", b"Z0   "]
 
 
 def overwritten(line, column, text):

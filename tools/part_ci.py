@@ -18,12 +18,12 @@ import kit
 
 def below(names):
     """The crates with all that they stand on, in the order of crates.txt."""
-    listed, wanted, todo = kit.crates(), set(), list(names)
-    while todo:
-        name = todo.pop()
+    listed, wanted, waiting = kit.crates(), set(), list(names)
+    while waiting:
+        name = waiting.pop()
         if name in listed and name not in wanted:
             wanted.add(name)
-            todo += listed[name]
+            waiting += listed[name]
     return {name: deps for name, deps in listed.items() if name in wanted}
 
 

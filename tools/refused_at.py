@@ -55,14 +55,16 @@ def place(said):
 
 def main():
     edits = [(crate, edit.stem) for crate in kit.crates() for edit in sorted((kit.ROOT / "crates" / crate / "must-fail").glob("*.edit"))]
-    at_facts = 0
+    at_facts = needs_first = 0
     for crate, label in edits:
         folder = kit.ROOT / "target/must-fail" / crate / label
-        kind, name, line, declared = place(list(refusals(folder, (folder / ".log").read_text(errors="replace"))))
+        said = list(refusals(folder, (folder / ".log").read_text(errors="replace")))
+        kind, name, line, declared = place(said)
         at_facts += kind == "fact"
+        needs_first += bool(said) and said[0][0] == "need"
         if kind != "fact" or "--facts" not in sys.argv:
             print(f"{crate}/{label}: {kind} at {name}:{line}, {declared}")
-    print(f"{at_facts} of {len(edits)} wrong answers were refused at a fact")
+    print(f"{at_facts} of {len(edits)} wrong answers break a fact; in {needs_first} of them a missing need is said before it")
     sys.exit(at_facts != len(edits))
 
 
