@@ -5,8 +5,8 @@ use mathlib.Core.List.{List}
 use mathlib.Core.Bool.{true, false}
 use Rattle.table.specs.Table.{Table}
 use Rattle.station.specs.Station.{Station}
-use Rattle.cards.specs.Cards as cards
-use Rattle.cards.specs.Cards.{readCards}
+use Rattle.card_file.specs.Cards as cards
+use Rattle.card_file.specs.Cards.{readCards}
 use Rattle.calls.specs.State.{Month, State, stateOf}
 use Rattle.calls.specs.Returned.{accepted, refused}
 use Rattle.calls.specs.Calls.{cardsReturns, cardsLeaves}

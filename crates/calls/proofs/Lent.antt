@@ -14,11 +14,11 @@ use Rattle.refusals.specs.Outcome as outcome
 use Rattle.refusals.specs.Outcome.{Outcome, refuseIf}
 use Rattle.table.specs.Table.{Table}
 use Rattle.station.specs.Station.{stationOutcome}
-use Rattle.records.specs.Rows.{rowsUpto}
-use Rattle.records.specs.Rows.{recordsOf}
-use Rattle.records.specs.declared.Record.{Record}
-use Rattle.records.specs.declared.Rows.{Rows}
-use Rattle.records.proofs.Copies.{records-length, lent-is}
+use Rattle.station.specs.RecordsRows.{rowsUpto}
+use Rattle.station.specs.RecordsRows.{recordsOf}
+use Rattle.station.specs.declared.records.Record.{Record}
+use Rattle.station.specs.declared.records.Rows.{Rows}
+use Rattle.station.proofs.records.Copies.{records-length, lent-is}
 use Rattle.calls.specs.State.{Maybe, none, some, State}
 use Rattle.calls.specs.Returned.{refused, told, onAccepted}
 use Rattle.calls.specs.Calls.{asks, stationReturns, stationLeaves}

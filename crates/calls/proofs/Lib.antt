@@ -2,4 +2,4 @@ pub mod Files
 pub mod Stations
 pub mod Lent
 pub mod Dates
-pub mod Asked
+pub mod Posed

@@ -7,7 +7,7 @@ use lib.ListN.{length}
 use lib.IntN.{ℤ}
 use Rattle.refusals.specs.Outcome as outcome
 use Rattle.refusals.specs.Outcome.{Outcome}
-use Rattle.records.specs.declared.Record.{Record}
+use Rattle.station.specs.declared.records.Record.{Record}
 use Rattle.table.specs.Table.{Table}
 use Rattle.station.specs.Station.{Station}
 use Rattle.calls.specs.State.{Month, State, stateOf}

@@ -9,19 +9,19 @@ use lib.IntN.{ℤ}
 use Rattle.refusals.specs.Outcome as outcome
 use Rattle.refusals.specs.Outcome.{Outcome, refuseIf}
 use Rattle.table.specs.Table.{Table}
-use Rattle.cards.specs.Cards as cards
-use Rattle.cards.specs.Cards.{readCards}
-use Rattle.records.specs.declared.Record.{Record}
+use Rattle.card_file.specs.Cards as cards
+use Rattle.card_file.specs.Cards.{readCards}
+use Rattle.station.specs.declared.records.Record.{Record}
 use Rattle.station.specs.Station.{Station, stationOutcome}
 use Rattle.calendar.specs.Calendar.{inRange, monthMinutes}
 use Rattle.month.specs.Month.{Prepared, tooLarge, prepared, monthOf}
 use Rattle.heights.specs.Height.{heightAt}
-use Rattle.series.specs.Series.{seriesOf}
-use Rattle.slopes.specs.Slope.{slopeAt}
-use Rattle.search.specs.Search.{turnsOf}
+use Rattle.heights.specs.Series.{seriesOf}
+use Rattle.turns.specs.Slope.{slopeAt}
+use Rattle.turns.specs.Search.{turnsOf}
 use Rattle.turns.specs.Written as written
-use Rattle.strides.specs.Strides.{stationStride}
-use Rattle.asked.specs.Asked.{lastMinute, stepOutside}
+use Rattle.turns.specs.Strides.{stationStride}
+use Rattle.calls.specs.Asked.{lastMinute, stepOutside}
 use Rattle.calls.specs.State.{Maybe, none, some, Month, State}
 use Rattle.calls.specs.Returned.{Returned, accepted, heightIs, turnsAre, refused, told, onAccepted}
 

@@ -5,7 +5,7 @@ use mathlib.Core.List.{List}
 use mathlib.Core.Bool.{Bool, true, false}
 use Rattle.table.specs.Table.{Table}
 use Rattle.station.specs.Station.{Station}
-use Rattle.prepared.specs.Prepared.{Constituent}
+use Rattle.month_prepared.specs.Prepared.{Constituent}
 
 -- what is there, or is not
 pub data Maybe (A : Type 0) : Type 0 where

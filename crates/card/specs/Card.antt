@@ -6,10 +6,10 @@ use lib.Dec.{leb, eqb}
 use lib.IntN.{ℤ}
 use Rattle.columns.specs.Bytes.{blank, every}
 use Rattle.columns.specs.Lines.{lineGood, blankCard}
-use Rattle.names.specs.Names.{placeOf}
+use Rattle.columns.specs.Names.{placeOf}
 use Rattle.columns.specs.Columns.{columns}
-use Rattle.names.specs.declared.Found.{Found}
-use Rattle.names.specs.declared.Found.the-variants.{At, Nothing}
+use Rattle.columns.specs.declared.names.Found.{Found}
+use Rattle.columns.specs.declared.names.Found.the-variants.{At, Nothing}
 use Rattle.fields.specs.declared.Field.{Field}
 use Rattle.fields.specs.declared.Field.the-variants.{Value, Malformed, OutOfRange}
 use Rattle.fields.specs.Number.{numberOf, inRange}

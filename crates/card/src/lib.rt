@@ -8,6 +8,9 @@ ghost use Rattle.card.specs.Formats.{field, within};
 ghost use Rattle.card.specs.Card.{number, numbers};
 ghost use Rattle.card.specs.Answers.{smallGives, naturalGives, NaturalWithin, faultGives};
 
+pub mod lines; // Walking down the lines of the file, and how a card begins that may end its part
+pub mod places; // The places of constituents
+
 // 01's refusals of a card file, in the order of its table.
 pub enum Refusal {
     Line,

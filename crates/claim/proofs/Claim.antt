@@ -9,10 +9,10 @@ use base.Logic.{id⊢}
 use contract.Monad.{top}
 use denote.Ref.{now}
 use lib.IntN.{ℤ}
-use Rattle.cards.specs.Cards as cards
-use Rattle.cards.specs.Cards.{readCards}
-use Rattle.records.specs.declared.Record.{Record}
-use Rattle.records.specs.Rows.{recordsOf}
+use Rattle.card_file.specs.Cards as cards
+use Rattle.card_file.specs.Cards.{readCards}
+use Rattle.station.specs.declared.records.Record.{Record}
+use Rattle.station.specs.RecordsRows.{recordsOf}
 use Rattle.clock.specs.declared.Clock.{Clock}
 use Rattle.calls.specs.State as state
 use Rattle.calls.specs.State.{State, some, none}

@@ -11,21 +11,21 @@ use lib.Seq.{take-at}
 use lib.IntN.{ℤ}
 use Rattle.table.specs.Table.{Table}
 use Rattle.station.specs.Station as station
-use Rattle.prepared.specs.Prepared.{Constituent}
-use Rattle.distance.specs.Exact.{Near}
+use Rattle.month_prepared.specs.Prepared.{Constituent}
+use Rattle.heights.specs.Exact.{Near}
 use Rattle.heights.specs.Height.{heightAt}
-use Rattle.series.specs.Series.{seriesFrom, seriesOf}
-use Rattle.distance.proofs.Distance.{height-is-near}
-use Rattle.slopes.specs.Slope.{slopeAt}
-use Rattle.search.specs.Search.{Turn, turnsOf}
-use Rattle.strides.specs.Strides.{stationStride}
+use Rattle.heights.specs.Series.{seriesFrom, seriesOf}
+use Rattle.heights.proofs.distance.Distance.{height-is-near}
+use Rattle.turns.specs.Slope.{slopeAt}
+use Rattle.turns.specs.Search.{Turn, turnsOf}
+use Rattle.turns.specs.Strides.{stationStride}
 use Rattle.turns.specs.Written as written
-use Rattle.search.specs.Search.{firstHigh, minutesOf}
+use Rattle.turns.specs.Search.{firstHigh, minutesOf}
 use Rattle.calls.specs.State as state
 use Rattle.calls.specs.State.{Maybe, State}
 use Rattle.calls.specs.Returned.{Returned, accepted, heightIs, turnsAre, refused}
 use Rattle.calls.specs.Calls.{heightReturns, SeriesGiven, seriesRefused, seriesGives, TurnsGiven, turnsRefused, turnsGives, searched}
-use Rattle.asked.specs.Asked.{stepOutside, lastMinute}
+use Rattle.calls.specs.Asked.{stepOutside, lastMinute}
 use Rattle.claim.specs.Document.{Request, Cards, Station, Date, Height, Series, Turns, Gave, told, wrote, found, Last, workedOut, after, gives, givesAll, Point, heightPoints, pointsFrom, seriesPoints, pointsOf, turnsPoints, points, constituentsIn, constituentsOf, AllNear, nil, cons, EachNear, end, next}
 
 -- ---- a height

@@ -7,12 +7,12 @@ use mathlib.Core.List.{List, [], _∷_}
 use lib.ListN.{take}
 use lib.IntN.{ℤ}
 use Rattle.table.specs.Table.{Table}
-use Rattle.cards.specs.Cards as cards
-use Rattle.cards.specs.Cards.{readCards}
-use Rattle.records.specs.declared.Record.{Record}
+use Rattle.card_file.specs.Cards as cards
+use Rattle.card_file.specs.Cards.{readCards}
+use Rattle.station.specs.declared.records.Record.{Record}
 use Rattle.station.specs.Station as station
-use Rattle.prepared.specs.Prepared.{Constituent}
-use Rattle.distance.specs.Exact.{Near}
+use Rattle.month_prepared.specs.Prepared.{Constituent}
+use Rattle.heights.specs.Exact.{Near}
 use Rattle.calls.specs.State as state
 use Rattle.calls.specs.State.{Maybe, none, some, State}
 use Rattle.calls.specs.Returned.{Returned, accepted, heightIs, turnsAre, refused, onAccepted}

@@ -7,10 +7,10 @@ use Rattle.refusals.specs.declared.Refusal.{Refusal}
 use Rattle.refusals.specs.declared.Answer.the-variants.{Accepted, Refused}
 use Rattle.table.specs.View.{tableOf}
 use Rattle.station.specs.Rows.{stationOf}
-use Rattle.cards.specs.Cards.{readCards, accepted, refused}
-use Rattle.cardfile.specs.Read.{outcomeOf}
-use Rattle.cardfile.specs.declared.Read.{Read}
-use Rattle.cardfile.proofs.Ranges.{accepted-in-range}
+use Rattle.card_file.specs.Cards.{readCards, accepted, refused}
+use Rattle.card_file.specs.Read.{outcomeOf}
+use Rattle.card_file.specs.declared.cardfile.Read.{Read}
+use Rattle.card_file.proofs.cardfile.Ranges.{accepted-in-range}
 use Rattle.calls.proofs.Files.{file-accepted, file-refused}
 use Rattle.clock.specs.declared.Clock.{Clock}
 use Rattle.clock.specs.View.{view, monthIn, Made}

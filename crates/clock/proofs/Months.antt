@@ -15,9 +15,9 @@ use Rattle.refusals.specs.declared.Answer.{Answer}
 use Rattle.refusals.specs.declared.Answer.the-variants.{Accepted, Refused}
 use Rattle.table.specs.View.{tableOf}
 use Rattle.station.specs.Rows.{stationOf}
-use Rattle.prepared.specs.Prepared.{Constituent}
-use Rattle.prepared.specs.declared.Month.{Month}
-use Rattle.prepared.specs.View.{constituentAt, constituentsAfter, constituentsFrom, constituentsOf}
+use Rattle.month_prepared.specs.Prepared.{Constituent}
+use Rattle.month_prepared.specs.declared.Month.{Month}
+use Rattle.month_prepared.specs.View.{constituentAt, constituentsAfter, constituentsFrom, constituentsOf}
 use Rattle.calendar.specs.Calendar.{monthMinutes}
 use Rattle.calendar.proofs.Months.{minutes-short}
 use Rattle.month.specs.Month.{monthOf, prepared}
@@ -26,7 +26,7 @@ use Rattle.month.specs.declared.Prepared.{Prepared}
 use Rattle.month.specs.declared.Preparation.{Preparation}
 use Rattle.month.specs.declared.Preparation.the-variants as preparation
 use Rattle.month.proofs.Ranges.{prepared-in-range}
-use Rattle.slopes.specs.Slope.{InRange}
+use Rattle.turns.specs.Slope.{InRange}
 use Rattle.clock.specs.declared.Clock.{Clock}
 use Rattle.calls.specs.Returned.{accepted, answerReturned}
 use Rattle.calls.specs.Calls.{preparedReturns, dateAsked}

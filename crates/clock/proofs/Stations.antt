@@ -9,12 +9,12 @@ use Rattle.refusals.specs.declared.Refusal.{Refusal}
 use Rattle.refusals.specs.declared.Answer.{Answer}
 use Rattle.refusals.specs.declared.Answer.the-variants.{Accepted, Refused}
 use Rattle.table.specs.View.{tableOf}
-use Rattle.records.specs.declared.Record.{Record}
-use Rattle.records.specs.Rows.{recordsOf, rowsUpto}
-use Rattle.records.specs.declared.Rows.{Rows}
+use Rattle.station.specs.declared.records.Record.{Record}
+use Rattle.station.specs.RecordsRows.{recordsOf, rowsUpto}
+use Rattle.station.specs.declared.records.Rows.{Rows}
 use Rattle.station.specs.Rows.{stationOf}
 use Rattle.station.specs.declared.Taken.{Taken}
-use Rattle.settings.specs.Posts.{TakenPost}
+use Rattle.calls.specs.Posts.{TakenPost}
 use Rattle.calls.proofs.Stations.{station-accepted, station-refused}
 use Rattle.calls.proofs.Lent.{lent-same}
 use Rattle.clock.specs.declared.Clock.{Clock}

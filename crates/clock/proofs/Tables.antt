@@ -14,8 +14,8 @@ use Rattle.table.specs.Table.{Frequency, noCards}
 use Rattle.table.specs.View.{tableOf, listed, frequencyOf}
 use Rattle.table.specs.declared.Table.{Table}
 use Rattle.table.proofs.Rows.{listed-length, listed-at}
-use Rattle.slopes.specs.Slope.{InRange}
-use Rattle.settings.proofs.Tables.{frequencies-count}
+use Rattle.turns.specs.Slope.{InRange}
+use Rattle.calls.proofs.settings.Tables.{frequencies-count}
 
 -- a table of no cards has none
 pub none-in-range : (t : Table) → tableOf t ≡ noCards → InRange (t .frequencies) (t .speeds)

@@ -4,7 +4,7 @@ use Prim.Native.Nat.{ℕ, min}
 use mathlib.Core.Bool.{true, false}
 use Rattle.table.specs.declared.Table.{Table}
 use Rattle.station.specs.declared.Station.{Station}
-use Rattle.prepared.specs.declared.Month.{Month}
+use Rattle.month_prepared.specs.declared.Month.{Month}
 use Rattle.refusals.specs.declared.Answer.the-variants.{Accepted}
 use Rattle.clock.specs.declared.Clock.{Clock}
 use Rattle.clock.specs.declared.After.{After}

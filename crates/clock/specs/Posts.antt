@@ -5,7 +5,7 @@ use mathlib.Core.List.{List}
 use mathlib.Core.Path.{_≡_}
 use lib.IntN.{ℤ}
 use Rattle.refusals.specs.declared.Answer.{Answer}
-use Rattle.records.specs.declared.Record.{Record}
+use Rattle.station.specs.declared.records.Record.{Record}
 use Rattle.calls.specs.State.{State, nothing}
 use Rattle.calls.specs.Returned.{onAccepted, answerReturned}
 use Rattle.clock.specs.Returned.{heightReturned, turnsReturned}

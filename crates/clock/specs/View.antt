@@ -5,9 +5,9 @@ use mathlib.Core.List.{List}
 use Rattle.cosine.specs.Fixed.{IsTable}
 use Rattle.table.specs.View.{tableOf}
 use Rattle.station.specs.Rows.{stationOf}
-use Rattle.prepared.specs.Prepared.{Constituent}
-use Rattle.prepared.specs.View.{constituentsFrom}
-use Rattle.slopes.specs.Slope.{InRange}
+use Rattle.month_prepared.specs.Prepared.{Constituent}
+use Rattle.month_prepared.specs.View.{constituentsFrom}
+use Rattle.turns.specs.Slope.{InRange}
 use Rattle.calls.specs.State.{Month, State, stateOf}
 use Rattle.clock.specs.declared.Clock.{Clock}
 

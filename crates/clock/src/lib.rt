@@ -10,21 +10,26 @@ ghost use Rattle.month.specs.Month.{monthOf};
 ghost use Rattle.calendar.specs.Calendar.{inRange};
 ghost use Rattle.clock.specs.View.{Made};
 ghost use Rattle.clock.specs.Posts.{NewPost, CardsPost, StationPost, DatePost, HeightPost, SeriesPost, TurnsPost, PreparedPost};
-ghost use Rattle.records.specs.Rows.{recordsOf};
+ghost use Rattle.station.specs.RecordsRows.{recordsOf};
 ghost use Rattle.month.specs.View.{preparedOf};
 ghost use Rattle.turns.specs.Written.{returnedOf};
 ghost use Rattle.calls.specs.Calls.{searchReturns};
 ghost use Rattle.clock.specs.Returned.{turnsReturned};
 ghost use Rattle.clock.specs.Parts.{accepts, withTable, withStation, withMonth};
+use calls::asked;
+use calls::settings;
+use card_file::cardfile;
 use month::Prepared;
-use prepared::Month;
-use records::Record;
-use records::Rows;
+use month_prepared::Month;
 use refusals::Answer;
 use refusals::Refusal;
 use station::Station;
+use station::records;
+use station::records::Record;
+use station::records::Rows;
 use table::Table;
 use turns::Searched;
+use turns::strides;
 
 // What the clock keeps. Only the calls below make or change one.
 pub struct Clock {
@@ -118,7 +123,7 @@ fn with_month(clock: Clock, last: u64, month: Month) -> After
     let mut next = clock;
     next.dated = true;
     next.last = last;
-    next.count = prepared::held(month.count);
+    next.count = month_prepared::held(month.count);
     let arguments = month.arguments;
     next.arguments = arguments;
     let lags = month.lags;
@@ -269,7 +274,7 @@ pub fn series(clock: Clock, start: u32, step: u32, heights: &mut [i64]) -> Answe
     );
     match asked {
         Answer::Accepted => {
-            series::series(
+            heights::series::series(
                 &clock.cosines,
                 &clock.arguments,
                 &clock.lags,

@@ -7,6 +7,8 @@ ghost use Rattle.columns.specs.Lines.{firstLine, restLines, lineGood, bl
 ghost use Rattle.columns.specs.Columns as columns;
 ghost use Rattle.columns.specs.Columns.{columns};
 
+pub mod names; // Names
+
 // How many bytes stand in front of the first LF.
 fn line_length(file: &[u8]) -> usize
     ensures { λ r. ⌜ r ≡ length (firstLine (now (file .entry))) ⌝ }

@@ -7,6 +7,8 @@ ghost use Prim.Native.Nat.{_+_};
 ghost use lib.ListN.{length};
 ghost use Rattle.commandline.specs.Days.{DayAsked};
 ghost use Rattle.commandline.specs.Words.{defaultByte, wordAt};
+use digits::dates;
+use digits::texts;
 use fields::Field;
 use fields::Format;
 

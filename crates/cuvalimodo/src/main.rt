@@ -4,13 +4,18 @@
 mod help;
 
 ghost use Rattle.clock.specs.View.{Made};
+use card_file::cardfile;
 use clock::After;
 use clock::Clock;
 use commandline::Asked;
 use commandline::Request;
-use face::Face;
+use faults::cardfaults;
+use faults::stationfaults;
 use files::End;
+use files::checksum;
+use page::face::Face;
 use refusals::Answer;
+use station_file::stationfile;
 
 // A file's length in its buffer, and whether it is there whole.
 struct Loaded {

@@ -12,10 +12,10 @@ use Rattle.calls.specs.Returned.{Returned, accepted, refused, answerReturned}
 use Rattle.clock.specs.Returned.{turnsReturned}
 use Rattle.calls.specs.Calls.{SeriesGiven, seriesGives, TurnsGiven, turnsGives}
 use Rattle.clock.specs.Posts as clock
-use Rattle.recordarrays.specs.Arrays.{recordsIn}
-use Rattle.onecall.specs.Setting.{stateAfter, setOnce, settingReturned}
-use Rattle.onecall.specs.Posts.{ReadyPost}
-use Rattle.onecall.specs.declared.Ready.{Ready}
+use Rattle.station.specs.Arrays.{recordsIn}
+use Rattle.cuvalimodo_c.specs.Setting.{stateAfter, setOnce, settingReturned}
+use Rattle.cuvalimodo_c.specs.Posts.{ReadyPost}
+use Rattle.cuvalimodo_c.specs.declared.onecall.Ready.{Ready}
 use Rattle.cuvalimodo_c.specs.Answers.{verdictOf, turningsOf}
 use Rattle.cuvalimodo_c.specs.declared.Verdict.{Verdict}
 use Rattle.cuvalimodo_c.specs.declared.Turnings.{Turnings}

@@ -6,8 +6,8 @@ use mathlib.Core.Path.{_≡_}
 use lib.IntN.{ℤ}
 use Rattle.calls.specs.Returned.{Returned, accepted, heightIs, turnsAre, refused}
 use Rattle.calls.specs.Calls.{SeriesGiven, seriesGives, TurnsGiven, turnsGives}
-use Rattle.recordarrays.specs.Arrays.{recordsIn}
-use Rattle.onecall.specs.Setting.{stateAfter, setOnce}
+use Rattle.station.specs.Arrays.{recordsIn}
+use Rattle.cuvalimodo_c.specs.Setting.{stateAfter, setOnce}
 use Rattle.cuvalimodo_c.specs.Answers.{verdictOf, turningsOf}
 use Rattle.cuvalimodo_c.specs.declared.Verdict.{Verdict}
 use Rattle.cuvalimodo_c.specs.declared.Turnings.{Turnings}

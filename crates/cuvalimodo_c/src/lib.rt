@@ -5,16 +5,20 @@
 // bindings/c/cuvalimodo.h declares all of it for C.
 ghost use mathlib.Core.Path.{_≡_};
 ghost use mathlib.Core.Bool.{false};
-ghost use Rattle.cards.specs.Cards.{readCards};
-ghost use Rattle.cardcounts.specs.Counts.{countsOf};
+ghost use Rattle.card_file.specs.Cards.{readCards};
+ghost use Rattle.card_file.specs.Counts.{countsOf};
 ghost use Rattle.calls.specs.Returned.{answerReturned};
 ghost use Rattle.clock.specs.Returned.{turnsReturned};
 ghost use Rattle.cuvalimodo_c.specs.Answers.{verdictOf, turningsOf};
 ghost use Rattle.cuvalimodo_c.specs.OneCall.{seriesOnce, turnsOnce, SeriesPost, TurnsPost};
-ghost use Rattle.onecall.specs.Setting.{settingReturned};
-use cardcounts::Counts;
+ghost use Rattle.cuvalimodo_c.specs.Setting.{settingReturned};
+
+mod onecall; // A clock that is set in one call
+
+use crate::onecall::Setting;
+use card_file::cardcounts;
+use card_file::cardcounts::Counts;
 use clock::TurnsAnswer;
-use onecall::Setting;
 use refusals::Answer;
 
 // What a call says: number 0 where it is accepted, else the refusal's number and place.

@@ -4,6 +4,9 @@ ghost use lib.ListN.{getD};
 ghost use lib.IntN.{pos};
 ghost use Rattle.digits.specs.Digits.{thousandths, lastDigit, dayOf, hourOf, timeOfDay, timeOnDay, latitudeEnd, threeDecimals, fourDecimals};
 
+pub mod dates; // Dates on a sheet
+pub mod texts; // Texts
+
 // A height's size in thousandths of the unit, from tenths of thousandths; a half is rounded up.
 pub fn thousandths(size: u64) -> u64
     ensures { λ r. ⌜ r ≡ thousandths size ⌝ }

@@ -7,9 +7,13 @@ ghost use mathlib.Core.Path.{_≡_};
 ghost use Rattle.clock.specs.View.{Made};
 use clock::Clock;
 use clock::TurnsAnswer;
-use face::Face;
+use drawing_picture::picture;
+use drawing_picture::title;
+use drawing_picture::title::When;
+use drawing_plots::plots;
+use page::face::Face;
 use refusals::Answer;
-use title::When;
+use swings::monthturns;
 
 // Room for a day's heights, five minutes apart. (Each a function's result, so that its length is known as a fact.)
 fn day_places() -> [i64; 289]

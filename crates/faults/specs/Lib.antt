@@ -1,1 +1,5 @@
 pub mod Faults
+pub mod Stands
+pub mod Fields
+pub mod Card
+pub mod Station

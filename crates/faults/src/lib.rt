@@ -6,6 +6,14 @@ ghost use Rattle.columns.specs.Lines.{linesOf};
 ghost use Rattle.faults.specs.Faults.{lineAt, only, badLine, badName, fieldFault, found};
 ghost use Rattle.faults.specs.declared.What.the-variants as what;
 ghost use Rattle.faults.specs.declared.Fault.the-variants as fault;
+
+mod cardlines; // Which card is due on a line of the card file, from the lines before it
+mod cardfields; // The number fields of each card of the card file, as 01's formats have them
+pub mod cardfaults; // What is wrong on a refused line of the card file
+pub mod stationfaults; // What is wrong on a refused line of the station file
+
+use card::lines;
+use columns::names;
 use fields::Field;
 use fields::Format;
 

@@ -5,7 +5,7 @@ use Prim.Native.Nat.{ℕ}
 use mathlib.Core.List.{List, [], _∷_, map}
 use lib.IntN.{pos, negsuc}
 use Rattle.columns.specs.Bytes.{every, leading, behind}
-use Rattle.numerals.specs.Numerals.{begins, numeral, wholeGood, wholeSize, fixedGood, fixedSize}
+use Rattle.fields.specs.Numerals.{begins, numeral, wholeGood, wholeSize, fixedGood, fixedSize}
 use Rattle.fields.specs.Number.{Number, number, malformed, unsigned, unblanked, numberOf}
 use Rattle.fields.specs.declared.Format.the-variants.{Whole, Fixed}
 

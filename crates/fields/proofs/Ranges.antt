@@ -13,13 +13,13 @@ use borrow.Author.Tests.{ltb-true, ltb-false, le-leb, lt-leb}
 use mir.Syntax.{w64}
 use mir.Val.{SFits, toZ}
 use mir.ValLaws.{toZ-pos}
-use Rattle.numerals.specs.Numerals.{wholeGood, wholeSize, fixedGood, fixedSize}
+use Rattle.fields.specs.Numerals.{wholeGood, wholeSize, fixedGood, fixedSize}
 use Rattle.fields.specs.Number.{number, malformed, signed, inRange, unsigned}
-use Rattle.numerals.specs.Capped.{cap, kept}
+use Rattle.fields.specs.NumeralsCapped.{cap, kept}
 use Rattle.fields.specs.Capped.{keptOf}
 use Rattle.fields.specs.declared.Format.{Format}
 use Rattle.fields.specs.declared.Format.the-variants.{Whole, Fixed}
-use Rattle.numerals.specs.declared.Size.the-variants.{Of, Bad}
+use Rattle.fields.specs.declared.numerals.Size.the-variants.{Of, Bad}
 use Rattle.fields.specs.declared.Field.the-variants.{Malformed, OutOfRange}
 
 leb-ltb : (a b : ℕ) → leb a b ≡ not (ltb b a)

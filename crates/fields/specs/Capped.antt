@@ -1,9 +1,9 @@
 -- What the reader keeps of a field behind its sign: its size, capped. Only inner functions cite this.
 use Prim.Native.Nat.{ℕ}
 use mathlib.Core.List.{List}
-use Rattle.numerals.specs.Numerals.{wholeGood, wholeSize, fixedGood, fixedSize}
-use Rattle.numerals.specs.Capped.{kept}
-use Rattle.numerals.specs.declared.Size.{Size}
+use Rattle.fields.specs.Numerals.{wholeGood, wholeSize, fixedGood, fixedSize}
+use Rattle.fields.specs.NumeralsCapped.{kept}
+use Rattle.fields.specs.declared.numerals.Size.{Size}
 use Rattle.fields.specs.declared.Format.{Format}
 use Rattle.fields.specs.declared.Format.the-variants.{Whole, Fixed}
 

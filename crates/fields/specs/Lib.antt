@@ -1,2 +1,4 @@
 pub mod Number
 pub mod Capped
+pub mod Numerals
+pub mod NumeralsCapped

@@ -7,7 +7,7 @@ use lib.IntN.{ℤ, pos, negℤ}
 use lib.ListN.{drop}
 use lib.Signed.{leZ}
 use Rattle.columns.specs.Bytes.{blank, behind}
-use Rattle.numerals.specs.Numerals.{begins, wholeGood, wholeSize, fixedGood, fixedSize}
+use Rattle.fields.specs.Numerals.{begins, wholeGood, wholeSize, fixedGood, fixedSize}
 use Rattle.fields.specs.declared.Format.{Format}
 use Rattle.fields.specs.declared.Format.the-variants.{Whole, Fixed}
 use Rattle.fields.specs.declared.Field.{Field}

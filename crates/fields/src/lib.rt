@@ -5,11 +5,14 @@ ghost use Rattle.columns.specs.Columns.{columns};
 ghost use Rattle.fields.specs.Number as number;
 ghost use Rattle.fields.specs.Number.{signed, numberOf, inRange};
 ghost use Rattle.fields.specs.Capped.{keptOf};
-use numerals::CAP;
-use numerals::Size;
-use numerals::begins;
-use numerals::fixed_size;
-use numerals::whole_size;
+
+mod numerals; // The digits of a number field behind its sign
+
+use crate::numerals::CAP;
+use crate::numerals::Size;
+use crate::numerals::begins;
+use crate::numerals::fixed_size;
+use crate::numerals::whole_size;
 
 // 01's I and F: a whole number, and one with a point and so many decimals at the most.
 pub enum Format {

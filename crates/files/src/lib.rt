@@ -7,6 +7,8 @@ ghost use lib.ListN.{length};
 ghost use lib.Signed.{leZ};
 ghost use Rattle.io.specs.Counts.{Counts};
 
+pub mod checksum; // CRC-32
+
 // How a reading ended.
 pub enum End {
     Whole,

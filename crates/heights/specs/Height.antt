@@ -4,9 +4,9 @@ use Prim.Native.Nat.{ℕ}
 use mathlib.Core.List.{List, [], _∷_}
 use lib.IntN.{ℤ, pos, _+ℤ_}
 use Rattle.angles.specs.Floor.{floorDiv}
-use Rattle.prepared.specs.Prepared.{Constituent}
-use Rattle.minuteangle.specs.Angle.{angleAt}
-use Rattle.shares.specs.Share.{share}
+use Rattle.month_prepared.specs.Prepared.{Constituent}
+use Rattle.heights.specs.Angle.{angleAt}
+use Rattle.heights.specs.Share.{share}
 
 -- "sum of shares", at a minute
 unfoldable pub sumOfShares : List Constituent → ℕ → ℤ

@@ -1,1 +1,6 @@
 pub mod Height
+pub mod Angle
+pub mod Share
+pub mod Series
+pub mod Angles
+pub mod Exact

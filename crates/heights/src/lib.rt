@@ -3,11 +3,17 @@ ghost use mathlib.Core.Path.{_≡_};
 ghost use Prim.Native.Nat.{_≤_, _^_};
 ghost use lib.IntN.{natAbs};
 ghost use Rattle.cosine.specs.Fixed.{IsTable};
-ghost use Rattle.prepared.specs.View.{constituentsFrom};
+ghost use Rattle.month_prepared.specs.View.{constituentsFrom};
 ghost use Rattle.heights.specs.Height.{heightAt};
+
+pub mod minuteangle; // A constituent's angle at a minute
+pub mod shares; // A constituent's share of the height at an angle
+pub mod series; // A series of heights, from a prepared month's constituents
+pub mod distance; // The exact sum, and how far a height may lie from it
+
+use crate::minuteangle::angle_at;
+use crate::shares::share_at;
 use cosine::ENTRIES;
-use minuteangle::angle_at;
-use shares::share_at;
 
 // The height at a minute.
 pub fn height<'a>(

@@ -1,4 +1,5 @@
 // The words, a row each, in the order that `phrases` has.
+use crate::phrases;
 use commandline::Wrong;
 use faults::Trouble;
 use faults::What;

@@ -7,9 +7,9 @@ use native.Mathlib.Omega.{arith}
 use lib.IntN.{ℤ, pos}
 use lib.ListN.{length, set, length-set}
 use lib.Seq.{getD-set-same, getD-set-other}
-use Rattle.prepared.specs.Prepared.{Constituent}
-use Rattle.prepared.specs.View.{constituentAt, constituentsAfter}
-use Rattle.prepared.specs.declared.Month.{Month}
+use Rattle.month_prepared.specs.Prepared.{Constituent}
+use Rattle.month_prepared.specs.View.{constituentAt, constituentsAfter}
+use Rattle.month_prepared.specs.declared.Month.{Month}
 use Rattle.month.specs.View.{heldUpto}
 
 module _ (arguments lags frequencies : List ℕ) (ps qs : List ℤ) (k : ℕ) (argument lag frequency : ℕ) (p q : ℤ) where

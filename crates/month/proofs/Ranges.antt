@@ -6,16 +6,16 @@ use Prim.Native.Nat.{ℕ, zero, suc, _+_, _≤_, zero-le}
 use native.Mathlib.Omega.{arith}
 use lib.ListN.{getD, List·getD-map}
 use Rattle.table.specs.Table.{Table, Frequency, Main, Shallow}
-use Rattle.prepared.specs.Prepared.{Constituent}
+use Rattle.month_prepared.specs.Prepared.{Constituent}
 use Rattle.station.specs.Station.{Station}
-use Rattle.records.specs.declared.Record.{Record}
-use Rattle.astronomy.specs.Longitudes.{Longitudes}
-use Rattle.definitions.specs.Definitions.{definitionAt}
-use Rattle.latitude.specs.Latitude.{Factors}
-use Rattle.satellites.specs.Satellites.{Pair}
-use Rattle.pairs.specs.Pairs as pairs
-use Rattle.pairs.specs.Pairs.{Corrected, pair}
-use Rattle.worked.specs.Worked.{argumentOf, correctionOf}
+use Rattle.station.specs.declared.records.Record.{Record}
+use Rattle.month_arguments.specs.Longitudes.{Longitudes}
+use Rattle.table.specs.Definitions.{definitionAt}
+use Rattle.month_satellites.specs.Latitude.{Factors}
+use Rattle.month_satellites.specs.Satellites.{Pair}
+use Rattle.month_pairs.specs.Pairs as pairs
+use Rattle.month_pairs.specs.Pairs.{Corrected, pair}
+use Rattle.month_workings.specs.Worked.{argumentOf, correctionOf}
 use Rattle.month.specs.Month.{Prepared, tooLarge, prepared, before, recordThen, recordsPrepared, constituent, frequenciesIn, monthOf}
 
 module _ (most : ℕ) (none : Constituent) (z : none .frequency ≡ 0) where

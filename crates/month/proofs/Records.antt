@@ -7,24 +7,24 @@ use native.Mathlib.Omega.{arith}
 use native.Mathlib.Nat.{sub-zero}
 use lib.ListN.{getD}
 use Rattle.table.specs.Table.{Main, Shallow}
-use Rattle.prepared.specs.Prepared.{Constituent}
-use Rattle.records.specs.Rows.{recordFrom, recordsFrom}
-use Rattle.astronomy.specs.Longitudes.{Longitudes}
-use Rattle.definitions.specs.Definitions.{definitionAt}
-use Rattle.latitude.specs.Latitude.{Factors}
-use Rattle.satellites.specs.Satellites.{Pair}
-use Rattle.pairs.specs.Pairs as pairs
-use Rattle.pairs.specs.Pairs.{pair}
-use Rattle.pairs.specs.Ranges.{Small}
-use Rattle.satellites.specs.Ranges.{Sized}
-use Rattle.satellites.specs.View.{pairOf}
-use Rattle.pairs.specs.View.{correctedOf}
-use Rattle.satellites.specs.declared.Pair as code
-use Rattle.pairs.specs.declared.Corrected.the-variants.{TooLarge, Within}
-use Rattle.worked.specs.Worked.{argumentOf, correctionOf}
+use Rattle.month_prepared.specs.Prepared.{Constituent}
+use Rattle.station.specs.RecordsRows.{recordFrom, recordsFrom}
+use Rattle.month_arguments.specs.Longitudes.{Longitudes}
+use Rattle.table.specs.Definitions.{definitionAt}
+use Rattle.month_satellites.specs.Latitude.{Factors}
+use Rattle.month_satellites.specs.Satellites.{Pair}
+use Rattle.month_pairs.specs.Pairs as pairs
+use Rattle.month_pairs.specs.Pairs.{pair}
+use Rattle.month_pairs.specs.Ranges.{Small}
+use Rattle.month_satellites.specs.SatellitesRanges.{Sized}
+use Rattle.month_satellites.specs.View.{pairOf}
+use Rattle.month_pairs.specs.PairsView.{correctedOf}
+use Rattle.month_satellites.specs.declared.satellites.Pair as code
+use Rattle.month_pairs.specs.declared.pairs.Corrected.the-variants.{TooLarge, Within}
+use Rattle.month_workings.specs.Worked.{argumentOf, correctionOf}
 use Rattle.month.specs.Month.{Prepared, tooLarge, prepared, before, recordThen, recordsPrepared, weight, constituent}
-use Rattle.worked.specs.View.{IsWorked}
-use Rattle.worked.specs.declared.Worked.{Worked}
+use Rattle.month_workings.specs.View.{IsWorked}
+use Rattle.month_workings.specs.declared.worked.Worked.{Worked}
 
 -- what is done goes before what is left
 joined : (cs : List Constituent) (c : Constituent) (rest : Prepared) → before cs (before (c ∷ []) rest) ≡ before (cs ++ (c ∷ [])) rest

@@ -4,9 +4,9 @@ use Prim.Native.Nat.{ℕ}
 use Rattle.table.specs.View.{frequencyOf, tableOf}
 use Rattle.table.specs.declared.Table.{Table}
 use Rattle.station.specs.Station.{Station}
-use Rattle.entries.proofs.Beyond.{listed-map}
-use Rattle.astronomy.specs.Longitudes.{longitudesOn}
-use Rattle.latitude.specs.Latitude.{factorsAt}
+use Rattle.table.proofs.entries.Beyond.{listed-map}
+use Rattle.month_arguments.specs.Longitudes.{longitudesOn}
+use Rattle.month_satellites.specs.Latitude.{factorsAt}
 use Rattle.month.specs.Month.{monthDay, monthOf}
 use Rattle.month.specs.View.{rowsPrepared}
 

@@ -7,16 +7,16 @@ use lib.ListN.{getD}
 use Rattle.angles.specs.Floor.{floorDiv}
 use Rattle.calendar.specs.Calendar.{dayCount}
 use Rattle.table.specs.Table.{Main, Shallow, Table}
-use Rattle.prepared.specs.Prepared.{Constituent}
+use Rattle.month_prepared.specs.Prepared.{Constituent}
 use Rattle.station.specs.Station.{Station}
-use Rattle.records.specs.declared.Record.{Record}
-use Rattle.definitions.specs.Definitions.{definitionAt}
-use Rattle.astronomy.specs.Longitudes.{Longitudes, longitudesOn}
-use Rattle.latitude.specs.Latitude.{Factors, factorsAt}
-use Rattle.satellites.specs.Satellites.{Pair}
-use Rattle.pairs.specs.Pairs as pairs
-use Rattle.pairs.specs.Pairs.{Corrected, pair}
-use Rattle.worked.specs.Worked.{argumentOf, correctionOf}
+use Rattle.station.specs.declared.records.Record.{Record}
+use Rattle.table.specs.Definitions.{definitionAt}
+use Rattle.month_arguments.specs.Longitudes.{Longitudes, longitudesOn}
+use Rattle.month_satellites.specs.Latitude.{Factors, factorsAt}
+use Rattle.month_satellites.specs.Satellites.{Pair}
+use Rattle.month_pairs.specs.Pairs as pairs
+use Rattle.month_pairs.specs.Pairs.{Corrected, pair}
+use Rattle.month_workings.specs.Worked.{argumentOf, correctionOf}
 
 -- "The month's instant is 00:00 on the 16th; d is its day count from 1 January 1976."
 unfoldable pub monthDay : ℕ → ℕ → ℤ

@@ -2,15 +2,15 @@
 use Prim.Native.Nat.{ℕ}
 use mathlib.Core.List.{List}
 use lib.ListN.{getD}
-use Rattle.prepared.specs.Prepared.{Constituent}
-use Rattle.prepared.specs.View.{constituentsFrom, constituentsOf}
-use Rattle.prepared.specs.declared.Month.{Month}
+use Rattle.month_prepared.specs.Prepared.{Constituent}
+use Rattle.month_prepared.specs.View.{constituentsFrom, constituentsOf}
+use Rattle.month_prepared.specs.declared.Month.{Month}
 use Rattle.table.specs.View.{listed}
 use Rattle.table.specs.declared.Table as table
-use Rattle.records.specs.declared.Record.{Record}
-use Rattle.astronomy.specs.Longitudes.{Longitudes}
-use Rattle.latitude.specs.Latitude.{Factors}
-use Rattle.worked.specs.View.{mainsOf, shallowsOf}
+use Rattle.station.specs.declared.records.Record.{Record}
+use Rattle.month_arguments.specs.Longitudes.{Longitudes}
+use Rattle.month_satellites.specs.Latitude.{Factors}
+use Rattle.month_workings.specs.View.{mainsOf, shallowsOf}
 use Rattle.month.specs.Month.{Prepared, tooLarge, prepared, recordsPrepared}
 use Rattle.month.specs.declared.Preparation.{Preparation}
 use Rattle.month.specs.declared.Preparation.the-variants as preparation

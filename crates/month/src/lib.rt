@@ -1,19 +1,19 @@
 // A station's constituents in a month: V, frequency and the weights P and Q of each record, or refusal 11.
 use angles::TURN;
 use angles::floor_div;
-use astronomy::Longitudes;
-use astronomy::longitudes_on;
 use calendar::day_count;
-use latitude::Factors;
-use latitude::latitude_factors;
-use pairs::Corrected;
-use prepared::Month;
-use prepared::held;
-use prepared::no_constituents;
+use month_arguments::astronomy::Longitudes;
+use month_arguments::astronomy::longitudes_on;
+use month_pairs::pairs::Corrected;
+use month_prepared::Month;
+use month_prepared::held;
+use month_prepared::no_constituents;
+use month_satellites::latitude::Factors;
+use month_satellites::latitude::latitude_factors;
+use month_workings::worked::work_out;
 use station::Station;
 use table::Table;
 use table::at_u64;
-use worked::work_out;
 ghost use mathlib.Core.Path.{_≡_};
 ghost use mathlib.Core.Bool.{true};
 ghost use Prim.Native.Nat.{_<_, _≤_, _^_};
@@ -22,12 +22,12 @@ ghost use lib.ListN.{length, getD};
 ghost use Rattle.calendar.specs.Calendar.{inRange};
 ghost use Rattle.cosine.specs.Fixed.{IsTable};
 ghost use Rattle.table.specs.View.{tableOf};
-ghost use Rattle.records.specs.Rows.{recordsFrom};
+ghost use Rattle.station.specs.RecordsRows.{recordsFrom};
 ghost use Rattle.station.specs.Rows.{stationOf};
-ghost use Rattle.astronomy.specs.View.{longitudesOf, Reduced};
-ghost use Rattle.latitude.specs.Ranges.{AreFactors, factorsOf};
+ghost use Rattle.month_arguments.specs.AstronomyView.{longitudesOf, Reduced};
+ghost use Rattle.month_satellites.specs.LatitudeRanges.{AreFactors, factorsOf};
 ghost use Rattle.month.specs.Month.{weight, recordsPrepared, monthOf};
-ghost use Rattle.worked.specs.View.{mainsOf, shallowsOf};
+ghost use Rattle.month_workings.specs.View.{mainsOf, shallowsOf};
 ghost use Rattle.month.specs.View.{preparedOf, frequenciesOf};
 
 // What preparing a month says: that it is ready, or the record, from 1, that is refused by 11.

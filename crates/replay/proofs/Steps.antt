@@ -3,8 +3,8 @@ use mathlib.Core.Path.{_≡_, sym, subst}
 use Prim.Native.Nat.{ℕ}
 use Rattle.clock.specs.declared.Clock.{Clock}
 use Rattle.clock.specs.View.{Made}
-use Rattle.input.specs.declared.Window.{Window}
-use Rattle.input.specs.Window.{Within}
+use Rattle.transcript.specs.declared.input.Window.{Window}
+use Rattle.transcript.specs.Window.{Within}
 use Rattle.replay.specs.declared.Step.{Step}
 use Rattle.replay.specs.Posts.{StepPost}
 

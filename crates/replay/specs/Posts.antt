@@ -1,7 +1,7 @@
 -- What a call of the replay leaves, over a buffer of n bytes. Assumes nothing.
 use Prim.Native.Nat.{ℕ}
 use Rattle.clock.specs.View.{Made}
-use Rattle.input.specs.Window.{Within}
+use Rattle.transcript.specs.Window.{Within}
 use Rattle.replay.specs.declared.Step.{Step}
 
 -- the clock is one that a clock call made, and the window stands in the buffer

@@ -4,13 +4,16 @@
 ghost use mathlib.Core.Path.{_≡_};
 ghost use lib.ListN.{length};
 ghost use Rattle.clock.specs.View.{Made};
-ghost use Rattle.input.specs.Window.{Within};
+ghost use Rattle.transcript.specs.Window.{Within};
 ghost use Rattle.replay.specs.Posts.{StepPost};
 use clock::Clock;
 use clock::HeightAnswer;
 use clock::TurnsAnswer;
-use input::Window;
 use script::Call;
+use transcript::answers;
+use transcript::input;
+use transcript::input::Window;
+use transcript::reading;
 
 // What a call leaves: the clock, what is left of the input, the next place on the page, and whether the run goes on.
 struct Step {

@@ -13,10 +13,10 @@ use mir.Syntax.{w32, w64}
 use mir.Val.{SFits, toZ, ofZ}
 use mir.ValLaws.{toZ-pos, toZ-ofZ}
 use native.Mathlib.Omega.{arith}
-use Rattle.words.specs.Words.{words, inFront}
+use Rattle.script.specs.Words.{words, inFront}
 use Rattle.script.specs.Script.{hasMinus, behindMinus}
-use Rattle.words.specs.Left.{wordsFrom}
-use Rattle.words.proofs.Words.{words-first}
+use Rattle.script.specs.Left.{wordsFrom}
+use Rattle.script.proofs.words.Words.{words-first}
 
 -- the words of a line that begins with a byte
 hasMinus-cons : (b : ℕ) (bs : List ℕ) → hasMinus (words (b ∷ bs)) ≡ eqb b 45

@@ -4,7 +4,7 @@ use mathlib.Core.List.{List, [], _∷_}
 use mathlib.Core.Bool.{Bool, true, false, cond, _&&_}
 use lib.Dec.{eqb}
 use lib.IntN.{ℤ, pos, negℤ}
-use Rattle.words.specs.Words.{words, largest, reading, onward, lastNumber, given}
+use Rattle.script.specs.Words.{words, largest, reading, onward, lastNumber, given}
 use Rattle.script.specs.declared.Call.{Call}
 use Rattle.script.specs.declared.Call.the-variants.{Cards, Station, Date, Height, Series, Turns, Bad}
 use Rattle.script.specs.declared.Entry.{Entry}

@@ -5,13 +5,16 @@ ghost use Prim.Native.Nat.{_+_, _-_, _≤_, _^_};
 ghost use lib.ListN.{length};
 ghost use lib.IntN.{pos, negℤ};
 ghost use Rattle.script.specs.Script.{callOf, callOfWords, recordOf, same, hasMinus, stationAt, stationOf, cardsOf, dateOf, heightOf, seriesOf, turnsOf};
-ghost use Rattle.words.specs.Left.{wordsFrom};
-use words::Field;
-use words::LARGEST;
-use words::Number;
-use words::field_at;
-use words::last_at;
-use words::word_end;
+ghost use Rattle.script.specs.Left.{wordsFrom};
+
+mod words; // The words of a line, and the decimal numbers among them
+
+use crate::words::Field;
+use crate::words::LARGEST;
+use crate::words::Number;
+use crate::words::field_at;
+use crate::words::last_at;
+use crate::words::word_end;
 
 // A line's call: its word and its numbers.
 pub enum Call {

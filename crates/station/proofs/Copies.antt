@@ -7,9 +7,9 @@ use native.Mathlib.Numerals.{add-one}
 use native.Mathlib.Omega.{arith}
 use lib.ListN.{getD, set, replicate}
 use lib.IntN.{ℤ}
-use Rattle.records.specs.declared.Rows.{Rows}
-use Rattle.records.specs.Rows.{recordsFrom, recordsOf}
-use Rattle.records.proofs.Copies.{stored, stored-at}
+use Rattle.station.specs.declared.records.Rows.{Rows}
+use Rattle.station.specs.RecordsRows.{recordsFrom, recordsOf}
+use Rattle.station.proofs.records.Copies.{stored, stored-at}
 use Rattle.station.specs.declared.Station as code
 use Rattle.station.specs.Rows.{noStation, stationUpto, stationOf}
 

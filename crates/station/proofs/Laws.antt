@@ -14,12 +14,12 @@ use Rattle.refusals.specs.Outcome.{Outcome, accepted, refused, refuseIf, andThe
 use Rattle.refusals.specs.declared.Answer.{Answer}
 use Rattle.refusals.specs.declared.Answer.the-variants.{Refused}
 use Rattle.refusals.specs.declared.Refusal.{Refusal}
-use Rattle.records.specs.declared.Record.{Record}
-use Rattle.records.specs.declared.Rows.{Rows}
+use Rattle.station.specs.declared.records.Record.{Record}
+use Rattle.station.specs.declared.records.Rows.{Rows}
 use Rattle.station.specs.declared.Station as code
 use Rattle.station.specs.Station.{repeated, recordOutcome, recordsOutcome}
 use Rattle.station.specs.Rows.{placesBefore, stationUpto, putRecord}
-use Rattle.records.specs.Rows.{recordAt, recordsFrom}
+use Rattle.station.specs.RecordsRows.{recordAt, recordsFrom}
 
 -- a place among the first k is the last of them, or among those before it
 pub repeated-more : (place : ℕ) (places : List ℕ) (k : ℕ) → 0 < k

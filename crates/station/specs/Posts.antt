@@ -5,8 +5,8 @@ use mathlib.Core.List.{[]}
 use mathlib.Core.Path.{_≡_}
 use lib.IntN.{ℤ}
 use Rattle.refusals.specs.Outcome.{accepted, outcomeOf}
-use Rattle.records.specs.declared.Rows.{Rows}
-use Rattle.records.specs.Rows.{recordsOf}
+use Rattle.station.specs.declared.records.Rows.{Rows}
+use Rattle.station.specs.RecordsRows.{recordsOf}
 use Rattle.station.specs.declared.Station as code
 use Rattle.station.specs.declared.Taken.{Taken}
 use Rattle.station.specs.Station.{recordsOutcome, stationOutcome}

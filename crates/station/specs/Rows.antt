@@ -4,8 +4,8 @@ use Prim.Native.Nat.{ℕ, zero, suc, _+_, min}
 use mathlib.Core.List.{List, [], _∷_}
 use lib.ListN.{getD, set, replicate}
 use lib.IntN.{ℤ}
-use Rattle.records.specs.declared.Rows.{Rows}
-use Rattle.records.specs.Rows.{recordsFrom}
+use Rattle.station.specs.declared.records.Rows.{Rows}
+use Rattle.station.specs.RecordsRows.{recordsFrom}
 use Rattle.station.specs.declared.Station as code
 use Rattle.station.specs.Station.{Station}
 

@@ -8,7 +8,7 @@ use lib.Dec.{eqb, leb, ltb}
 use lib.IntN.{ℤ, pos, negsuc}
 use lib.Signed.{ltZ}
 use Rattle.refusals.specs.Outcome.{Outcome, accepted, refuseIf, andThen}
-use Rattle.records.specs.declared.Record.{Record}
+use Rattle.station.specs.declared.records.Record.{Record}
 
 -- "A station is a latitude in signed minutes [..] and at most 146 constituents [..] lent as one row of records: place, amplitude, phase."
 pub record Station : Type 0 where

@@ -5,8 +5,12 @@ ghost use Rattle.refusals.specs.Outcome.{outcomeOf};
 ghost use Rattle.station.specs.Station.{repeated, recordOutcome};
 ghost use Rattle.station.specs.Rows.{placesBefore, noStation, putRecord};
 ghost use Rattle.station.specs.Posts.{RecordsPost, StationPost};
-ghost use Rattle.records.specs.Rows.{recordAt};
-use records::Rows;
+ghost use Rattle.station.specs.RecordsRows.{recordAt};
+
+pub mod records; // A station's records as they are lent, one for each constituent, taken apart into an array for each field
+pub mod recordarrays; // A station's records that lie in three arrays
+
+use crate::records::Rows;
 use refusals::Answer;
 use refusals::Refusal;
 

@@ -2,10 +2,13 @@
 // each, and the station file. It writes the checksums of both, the station's name and time zone, and the latitude and the records, or the refusal.
 use card::Natural;
 use card::natural_field;
+use files::checksum;
 use libc::STDOUT_FILENO;
-use records::Rows;
 use refusals::Answer;
-use stationfile::StationCards;
+use station::records::Rows;
+use station_file::stationcards;
+use station_file::stationfile;
+use station_file::stationfile::StationCards;
 
 // A text as it stands.
 fn put(text: &[u8]) {

@@ -1,1 +1,3 @@
 pub mod Swings
+pub mod Kept
+pub mod Month

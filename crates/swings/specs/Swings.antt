@@ -5,7 +5,7 @@ use mathlib.Core.List.{List}
 use lib.Dec.{eqb, leb, ltb}
 use lib.IntN.{ℤ, pos}
 use lib.ListN.{getD}
-use Rattle.scale.specs.Heights.{raised}
+use Rattle.drawing_plots.specs.Heights.{raised}
 
 -- how far two heights lie apart, as a drawing counts them: one of the two differences is 0
 unfoldable pub apart : ℤ → ℤ → ℕ

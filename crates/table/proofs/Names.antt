@@ -7,7 +7,7 @@ use native.Mathlib.Nat.{add-zero}
 use native.Mathlib.Numerals.{add-one}
 use lib.ListN.{getD}
 use Rattle.columns.specs.Columns.{padded}
-use Rattle.names.specs.Names.{namesFrom}
+use Rattle.columns.specs.Names.{namesFrom}
 use Rattle.table.specs.View.{listed, rowOf, frequencyOf}
 
 -- a row is its columns

@@ -1,2 +1,4 @@
 pub mod Table
 pub mod View
+pub mod Definitions
+pub mod DefinitionsView

@@ -7,6 +7,9 @@ ghost use lib.IntN.{pos};
 ghost use Rattle.table.specs.Table.{noCards};
 ghost use Rattle.table.specs.View.{tableOf};
 
+pub mod entries; // A number of a row of the table's arrays, by its column
+pub mod definitions; // What stands at a place of the table
+
 // 01's table; `specs/View.antt` says what each row holds.
 pub struct Table {
     pub frequencies: usize,

@@ -3,13 +3,16 @@
 ghost use mathlib.Core.Path.{_≡_};
 ghost use Prim.Native.Nat.{min};
 ghost use lib.ListN.{length};
-ghost use Rattle.records.specs.Rows.{recordsOf};
+ghost use Rattle.station.specs.RecordsRows.{recordsOf};
 ghost use Rattle.calls.specs.State.{nothing};
 ghost use Rattle.calls.specs.Calls.{stationLeaves, dateLeaves, seriesGives, turnsGives};
 ghost use Rattle.clock.specs.View.{view, Made};
-ghost use Rattle.often.specs.Often.{recordsIn, readOften, datedOften, seriesOften, lastTurns, heightsAt, stationed, dated, firstHigh};
+ghost use Rattle.timed.specs.Often.{recordsIn, readOften, datedOften, seriesOften, lastTurns, heightsAt, stationed, dated, firstHigh};
+
+mod often; // The clock's calls, each made as often as asked
+
 use clock::Clock;
-use records::Rows;
+use station::records::Rows;
 
 // A station's rows, from the lent arrays.
 fn rows_from<'a>(places: &'a [u8; 146], amplitudes: &'a [u32; 146], phases: &'a [u32; 146]) -> Rows

@@ -10,8 +10,8 @@ use lib.IntN.{ℤ}
 use lib.ListN.{length, getD, set, take, drop, length-map, drop-of-length-le}
 use lib.Seq.{sets, sets-eq, drop-cons, length-take-le, getD-take}
 use borrow.Author.Tests.{lt-ltb, le-ltb}
-use Rattle.search.specs.Search.{Turn, firstHigh, minutesOf}
-use Rattle.search.proofs.Stored.{stored-all}
+use Rattle.turns.specs.Search.{Turn, firstHigh, minutesOf}
+use Rattle.turns.proofs.search.Stored.{stored-all}
 use Rattle.turns.specs.Written.{found, refused, inFront, given}
 
 -- the first n of a list, each by a rule

@@ -6,9 +6,9 @@ use mathlib.Core.List.{List, [], _∷_, _++_, map}
 use lib.Dec.{ltb}
 use lib.IntN.{ℤ}
 use lib.ListN.{length, drop}
-use Rattle.prepared.specs.View.{constituentsFrom}
+use Rattle.month_prepared.specs.View.{constituentsFrom}
 use Rattle.heights.specs.Height.{heightAt}
-use Rattle.search.specs.Search.{Turn, firstHigh, minutesOf}
+use Rattle.turns.specs.Search.{Turn, firstHigh, minutesOf}
 use Rattle.turns.specs.declared.Searched.{Searched}
 use Rattle.turns.specs.declared.Searched.the-variants.{Found, TooMany}
 

@@ -4,12 +4,20 @@ ghost use mathlib.Core.List.{map};
 ghost use Prim.Native.Nat.{_≤_, _<_};
 ghost use lib.ListN.{length, take};
 ghost use Rattle.cosine.specs.Fixed.{IsTable};
-ghost use Rattle.slopes.specs.Slope.{InRange, slopeOf};
-ghost use Rattle.search.specs.Search.{turnsOf};
-ghost use Rattle.search.specs.Posts.{Kept};
+ghost use Rattle.turns.specs.Slope.{InRange, slopeOf};
+ghost use Rattle.turns.specs.Search.{turnsOf};
+ghost use Rattle.turns.specs.SearchPosts.{Kept};
 ghost use Rattle.turns.specs.Written.{inFront, given, givenOf, heightOf};
+
+mod slopes; // The slope of the water at a minute of a prepared month
+mod sense; // The sense of a slope
+mod bisection; // Bisection
+mod search; // The search for turns of the water
+mod tides; // The kind of a station's tides, by its daily and half-daily amplitudes, as the stride that it gives the search
+pub mod strides; // The stride of a station's own tides, by the amplitudes of K1, O1, M2 and S2
+
+use crate::search::Summary;
 use cosine::ENTRIES;
-use search::Summary;
 
 // What a search returns: what it found, or that there are more turns than a lent buffer holds.
 pub enum Searched {

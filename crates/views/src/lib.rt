@@ -10,10 +10,15 @@ ghost use Rattle.clock.specs.View.{Made};
 use clock::Clock;
 use clock::HeightAnswer;
 use clock::TurnsAnswer;
-use daysheet::Next;
-use face::Face;
+use digits::dates;
+use page::face::Face;
 use refusals::Answer;
 use refusals::Refusal;
+use sheets::daysheet;
+use sheets::daysheet::Next;
+use sheets::monthsheet;
+use station_file::stationcards;
+use swings::monthturns;
 
 // What is shown of a month: its sheet, a day's, heights from a start on, a step apart and so many, or a drawing.
 enum View {

@@ -4,8 +4,11 @@ use crate::View;
 use crate::of_month;
 use clock::Clock;
 use clock::TurnsAnswer;
-use face::Face;
+use digits::dates;
+use page::face::Face;
 use refusals::Answer;
+use station_file::stationcards;
+use swings::monthturns;
 
 // Whether the clock gives the month's turns; its refusal is said.
 fn has_turns(clock: Clock, year: u32, month: u32) -> bool

@@ -5,8 +5,10 @@ ghost use Rattle.clock.specs.View.{Made};
 use crate::View;
 use crate::of_month;
 use clock::Clock;
-use face::Face;
+use page::face::Face;
 use refusals::Answer;
+use sheets::csv;
+use station_file::stationcards;
 
 // A place for each minute of the longest month, and one more, so that a series that is as long as that is refused by the clock.
 fn height_places() -> [i64; 44642]

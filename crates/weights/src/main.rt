@@ -5,16 +5,20 @@ ghost use mathlib.Core.Path.{_≡_};
 ghost use mathlib.Core.Bool.{true};
 ghost use lib.ListN.{length};
 ghost use Rattle.calendar.specs.Calendar.{inRange};
-ghost use Rattle.input.specs.Window.{Within};
-use input::Window;
+ghost use Rattle.transcript.specs.Window.{Within};
+use card_file::cardfile;
 use month::Preparation;
-use prepared::Month;
-use records::Rows;
+use month_prepared::Month;
 use refusals::Answer;
 use refusals::Refusal;
 use script::Call;
 use station::Station;
+use station::records::Rows;
 use table::Table;
+use transcript::answers;
+use transcript::input;
+use transcript::input::Window;
+use transcript::reading;
 
 // What the calls leave: a table and a station, each there or not.
 struct Kept {

@@ -11,8 +11,8 @@ use mir.ValLaws.{toZ-ofZ}
 use Rattle.refusals.specs.Outcome.{outcomeOf}
 use Rattle.table.specs.View.{tableOf}
 use Rattle.station.specs.Rows.{stationOf}
-use Rattle.asked.proofs.Passed.{height-within}
-use Rattle.calls.proofs.Asked.{height-refused, height-given}
+use Rattle.calls.proofs.asked.Passed.{height-within}
+use Rattle.calls.proofs.Posed.{height-refused, height-given}
 use Rattle.clock.specs.View.{view, monthIn}
 
 height-answer-requires : tie.Need-height-answer-requires

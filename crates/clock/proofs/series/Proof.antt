@@ -8,8 +8,8 @@ use mathlib.Core.Path.{sym, ap, _∙_}
 use Rattle.refusals.specs.Outcome.{outcomeOf}
 use Rattle.table.specs.View.{tableOf}
 use Rattle.station.specs.Rows.{stationOf}
-use Rattle.asked.proofs.Passed.{series-within}
-use Rattle.calls.proofs.Asked.{series-refused, series-given}
+use Rattle.calls.proofs.asked.Passed.{series-within}
+use Rattle.calls.proofs.Posed.{series-refused, series-given}
 use Rattle.clock.specs.View.{view, monthIn}
 
 series-answer-requires : tie.Need-series-answer-requires

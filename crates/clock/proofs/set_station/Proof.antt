@@ -39,17 +39,17 @@ use denote.Triple.Call.{calls-at}
 use denote.Triple.Clauses.{ensured, lasts}
 use denote.Triple.Table.{entered, cited}
 use denote.Triple.Walked.{says, needs, Stays, stay-none, stay-dropped, stay-none-slice, walkOf, Walks, ends-at, walked, goes-none, goes-dropped, goes-none-slice, walk-meets}
-use Rattle.records.specs.declared.Record.{Record}
-use Rattle.records.specs.declared.Rows.{Rows}
-use Rattle.records.specs.Rows.{rowsUpto}
-use Rattle.records.specs.Rows.{recordsOf}
-use Rattle.records.proofs.Record as T
-use Rattle.records.proofs.Rows as R
-use Rattle.records.proofs.Rows.Laws as R′
-use Rattle.records.proofs.rows_of as rows
-use Rattle.records.proofs.rows_of.Symbol as rows-def
-use Rattle.records.proofs.rows_of.Symbol.{name as #records·rows-of}
-use Rattle.records.proofs.rows_of.Met as rows-thm
+use Rattle.station.specs.declared.records.Record.{Record}
+use Rattle.station.specs.declared.records.Rows.{Rows}
+use Rattle.station.specs.RecordsRows.{rowsUpto}
+use Rattle.station.specs.RecordsRows.{recordsOf}
+use Rattle.station.proofs.records.Record as T
+use Rattle.station.proofs.records.Rows as R
+use Rattle.station.proofs.records.Rows.Laws as R′
+use Rattle.station.proofs.records.rows_of as rows
+use Rattle.station.proofs.records.rows_of.Symbol as rows-def
+use Rattle.station.proofs.records.rows_of.Symbol.{name as #records·rows-of}
+use Rattle.station.proofs.records.rows_of.Met as rows-thm
 use Rattle.clock.specs.declared.Clock.{Clock}
 use Rattle.clock.specs.declared.After.{After}
 use Rattle.clock.specs.View.{Made}
@@ -185,5 +185,5 @@ set-station-spec 𝓤 H 𝓜 𝓖 𝓡 =
     entered 𝓤 H (tripleOf 𝓤 H (𝓖 .A) it.signature (it.spec 𝓤 H (𝓖 .A) (𝓜 .mem) (𝓡 .run)))
     (tables 𝓤 H 𝓜 𝓡 code.env .C) (tables 𝓤 H 𝓜 𝓡 code.env .Λ) #clock·set-station code.function (code.unfolded 𝓤 H 𝓜 𝓡)
     (it-meets 𝓤 H (𝓖 .A) (givenOf 𝓤 H 𝓜 𝓖) (𝓜 .mem) (𝓡 .run) (tablesOf 𝓤 H 𝓜 (tables 𝓤 H 𝓜 𝓡 code.env))
-    (cited 𝓤 H (RowsOf 𝓤 H (𝓖 .A) (𝓜 .mem) (𝓡 .run)) 𝓜 𝓡 code.env #records·rows-of rows-def.routine code.calls-records·rows-of (rows-thm.met 𝓤 H 𝓜 𝓖 𝓡))
+    (cited 𝓤 H (RowsOf 𝓤 H (𝓖 .A) (𝓜 .mem) (𝓡 .run)) 𝓜 𝓡 code.env #records·rows-of rows-def.routine code.calls-station·records·rows-of (rows-thm.met 𝓤 H 𝓜 𝓖 𝓡))
     (cited 𝓤 H (Place 𝓤 H (𝓖 .A) (𝓜 .mem) (𝓡 .run)) 𝓜 𝓡 code.env #clock·place-station place-def.routine code.calls-clock·place-station (place-thm.met 𝓤 H 𝓜 𝓖 𝓡)))

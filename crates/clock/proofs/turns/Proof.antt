@@ -8,9 +8,9 @@ use mathlib.Core.Path.{sym, ap, _∙_}
 use Rattle.refusals.specs.Outcome.{outcomeOf}
 use Rattle.table.specs.View.{tableOf}
 use Rattle.station.specs.Rows.{stationOf}
-use Rattle.asked.proofs.Passed.{turns-within}
+use Rattle.calls.proofs.asked.Passed.{turns-within}
 use Rattle.calls.specs.Calls.{searched}
-use Rattle.calls.proofs.Asked.{turns-refused, turns-given}
+use Rattle.calls.proofs.Posed.{turns-refused, turns-given}
 use Rattle.clock.specs.View.{view, monthIn}
 
 turns-answer-requires : tie.Need-turns-answer-requires

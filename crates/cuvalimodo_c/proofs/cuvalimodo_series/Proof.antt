@@ -5,7 +5,7 @@ use Rattle.cuvalimodo_c.proofs.cuvalimodo_series.Tie as tie
 use mathlib.Core.Path.{ap}
 use mir.ValLaws.{toZ-ofZ}
 use mir.Syntax.{w32}
-use Rattle.onecall.specs.Setting.{settingReturned}
+use Rattle.cuvalimodo_c.specs.Setting.{settingReturned}
 use Rattle.cuvalimodo_c.proofs.Once.{series-unset, series-asked}
 
 ready-clock-requires : tie.Need-ready-clock-requires

@@ -8,8 +8,8 @@ use mir.Syntax.{w64}
 use mir.ValLaws.{toZ-ofZ}
 use Rattle.columns.proofs.Columns.{padded-next}
 use Rattle.fields.specs.Number.{numberOf, unblanked}
-use Rattle.numerals.proofs.Digits.{begins-within}
-use Rattle.numerals.proofs.Sizes.{field-behind}
+use Rattle.fields.proofs.numerals.Digits.{begins-within}
+use Rattle.fields.proofs.numerals.Sizes.{field-behind}
 
 part-requires : tie.Need-part-requires
 part-requires c κs = search needs

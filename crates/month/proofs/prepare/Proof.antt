@@ -11,11 +11,11 @@ use mir.Val.{SFits}
 use mir.ValLaws.{toZ-ofZ}
 use Rattle.angles.proofs.Machine.{fits-below}
 use Rattle.calendar.proofs.Days.{count-small}
-use Rattle.astronomy.specs.Longitudes.{longitudesOn}
-use Rattle.astronomy.specs.View.{longitudesOf}
-use Rattle.astronomy.proofs.Reduced.{are-reduced}
-use Rattle.latitude.specs.Latitude.{factorsAt}
-use Rattle.latitude.specs.Ranges.{factorsOf}
+use Rattle.month_arguments.specs.Longitudes.{longitudesOn}
+use Rattle.month_arguments.specs.AstronomyView.{longitudesOf}
+use Rattle.month_arguments.proofs.astronomy.Reduced.{are-reduced}
+use Rattle.month_satellites.specs.Latitude.{factorsAt}
+use Rattle.month_satellites.specs.LatitudeRanges.{factorsOf}
 use Rattle.station.specs.Rows.{stationOf}
 use Rattle.month.specs.Month.{monthDay}
 use Rattle.month.proofs.Whole.{rows-are-month}

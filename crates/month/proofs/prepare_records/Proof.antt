@@ -10,17 +10,17 @@ use mir.Syntax.{w32, w64}
 use mir.Val.{SFits, toZ, ofZ}
 use mir.ValLaws.{toZ-ofZ}
 use Rattle.angles.proofs.Machine.{held, fits-below}
-use Rattle.astronomy.specs.Longitudes.{nodal}
-use Rattle.astronomy.specs.View.{longitudesOf}
-use Rattle.latitude.specs.Ranges.{factorsOf}
-use Rattle.satellites.specs.Ranges.{Sized}
-use Rattle.pairs.specs.Ranges.{Small}
-use Rattle.prepared.specs.View.{constituentsAfter}
-use Rattle.records.specs.Rows.{recordsFrom}
-use Rattle.workings.specs.Kept.{argumentAt, correctedAt, Kept}
-use Rattle.workings.proofs.None.{none-kept}
+use Rattle.month_arguments.specs.Longitudes.{nodal}
+use Rattle.month_arguments.specs.AstronomyView.{longitudesOf}
+use Rattle.month_satellites.specs.LatitudeRanges.{factorsOf}
+use Rattle.month_satellites.specs.SatellitesRanges.{Sized}
+use Rattle.month_pairs.specs.Ranges.{Small}
+use Rattle.month_prepared.specs.View.{constituentsAfter}
+use Rattle.station.specs.RecordsRows.{recordsFrom}
+use Rattle.month_workings.specs.Kept.{argumentAt, correctedAt, Kept}
+use Rattle.month_workings.proofs.workings.None.{none-kept}
 use Rattle.month.specs.Month.{before, prepared, weight, recordsPrepared}
-use Rattle.worked.specs.View.{mainsOf, shallowsOf}
+use Rattle.month_workings.specs.View.{mainsOf, shallowsOf}
 use Rattle.month.specs.View.{heldUpto, frequenciesOf}
 use Rattle.month.proofs.Put.{Room, with-one, room-kept, stands-last}
 use Rattle.month.proofs.Records.{left, all-done, none-done, refused-at, accepted-at}

@@ -6,9 +6,9 @@ use mir.Val.{SFits}
 use mir.ValLaws.{toZ-ofZ}
 use borrow.Author.Needs.{needs}
 use Rattle.script.specs.Script.{stationOf}
-use Rattle.words.specs.Words.{reading}
-use Rattle.words.specs.Left.{wordsFrom, readingAt}
-use Rattle.words.proofs.Words.{field-most}
+use Rattle.script.specs.Words.{reading}
+use Rattle.script.specs.Left.{wordsFrom, readingAt}
+use Rattle.script.proofs.words.Words.{field-most}
 use Rattle.script.proofs.Latitudes.{behind-is}
 use Rattle.script.proofs.latitude_at.Statement.{statement}
 use Rattle.script.proofs.latitude_at.Tie as tie

@@ -3,7 +3,7 @@ use mathlib.Core.Path.{sym}
 use native.Mathlib.Omega.{arith}
 use lib.Seq.{length-take-le}
 use borrow.Author.Needs.{needs}
-use Rattle.words.proofs.Words.{words-are}
+use Rattle.script.proofs.words.Words.{words-are}
 use Rattle.script.proofs.parse_call.Statement.{statement}
 use Rattle.script.proofs.parse_call.Tie as tie
 

@@ -2,8 +2,8 @@
 use native.Mathlib.Omega.{arith}
 use borrow.Author.Needs.{needs}
 use Rattle.script.specs.Script.{recordOfWords}
-use Rattle.words.specs.Left.{wordsFrom}
-use Rattle.words.proofs.Words.{field-most}
+use Rattle.script.specs.Left.{wordsFrom}
+use Rattle.script.proofs.words.Words.{field-most}
 use Rattle.script.proofs.parse_record.Statement.{statement}
 use Rattle.script.proofs.parse_record.Tie as tie
 

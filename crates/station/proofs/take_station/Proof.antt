@@ -14,10 +14,10 @@ use lib.Signed.{ltZ}
 use borrow.Author.Tests.{lt-ltb, le-ltb}
 use Rattle.refusals.specs.declared.Refusal.the-variants.{OutOfRange, TooMany}
 use Rattle.station.specs.Station.{stationOutcome}
-use Rattle.records.specs.Rows.{recordsOf}
+use Rattle.station.specs.RecordsRows.{recordsOf}
 use Rattle.station.proofs.Laws.{not-accepted}
 use Rattle.station.proofs.Copies.{kept-is}
-use Rattle.records.proofs.Copies.{records-length}
+use Rattle.station.proofs.records.Copies.{records-length}
 use mathlib.Core.Path.{refl}
 use mir.Syntax.{w32}
 use mir.ValLaws.{toZ-ofZ}

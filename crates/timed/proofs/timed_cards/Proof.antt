@@ -4,7 +4,7 @@ use mir.Syntax.{w32}
 use mir.ValLaws.{toZ-ofZ}
 use Rattle.calls.specs.State.{State}
 use Rattle.calls.specs.Calls.{stationLeaves, dateLeaves, SeriesGiven, seriesGives}
-use Rattle.often.specs.Often.{recordsIn, readOften}
+use Rattle.timed.specs.Often.{recordsIn, readOften}
 use borrow.Author.Needs.{needs}
 use Rattle.timed.proofs.timed_cards.Statement.{statement}
 use Rattle.timed.proofs.timed_cards.Tie as tie

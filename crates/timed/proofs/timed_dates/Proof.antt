@@ -4,7 +4,7 @@ use mir.Syntax.{w32}
 use mir.ValLaws.{toZ-ofZ}
 use Rattle.calls.specs.State.{State}
 use Rattle.calls.specs.Calls.{SeriesGiven, seriesGives}
-use Rattle.often.specs.Often.{datedOften}
+use Rattle.timed.specs.Often.{datedOften}
 use borrow.Author.Needs.{needs}
 use Rattle.timed.proofs.timed_dates.Statement.{statement}
 use Rattle.timed.proofs.timed_dates.Tie as tie

@@ -5,7 +5,7 @@ use mir.ValLaws.{toZ-ofZ}
 use Rattle.calls.specs.State.{State}
 use Prim.Native.Nat.{min}
 use lib.ListN.{length}
-use Rattle.often.specs.Often.{heightsAt}
+use Rattle.timed.specs.Often.{heightsAt}
 use borrow.Author.Needs.{needs}
 use Rattle.timed.proofs.timed_heights.Statement.{statement}
 use Rattle.timed.proofs.timed_heights.Tie as tie

@@ -3,7 +3,7 @@ use mathlib.Core.Path.{_∙_, ap}
 use mir.Syntax.{w32}
 use mir.ValLaws.{toZ-ofZ}
 use Rattle.calls.specs.State.{State}
-use Rattle.often.specs.Often.{seriesOften}
+use Rattle.timed.specs.Often.{seriesOften}
 use borrow.Author.Needs.{needs}
 use Rattle.timed.proofs.timed_series.Statement.{statement}
 use Rattle.timed.proofs.timed_series.Tie as tie

@@ -4,7 +4,7 @@ use mir.Syntax.{w32}
 use mir.ValLaws.{toZ-ofZ}
 use Rattle.calls.specs.State.{State}
 use Rattle.calls.specs.Calls.{TurnsGiven}
-use Rattle.often.specs.Often.{recordsIn, dated, turnsOften, firstHigh}
+use Rattle.timed.specs.Often.{recordsIn, dated, turnsOften, firstHigh}
 use borrow.Author.Needs.{needs}
 use Rattle.timed.proofs.timed_turns.Statement.{statement}
 use Rattle.timed.proofs.timed_turns.Tie as tie

@@ -3,8 +3,8 @@ use borrow.Author.Needs.{needs}
 use Rattle.turns.proofs.turns.Statement.{statement}
 use Rattle.turns.proofs.turns.Tie as tie
 use native.Mathlib.Omega.{arith}
-use Rattle.search.specs.Search.{turnsOf}
-use Rattle.slopes.specs.Slope.{slopeOf}
+use Rattle.turns.specs.Search.{turnsOf}
+use Rattle.turns.specs.Slope.{slopeOf}
 use Rattle.turns.specs.Written.{heightOf}
 use Rattle.turns.proofs.Front.{few-minutes, few-heights, all-given}
 

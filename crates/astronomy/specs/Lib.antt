@@ -1,2 +1,0 @@
-pub mod Longitudes
-pub mod View

@@ -1,0 +1,97 @@
+// What heights, series and turns ask before anything is worked out: of the state, 21 to 23, and then of the minutes, 9.
+ghost use mathlib.Core.Path.{_≡_};
+ghost use mathlib.Core.Bool.{_||_};
+ghost use lib.Dec.{ltb};
+ghost use Rattle.refusals.specs.Outcome.{accepted, refuseIf, andThen, outcomeOf};
+ghost use Rattle.calls.specs.Asked.{stateOutcome, heightOutcome, seriesOutcome, turnsOutcome, lastMinute, stepOutside};
+use refusals::Answer;
+use refusals::Refusal;
+
+// Whether the table, the station and the month are there, and then whether the minutes are outside of it.
+fn minutes_answer(tabled: bool, stationed: bool, dated: bool, outside: bool) -> Answer
+    ensures { λ r. ⌜ outcomeOf r ≡ andThen (stateOutcome tabled stationed dated) (refuseIf outside 9 0 accepted) ⌝ }
+{
+    if !tabled {
+        return Answer::Refused(Refusal::NoTable, 0);
+    }
+    if !stationed {
+        return Answer::Refused(Refusal::NoStation, 0);
+    }
+    if !dated {
+        return Answer::Refused(Refusal::NoMonth, 0);
+    }
+    if outside {
+        return Answer::Refused(Refusal::BadMinutes, 0);
+    }
+    Answer::Accepted
+}
+
+// What a height at a minute asks, in a month with this last minute.
+pub fn height_answer(tabled: bool, stationed: bool, dated: bool, last: u64, minute: u64) -> Answer
+    ensures { λ r. ⌜ outcomeOf r ≡ heightOutcome tabled stationed dated last minute ⌝ }
+{
+    minutes_answer(tabled, stationed, dated, last < minute)
+}
+
+// Whether the start is past the month's last minute, the step out of range, or the last of so many heights past the month's last minute.
+fn series_outside(last: u64, start: u64, step: u64, places: usize) -> bool
+    ensures { λ r. ⌜ r ≡ (ltb last start || stepOutside step || ltb last (lastMinute start step places)) ⌝ }
+{
+    if last < start {
+        return true;
+    }
+    if step < 1 {
+        return true;
+    }
+    if 1_440 < step {
+        return true;
+    }
+    if places == 0 {
+        return false;
+    }
+    (last - start) / step < places as u64 - 1
+}
+
+// What a series of so many heights asks.
+pub fn series_answer(
+    tabled: bool,
+    stationed: bool,
+    dated: bool,
+    last: u64,
+    start: u64,
+    step: u64,
+    places: usize,
+) -> Answer
+    ensures { λ r. ⌜ outcomeOf r ≡ seriesOutcome tabled stationed dated last start step places ⌝ }
+{
+    minutes_answer(
+        tabled,
+        stationed,
+        dated,
+        series_outside(last, start, step, places),
+    )
+}
+
+// Whether the last minute is past the month's, or the two are reversed.
+fn turns_outside(end: u64, first: u64, last: u64) -> bool
+    ensures { λ r. ⌜ r ≡ (ltb end last || ltb last first) ⌝ }
+{
+    if end < last {
+        return true;
+    }
+    last < first
+}
+
+// What a search for turns from a first minute to a last asks.
+pub fn turns_answer(
+    tabled: bool,
+    stationed: bool,
+    dated: bool,
+    end: u64,
+    first: u64,
+    last: u64,
+) -> Answer
+    ensures { λ r. ⌜ outcomeOf r ≡ turnsOutcome tabled stationed dated end first last ⌝ }
+{
+    minutes_answer(tabled, stationed, dated, turns_outside(end, first, last))
+}

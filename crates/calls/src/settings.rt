@@ -1,0 +1,54 @@
+// What a station, a date and a month come to, before the clock keeps them: accepted, or 21, 22, 8 and 11 with 01's places.
+ghost use mathlib.Core.Path.{_≡_};
+ghost use Rattle.refusals.specs.Outcome.{outcomeOf};
+ghost use Rattle.month.specs.View.{preparedOf};
+ghost use Rattle.calls.specs.Returned.{answerReturned};
+ghost use Rattle.calls.specs.Calls.{preparedReturns, dateAsked};
+ghost use Rattle.calls.specs.Posts.{TakenPost};
+use month::Preparation;
+use month::Prepared;
+use refusals::Answer;
+use refusals::Refusal;
+use station::Taken;
+use station::records::Rows;
+use table::Table;
+
+// What a station comes to: 21 where there is no table, else what its records come to.
+pub fn station_answer(tabled: bool, table: Table, latitude: i32, n: usize, rows: Rows) -> Taken
+    ensures { λ r. ⌜ TakenPost tabled table latitude n rows r ⌝ }
+{
+    if !tabled {
+        return Taken {
+            answer: Answer::Refused(Refusal::NoTable, 0),
+            station: station::no_station(latitude),
+        };
+    }
+    station::take_station(table.frequencies, latitude, n, rows)
+}
+
+// What a date asks before its month is prepared: 21, 22, 8.
+pub fn date_answer(tabled: bool, stationed: bool, year: u32, month: u32) -> Answer
+    ensures { λ r. ⌜ outcomeOf r ≡ dateAsked tabled stationed year month ⌝ }
+{
+    if !tabled {
+        return Answer::Refused(Refusal::NoTable, 0);
+    }
+    if !stationed {
+        return Answer::Refused(Refusal::NoStation, 0);
+    }
+    if !calendar::in_range(year, month) {
+        return Answer::Refused(Refusal::BadDate, 0);
+    }
+    Answer::Accepted
+}
+
+// What a prepared month says: that it is accepted, or 11 and the record.
+pub fn month_answer(prepared: Prepared) -> Answer
+    ensures { λ r. ⌜ answerReturned r ≡ preparedReturns (preparedOf prepared) ⌝ }
+{
+    let answer = prepared.answer;
+    match answer {
+        Preparation::Ready => Answer::Accepted,
+        Preparation::TooLarge(place) => Answer::Refused(Refusal::TooLarge, place),
+    }
+}

@@ -1,0 +1,55 @@
+-- `card::places::place_named` meets its contract: the returned part, padded, is the name, and a place found is below the count, so it fits.
+use borrow.Author.Needs.{needs}
+use Rattle.card.proofs.places.place_named.Statement.{statement}
+use Rattle.card.proofs.places.place_named.Tie as tie
+use mathlib.Core.Path.{sym, _∙_}
+use Prim.Native.Nat.{_<_}
+use Rattle.card.specs.Card.{placeNamed}
+use Rattle.card.proofs.places.Defined.{place-within}
+
+name-part-requires : tie.Need-name-part-requires
+name-part-requires c κs = search needs
+
+name-blank-requires : tie.Need-name-blank-requires
+name-blank-requires c κs = search needs
+
+returns : tie.Need-returns
+unfolding placeNamed
+returns c = rw (← c .before .before .name-part .ensures .1, ← c .before .name-blank .ensures, c .if1 .taken)
+
+find-name-requires : tie.Need-find-name-requires
+find-name-requires c κs = search needs
+
+enum-known-place : tie.Need-enum-known-place
+enum-known-place c = search needs
+
+cast-t11 : tie.Need-cast-t11
+cast-t11 c =
+    let a = c .before .before .before .before .before .before .before .before .before .args in
+    let h : c .before .place .given .0 .0 < a .count = place-within _ (a .names .now) (a .count) _ (sym (c .before .before .before .find-name .ensures) ∙ c .before .place .given .1) in
+    search needs
+
+enum-told : tie.Need-enum-told
+enum-told c = search needs
+
+returns-2 : tie.Need-returns-2
+unfolding placeNamed
+returns-2 c = rw (← c .before .before .before .before .before .before .name-part .ensures .1, ← c .before .before .before .before .before .name-blank .ensures, c .before .before .before .before .if1 .left, ← c .before .before .before .find-name .ensures, c .before .place .given .1)
+
+returns-3 : tie.Need-returns-3
+unfolding placeNamed
+returns-3 c = rw (← c .before .before .before .before .before .name-part .ensures .1, ← c .before .before .before .before .name-blank .ensures, c .before .before .before .if1 .left, ← c .before .before .find-name .ensures, c .enum-told .given .1)
+
+pub place-named-spec : {M : Type 1} → statement M
+place-named-spec =
+    tie.close
+    (tie.spec
+    name-part-requires
+    name-blank-requires
+    returns
+    find-name-requires
+    enum-known-place
+    cast-t11
+    enum-told
+    returns-2
+    returns-3)

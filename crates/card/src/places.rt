@@ -1,0 +1,79 @@
+// The places of constituents: by a name on a card, and among those defined.
+ghost use mathlib.Core.Path.{_≡_};
+ghost use Prim.Native.Nat.{_+_, _*_, _≤_, _<_};
+ghost use Rattle.columns.specs.Columns.{columns};
+ghost use Rattle.columns.specs.Names.{namesFrom};
+ghost use Rattle.card.specs.Card.{placeNamed, isAmong};
+ghost use Rattle.card.specs.Places.{mainAt, mainNamed};
+ghost use Rattle.card.specs.PlacesAnswers.{placeGives, placesIn};
+use crate::Refusal;
+use columns::names;
+
+// A place, or the refusal that a name earns.
+pub enum Place {
+    At(u16),
+    Bad(Refusal),
+}
+
+// The place of the frequency with the name in five columns of the line.
+pub fn place_named(line: &[u8], from: usize, names: &[u8], count: usize) -> Place
+    requires { ⌜ count ≤ 160 ⌝ }
+    ensures { λ r. ⌜ placeGives r ≡ placeNamed (namesFrom (now (names .entry)) 0 count) (columns (now (line .entry)) from 5) ⌝ }
+{
+    let name = names::name_part(line, from);
+    if names::name_blank(name) {
+        return Place::Bad(Refusal::Name);
+    }
+    match names::find_name(name, names, count) {
+        names::Found::At(place) => Place::At(place as u16),
+        names::Found::Nothing => Place::Bad(Refusal::Missing),
+    }
+}
+
+// Whether a place begins one of the first `count` rows of `cards`.
+pub fn is_among(place: u16, cards: &[u16], width: usize, count: usize) -> bool
+    requires { ⌜ (width ≤ 6) × (count ≤ 160) ⌝ }
+    ensures { λ r. ⌜ r ≡ isAmong place (placesIn width (now (cards .entry)) count) ⌝ }
+{
+    let mut k = 0;
+    while k < count {
+        if place == table::at_u16(cards, width * k) {
+            return true;
+        }
+        k = k + 1;
+    }
+    false
+}
+
+// The main with a place, by its position.
+pub fn main_at(place: u16, cards: &[u16], count: usize) -> Place
+    requires { ⌜ count ≤ 160 ⌝ }
+    ensures { λ r. ⌜ placeGives r ≡ mainAt place (placesIn 3 (now (cards .entry)) count) 0 ⌝ }
+{
+    let mut k = 0;
+    while k < count {
+        if place == table::at_u16(cards, 3 * k) {
+            return Place::At(k as u16);
+        }
+        k = k + 1;
+    }
+    Place::Bad(Refusal::Missing)
+}
+
+// The main with the name in five columns of the line, by its position.
+pub fn main_named(
+    line: &[u8],
+    from: usize,
+    names: &[u8],
+    frequencies: usize,
+    cards: &[u16],
+    mains: usize,
+) -> Place
+    requires { ⌜ (frequencies ≤ 160) × (mains ≤ 160) ⌝ }
+    ensures { λ r. ⌜ placeGives r ≡ mainNamed (namesFrom (now (names .entry)) 0 frequencies) (placesIn 3 (now (cards .entry)) mains) (columns (now (line .entry)) from 5) ⌝ }
+{
+    match names::find_name(names::name_part(line, from), names, frequencies) {
+        names::Found::At(place) => main_at(place as u16, cards, mains),
+        names::Found::Nothing => Place::Bad(Refusal::Missing),
+    }
+}

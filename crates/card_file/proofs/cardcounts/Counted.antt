@@ -1,0 +1,44 @@
+-- What a card file's check counts are the lengths of its table's lists. Rests on the laws of rows. Assumes nothing.
+use mathlib.Core.Path.{_≡_, refl, sym, ap, _∙_}
+use Prim.Native.Nat.{ℕ}
+use mathlib.Core.List.{List}
+use lib.ListN.{length}
+use Rattle.refusals.specs.Outcome.{numberOf}
+use Rattle.refusals.specs.declared.Refusal.{Refusal}
+use Rattle.refusals.specs.declared.Answer.{Answer}
+use Rattle.refusals.specs.declared.Answer.the-variants.{Accepted, Refused}
+use Rattle.table.specs.View.{tableOf, listed, frequencyOf, mainOf, shallowOf}
+use Rattle.table.specs.declared.Table.{Table}
+use Rattle.table.proofs.Rows.{listed-length}
+use Rattle.card_file.specs.Cards.{Outcome, accepted, refused, readCards}
+use Rattle.card_file.specs.Read.{gives, outcomeOf}
+use Rattle.card_file.specs.declared.cardfile.Read.{Read}
+use Rattle.card_file.specs.Satellites.{satellitesIn}
+use Rattle.card_file.specs.Counts.{countsOf}
+use Rattle.card_file.specs.declared.cardcounts.Counts.{Counts}
+
+frequencies-count : (t : Table) → length (tableOf t .frequencies) ≡ t .frequencies
+unfolding tableOf
+frequencies-count t = listed-length (frequencyOf (t .names) (t .speeds)) 0 (t .frequencies)
+
+mains-count : (t : Table) → length (tableOf t .mains) ≡ t .mains
+unfolding tableOf
+mains-count t = listed-length (mainOf (t .maincards) (t .mainangles) (t .satelliteangles) (t .satelliteratios)) 0 (t .mains)
+
+shallows-count : (t : Table) → length (tableOf t .shallows) ≡ t .shallows
+unfolding tableOf
+shallows-count t = listed-length (shallowOf (t .shallowcards) (t .coefficients)) 0 (t .shallows)
+
+module _ (file : List ℕ) (read : Read) (says : outcomeOf read ≡ readCards file) where
+  pub counts-accepted : (total : ℕ) → read .answer ≡ Accepted → total ≡ satellitesIn (tableOf (read .table) .mains)
+      → _≡_ {A = Counts} (record { number = 0; line = 0; frequencies = read .table .frequencies; mains = read .table .mains; satellites = total; shallows = read .table .shallows }) (countsOf (readCards file))
+  counts-accepted total is e =
+      let t = read .table in
+      let yes : readCards file ≡ accepted (tableOf t) = sym says ∙ ap (λ (a : Answer). gives a (tableOf t)) is in
+      rw (yes, e, frequencies-count t, mains-count t, shallows-count t)
+
+  pub counts-refused : (number : ℕ) (r : Refusal) (line : ℕ) → read .answer ≡ Refused r line → number ≡ numberOf r
+      → _≡_ {A = Counts} (record { number = number; line = line; frequencies = 0; mains = 0; satellites = 0; shallows = 0 }) (countsOf (readCards file))
+  counts-refused number r line is e =
+      let no : readCards file ≡ refused (numberOf r) line = sym says ∙ ap (λ (a : Answer). gives a (tableOf (read .table))) is in
+      rw (no, e)

@@ -1,0 +1,75 @@
+use borrow.Author.Needs.{needs}
+use Rattle.card_file.proofs.cardfile.read_cards.Statement.{statement}
+use Rattle.card_file.proofs.cardfile.read_cards.Tie as tie
+use Rattle.card_file.proofs.cardfile.read_cards.Reads as reads
+use Rattle.card_file.proofs.cardfile.read_cards.Lts as lts
+use Rattle.card_file.proofs.cardfile.longitudes_and.Reads as longitudes-and-reads
+use Rattle.card_file.proofs.cardfile.refused.Reads as refused-reads
+use Rattle.card_frequencies.proofs.frequencies.read_frequencies.Reads as read-frequencies-reads
+use Rattle.table.proofs.no_cards.Reads as no-cards-reads
+use mathlib.Core.Path.{_≡_, refl, sym, ap, _∙_}
+use mathlib.Core.List.{List, []}
+use Prim.Native.Nat.{ℕ}
+use Rattle.table.specs.Table.{Frequency}
+use Rattle.table.specs.View.{tableOf}
+use Rattle.card_file.specs.Cards.{readCards, Outcome}
+use Rattle.card_file.specs.Rest.{longitudesAnd, increasesAnd, mainsAnd, shallowsAnd}
+use Rattle.card_file.proofs.cardfile.Followed.{part-refused, part-reached, reached-within}
+
+-- src/lib.rt:164:9
+read-frequencies-requires : tie.Need-read-frequencies-requires
+read-frequencies-requires c κs = search needs
+
+-- src/lib.rt:167:27
+enum-known-progress : tie.Need-enum-known-progress
+enum-known-progress c = search needs
+
+-- src/lib.rt:167:39
+refused-requires : tie.Need-refused-requires
+refused-requires c κs = search needs
+
+-- src/lib.rt:168:27
+enum-known-progress-2 : tie.Need-enum-known-progress-2
+enum-known-progress-2 c = search needs
+
+-- src/lib.rt:171:17
+no-cards-requires : tie.Need-no-cards-requires
+no-cards-requires c κs = search needs
+
+-- src/lib.rt:175:13
+longitudes-and-requires : tie.Need-longitudes-and-requires
+longitudes-and-requires c κs =
+    let s = c .before .before .before .before .before .before .before .before in
+    let g = c .before .before .before .before .progress2 .given in
+    let w = reached-within (s .args .file .now) (c .before .before .before .before .before .before .read-frequencies .result .progress) (g .0 .0) (g .0 .1 .0) (c .before .before .before .before .before .before .read-frequencies .ensures .1 .0) (g .1) in
+    (w .0, w .1, c .before .before .before .before .before .before .read-frequencies .ensures .1 .1)
+
+-- src/lib.rt:161:1
+returns : tie.Need-returns
+unfolding readCards
+returns c =
+    let s = c .before .before .before .before .before .before in
+    let g = c .before .before .progress .given in
+    c .refused .ensures ∙ sym (part-refused (s .args .file .now) (c .before .before .before .before .read-frequencies .result .progress) _ _ (c .before .before .before .before .read-frequencies .ensures .0) _ (g .0 .0) (g .0 .1 .0) (g .1))
+
+-- src/lib.rt:161:1
+returns-2 : tie.Need-returns-2
+unfolding readCards longitudesAnd increasesAnd mainsAnd shallowsAnd tableOf
+returns-2 c =
+    let s = c .before .before .before .before .before .before .before .before .before in
+    let g = c .before .before .before .before .before .progress2 .given in
+    let next : List Frequency → List (List ℕ) → ℕ → Outcome = λ fs lines n. longitudesAnd (record { frequencies = fs; longitudes = []; increases = []; mains = []; shallows = [] }) lines n in
+    c .longitudes-and .ensures ∙ sym (part-reached (s .args .file .now) (c .before .before .before .before .before .before .before .read-frequencies .result .progress) _ _ (c .before .before .before .before .before .before .before .read-frequencies .ensures .0) next (g .0 .0) (g .0 .1 .0) (g .1))
+
+pub read-cards-spec : {M : Type 1} → statement M
+read-cards-spec =
+    tie.close
+    (tie.spec
+    read-frequencies-requires
+    enum-known-progress
+    refused-requires
+    enum-known-progress-2
+    no-cards-requires
+    longitudes-and-requires
+    returns
+    returns-2)

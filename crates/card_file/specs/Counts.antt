@@ -1,0 +1,19 @@
+-- What a card file comes to, in the struct that other languages see.
+-- Assumes nothing.
+use lib.ListN.{length}
+use Rattle.card_file.specs.Cards as cards
+use Rattle.card_file.specs.Satellites.{satellitesIn}
+use Rattle.card_file.specs.declared.cardcounts.Counts.{Counts}
+
+-- "At most 160 frequencies [..], 64 mains, 256 satellites, 128 shallow": how many of each an accepted card file has; else the refusal's number and line
+abbrev pub countsOf : cards.Outcome → Counts
+countsOf (cards.accepted t) =
+    record {
+      number = 0;
+      line = 0;
+      frequencies = length (t .frequencies);
+      mains = length (t .mains);
+      satellites = satellitesIn (t .mains);
+      shallows = length (t .shallows);
+    }
+countsOf (cards.refused number line) = record { number = number; line = line; frequencies = 0; mains = 0; satellites = 0; shallows = 0 }

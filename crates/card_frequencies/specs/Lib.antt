@@ -1,0 +1,3 @@
+pub mod Frequencies
+pub mod Answers
+pub mod Longitudes

@@ -1,0 +1,130 @@
+// Part 1 of the card file: frequencies.
+ghost use mathlib.Core.Path.{_≡_};
+ghost use mathlib.Core.List.{[]};
+ghost use Prim.Native.Nat.{_+_, _*_, _≤_, _<_};
+ghost use lib.Seq.{sets};
+ghost use Rattle.columns.specs.Columns.{columns};
+ghost use Rattle.columns.specs.Lines.{linesOf};
+ghost use Rattle.columns.specs.Names.{namesFrom};
+ghost use Rattle.table.specs.View.{listed, frequencyOf};
+ghost use Rattle.card_frequencies.specs.Frequencies.{frequencyCard, nextFrequency, frequenciesFrom};
+ghost use Rattle.card_frequencies.specs.Answers.{frequencyRead, frequencyGives};
+ghost use Rattle.card.specs.LinesAnswers.{readingGives, Within};
+use card::Natural;
+use card::Refusal;
+use card::lines::Opening;
+use card::lines::Progress;
+use card::lines::after_line;
+use card::lines::begins;
+use card::lines::line_at;
+use card::natural_field;
+use columns::names;
+
+// What the next card of part 1 comes to: the part's end, a frequency, or a refusal.
+pub enum FrequencyStep {
+    Ends,
+    Gives(u64),
+    Fails(Refusal),
+}
+
+// The frequency on a card whose name is new after `count` names.
+fn frequency_fields(line: &[u8], names: &[u8], count: usize) -> Natural
+    ensures { λ r. ⌜ frequencyRead (now (line .entry)) r ≡ frequencyCard (namesFrom (now (names .entry)) 0 count) (now (line .entry)) ⌝ }
+{
+    let name = names::name_part(line, 4);
+    if names::name_blank(name) {
+        return Natural::Bad(Refusal::Name);
+    }
+    match names::find_name(name, names, count) {
+        names::Found::At(_) => Natural::Bad(Refusal::Name),
+        names::Found::Nothing => natural_field(
+            line,
+            12,
+            13,
+            fields::Format::Fixed(10),
+            0,
+            4999999999,
+        ),
+    }
+}
+
+// The next card of part 1, after `count` names.
+fn frequency_card(line: &[u8], names: &[u8], count: usize) -> FrequencyStep
+    ensures { λ r. ⌜ frequencyGives (now (line .entry)) r ≡ nextFrequency (namesFrom (now (names .entry)) 0 count) (now (line .entry)) ⌝ }
+{
+    match begins(line, count, 160) {
+        Opening::Ends => FrequencyStep::Ends,
+        Opening::Fields => match frequency_fields(line, names, count) {
+            Natural::Value(v) => FrequencyStep::Gives(v),
+            Natural::Bad(r) => FrequencyStep::Fails(r),
+        },
+        Opening::Fails(r) => FrequencyStep::Fails(r),
+    }
+}
+
+// Stores the name in five columns of the line at a place.
+fn put_name(names: &mut [u8; 800], place: usize, line: &[u8], from: usize)
+    requires { ⌜ (place < 160) × (from ≤ 80) ⌝ }
+    ensures { λ _. ⌜ now (names .exit) ≡ sets (now (names .entry)) (5 * place) (columns (now (line .entry)) from 5) ⌝ }
+{
+    let mut j = 0;
+    while j < 5 {
+        names[5 * place + j] = columns::column(line, from + j);
+        j = j + 1;
+    }
+}
+
+// The frequencies that part 1 gives, and where it ends.
+pub struct Frequencies {
+    pub progress: Progress,
+    pub count: usize,
+    pub names: [u8; 800],
+    pub speeds: [u64; 160],
+}
+
+// Part 1, from the file's first line on.
+pub fn read_frequencies(file: &[u8]) -> Frequencies
+    ensures { λ r. ⌜ readingGives (now (file .entry)) (r .progress) (listed (frequencyOf (r .names) (r .speeds)) 0 (r .count)) ≡ frequenciesFrom (linesOf (now (file .entry))) 1 [] ⌝ }
+    ensures { λ r. ⌜ Within (now (file .entry)) (r .progress) × (r .count ≤ 160) ⌝ }
+{
+    let mut names = [0u8; 800];
+    let mut speeds = [0u64; 160];
+    let mut count = 0;
+    let mut at = 0;
+    let mut n = 1;
+    while at < file.len() {
+        let line = line_at(file, at);
+        let next = after_line(file, at, line.len());
+        match frequency_card(line, &names, count) {
+            FrequencyStep::Ends => {
+                return Frequencies {
+                    progress: Progress::Reached(next, n + 1),
+                    count: count,
+                    names: names,
+                    speeds: speeds,
+                };
+            }
+            FrequencyStep::Gives(v) => {
+                put_name(&mut names, count, line, 4);
+                speeds[count] = v;
+            }
+            FrequencyStep::Fails(r) => {
+                return Frequencies {
+                    progress: Progress::Refused(r, n),
+                    count: count,
+                    names: names,
+                    speeds: speeds,
+                };
+            }
+        }
+        count = count + 1;
+        at = next;
+        n = n + 1;
+    }
+    Frequencies {
+        progress: Progress::Refused(Refusal::Ended, n),
+        count: count,
+        names: names,
+        speeds: speeds,
+    }
+}

@@ -1,0 +1,129 @@
+// Part 3 of the card file: a constituent card and its fields.
+ghost use mathlib.Core.Path.{_≡_};
+ghost use Prim.Native.Nat.{_+_, _≤_, _<_};
+ghost use Rattle.columns.specs.Columns.{columns};
+ghost use Rattle.columns.specs.Names.{namesFrom};
+ghost use Rattle.card.specs.Card.{fails, newPlace, opened, readFields};
+ghost use Rattle.card_mains.specs.Mains.{mainMade, mainNumbers, nextMain};
+ghost use Rattle.card.specs.Answers.{numberOf};
+ghost use Rattle.card.specs.PlacesAnswers.{placeGives, placesIn};
+ghost use Rattle.card_mains.specs.MainsAnswers.{mainGives};
+ghost use lib.IntN.{pos};
+use card::Fault;
+use card::Natural;
+use card::Refusal;
+use card::Small;
+use card::lines::Opening;
+use card::lines::begins;
+use card::natural_field;
+use card::places::Place;
+use card::places::is_among;
+use card::places::place_named;
+use card::small_field;
+use card::small_row;
+
+// What the next constituent card comes to: the part's end, a main with so many satellites, or a refusal.
+pub enum MainStep {
+    Ends,
+    Gives(u16),
+    Fails(Refusal),
+}
+
+// That, with the main's place, and its Doodson numbers and phase.
+pub struct MainRead {
+    pub step: MainStep,
+    pub place: u16,
+    pub doodson: [i8; 6],
+    pub phase: i8,
+}
+
+// A card that earns a refusal.
+fn failed(r: Refusal) -> MainRead
+    ensures { λ m. ⌜ mainGives m ≡ fails (numberOf r) ⌝ }
+{
+    MainRead {
+        step: MainStep::Fails(r),
+        place: 0,
+        doodson: [0i8; 6],
+        phase: 0,
+    }
+}
+
+// A main from its numbers, unless its satellites are too many in all.
+fn main_made(place: u16, doodson: [i8; 6], phase: i8, count: u64, satellites: usize) -> MainRead
+    requires { ⌜ (count ≤ 16) × (satellites ≤ 256) ⌝ }
+    ensures { λ r. ⌜ mainGives r ≡ opened readFields (mainMade place doodson phase (pos count) satellites) ⌝ }
+{
+    if 256 < satellites + (count as usize) {
+        return failed(Refusal::Count);
+    }
+    MainRead {
+        step: MainStep::Gives(count as u16),
+        place: place,
+        doodson: doodson,
+        phase: phase,
+    }
+}
+
+// The numbers of a constituent card with a place.
+fn main_numbers(line: &[u8], place: u16, satellites: usize) -> MainRead
+    requires { ⌜ satellites ≤ 256 ⌝ }
+    ensures { λ r. ⌜ mainGives r ≡ opened readFields (mainNumbers place satellites (now (line .entry))) ⌝ }
+{
+    let row = small_row(line, 12, 6, 12);
+    let fault = row.fault;
+    let doodson = row.values;
+    match fault {
+        Fault::Clear => match small_field(line, 30, 5, fields::Format::Fixed(2), 100) {
+            Small::Value(phase) => match natural_field(line, 35, 4, fields::Format::Whole, 0, 16) {
+                Natural::Value(count) => main_made(place, doodson, phase, count, satellites),
+                Natural::Bad(r) => failed(r),
+            },
+            Small::Bad(r) => failed(r),
+        },
+        Fault::Bad(r) => failed(r),
+    }
+}
+
+// The place of a constituent card's own name, if it is new.
+fn main_place(line: &[u8], names: &[u8], frequencies: usize, cards: &[u16], mains: usize) -> Place
+    requires { ⌜ (frequencies ≤ 160) × (mains ≤ 64) ⌝ }
+    ensures { λ r. ⌜ placeGives r ≡ newPlace (namesFrom (now (names .entry)) 0 frequencies) (placesIn 3 (now (cards .entry)) mains) (columns (now (line .entry)) 6 5) ⌝ }
+{
+    match place_named(line, 6, names, frequencies) {
+        Place::At(place) => {
+            if is_among(place, cards, 3, mains) {
+                return Place::Bad(Refusal::Name);
+            }
+            Place::At(place)
+        }
+        Place::Bad(r) => Place::Bad(r),
+    }
+}
+
+// The next constituent card.
+pub fn next_main(
+    line: &[u8],
+    names: &[u8],
+    frequencies: usize,
+    cards: &[u16],
+    mains: usize,
+    satellites: usize,
+) -> MainRead
+    requires { ⌜ (frequencies ≤ 160) × (mains ≤ 64) × (satellites ≤ 256) ⌝ }
+    ensures { λ r. ⌜ mainGives r ≡ nextMain (namesFrom (now (names .entry)) 0 frequencies) (placesIn 3 (now (cards .entry)) mains) satellites (now (line .entry)) ⌝ }
+{
+    match begins(line, mains, 64) {
+        Opening::Ends => MainRead {
+            step: MainStep::Ends,
+            place: 0,
+            doodson: [0i8; 6],
+            phase: 0,
+        },
+        Opening::Fields => match main_place(line, names, frequencies, cards, mains) {
+            Place::At(place) => main_numbers(line, place, satellites),
+            Place::Bad(r) => failed(r),
+        },
+        Opening::Fails(r) => failed(r),
+    }
+}

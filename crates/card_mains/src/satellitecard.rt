@@ -1,0 +1,82 @@
+// Part 3 of the card file: a satellite card.
+ghost use mathlib.Core.Path.{_≡_};
+ghost use mathlib.Core.List.{[], _∷_};
+ghost use Prim.Native.Nat.{_+_, _-_, _*_, _≤_, _<_, min};
+ghost use lib.ListN.{length, set, take};
+ghost use lib.Seq.{sets};
+ghost use Rattle.table.specs.View.{listed, satelliteOf};
+ghost use Rattle.card_mains.specs.Satellites.{satellitesOn, satelliteCard};
+ghost use Rattle.card.specs.Answers.{faultGives};
+ghost use Rattle.card_mains.specs.SatellitecardAnswers.{Kept, SatelliteRoom};
+use crate::satellitefields::SatelliteRead;
+use crate::satellitefields::satellite_fields;
+use card::Fault;
+use card::Refusal;
+
+// Stores satellite k: its differences and phase, its ratio and mark.
+fn put_satellite(angles: &mut [i8; 1024], ratios: &mut [u32; 512], k: usize, s: SatelliteRead)
+    requires { ⌜ (k < 256) × (length (s .differences) ≡ 6) ⌝ }
+    ensures { λ _. ⌜ now (angles .exit) ≡ set (sets (now (angles .entry)) (4 * k) (take 3 (s .differences))) (4 * k + 3) (s .phase) ⌝ }
+    ensures { λ _. ⌜ now (ratios .exit) ≡ sets (now (ratios .entry)) (2 * k) (s .ratio ∷ s .mark ∷ []) ⌝ }
+{
+    let differences = s.differences;
+    table::put_i8(angles, 4 * k, &differences[..3]);
+    let phase = s.phase;
+    angles[4 * k + 3] = phase;
+    let pair = [s.ratio, s.mark as u32];
+    table::put_u32(ratios, 2 * k, &pair);
+}
+
+// The first `count` satellites of the line, stored from satellite `first` on.
+fn satellites_on(
+    line: &[u8],
+    first: usize,
+    count: usize,
+    angles: &mut [i8; 1024],
+    ratios: &mut [u32; 512],
+) -> Fault
+    requires { ⌜ (first + count ≤ 256) × (count ≤ 3) × SatelliteRoom (now angles) (now ratios) ⌝ }
+    ensures { λ r. ⌜ faultGives r (listed (satelliteOf (now (angles .exit)) (now (ratios .exit))) first count) ≡ satellitesOn (now (line .entry)) [] 0 count ⌝ }
+    ensures { λ _. ⌜ Kept (satelliteOf (now (angles .exit)) (now (ratios .exit))) (satelliteOf (now (angles .entry)) (now (ratios .entry))) first × SatelliteRoom (now (angles .exit)) (now (ratios .exit)) ⌝ }
+{
+    let mut j = 0;
+    while j < count {
+        let s = satellite_fields(line, 11 + 23 * j);
+        let fault = s.fault;
+        match fault {
+            Fault::Clear => {
+                put_satellite(angles, ratios, first + j, s);
+                j = j + 1;
+            }
+            Fault::Bad(r) => {
+                return Fault::Bad(r);
+            }
+        }
+    }
+    Fault::Clear
+}
+
+// How many satellites stand on the next card.
+pub fn at_most_three(count: usize) -> usize
+    ensures { λ r. ⌜ r ≡ min count 3 ⌝ }
+{
+    if count < 3 { count } else { 3 }
+}
+
+// The satellite card where `count` are still to come, stored from satellite `first` on.
+pub fn satellite_card(
+    line: &[u8],
+    first: usize,
+    count: usize,
+    angles: &mut [i8; 1024],
+    ratios: &mut [u32; 512],
+) -> Fault
+    requires { ⌜ (first + count ≤ 256) × SatelliteRoom (now angles) (now ratios) ⌝ }
+    ensures { λ r. ⌜ faultGives r (listed (satelliteOf (now (angles .exit)) (now (ratios .exit))) first (min count 3)) ≡ satelliteCard count (now (line .entry)) ⌝ }
+    ensures { λ _. ⌜ Kept (satelliteOf (now (angles .exit)) (now (ratios .exit))) (satelliteOf (now (angles .entry)) (now (ratios .entry))) first × SatelliteRoom (now (angles .exit)) (now (ratios .exit)) ⌝ }
+{
+    if columns::line_good(line) {
+        return satellites_on(line, first, at_most_three(count), angles, ratios);
+    }
+    Fault::Bad(Refusal::Line)
+}

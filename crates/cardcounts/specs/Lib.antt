@@ -1,2 +1,0 @@
-pub mod Satellites
-pub mod Counts

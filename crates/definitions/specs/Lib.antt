@@ -1,2 +1,0 @@
-pub mod Definitions
-pub mod View

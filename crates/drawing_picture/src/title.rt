@@ -1,0 +1,139 @@
+// What a drawing says on its face: the station, the month, the times' zone, the heights' unit, and what it stands on.
+ghost use Prim.Native.Nat.{_≤_};
+ghost use lib.ListN.{length};
+use drawing_svg::svg;
+use page::face;
+use page::face::Face;
+
+// The width of a drawing, and where its text and its plots begin; ten units make a pixel.
+const WIDTH: u64 = 9_700;
+
+const LEFT: u64 = 700;
+
+// A day of a month, or day 0 for the whole month.
+pub struct When {
+    pub year: u32,
+    pub month: u32,
+    pub day: u32,
+}
+
+// Begins a drawing of a height, with its white ground.
+pub fn put_start(page: &mut [u8], at: usize, height: u64) -> usize
+    ensures { λ r. ⌜ r ≤ length (now (page .entry)) ⌝ }
+{
+    svg::put_form(
+        page,
+        at,
+        b"<svg xmlns=\"http://www.w3.org/2000/svg\" width=\"@\" height=\"$\" viewBox=\"0 0 ~ ^\" font-family=\"Helvetica, Arial, sans-serif\" fill=\"#111\">\n<rect width=\"100%\" height=\"100%\" fill=\"#fff\"/>\n",
+        WIDTH / 10,
+        height / 10,
+        WIDTH,
+        height,
+    )
+}
+
+// Puts a form with two numbers, and text behind it.
+fn put_lead<'a>(page: &mut [u8], at: usize, form: &'a [u8], a: u64, b: u64, text: &'a [u8]) -> usize
+    ensures { λ r. ⌜ r ≤ length (now (page .entry)) ⌝ }
+{
+    let next = svg::put_form(page, at, form, a, b, 0, 0);
+    svg::put_escaped(page, next, text)
+}
+
+// Puts the day, where it is not 0.
+fn put_day(page: &mut [u8], at: usize, day: u32) -> usize {
+    if day == 0 {
+        return at;
+    }
+    svg::put_form(page, at, b"@ ", day as u64, 0, 0, 0)
+}
+
+// Puts a form with a number, and the day, where it is not 0, and the month behind it.
+fn put_dated(page: &mut [u8], at: usize, form: &[u8], a: u64, when: When) -> usize {
+    let next = svg::put_form(page, at, form, a, 0, 0, 0);
+    let day = put_day(page, next, when.day);
+    face::put_month_name(page, day, when.month)
+}
+
+// Puts the title that a reader of the file sees, up to its year: the station and when.
+fn put_title(page: &mut [u8], at: usize, name: &[u8], when: When) -> usize {
+    let next = put_lead(page, at, b"<title>", 0, 0, name);
+    put_dated(page, next, b", ", 0, when)
+}
+
+// Puts the title's year, and the station's name, large.
+fn put_name(page: &mut [u8], at: usize, name: &[u8], year: u32) -> usize {
+    put_lead(
+        page,
+        at,
+        b" @</title>\n<text x=\"$\" y=\"400\" font-size=\"260\" font-weight=\"bold\">",
+        year as u64,
+        LEFT,
+        name,
+    )
+}
+
+// Puts when.
+fn put_when(page: &mut [u8], at: usize, when: When) -> usize {
+    let next = put_dated(
+        page,
+        at,
+        b"</text>\n<text x=\"@\" y=\"660\" font-size=\"160\">",
+        LEFT,
+        when,
+    );
+    svg::put_form(page, next, b" @; times ", when.year as u64, 0, 0, 0)
+}
+
+// Puts what the times are: GMT, or the station file's own zone.
+fn put_zone(page: &mut [u8], at: usize, zone: &[u8]) -> usize {
+    if face::is_greenwich(zone) {
+        return svg::put_plain(page, at, b"GMT");
+    }
+    let next = svg::put_escaped(page, at, face::trimmed(zone));
+    svg::put_plain(page, next, b" (the station file's zone)")
+}
+
+// Puts the heights' unit.
+fn put_unit(page: &mut [u8], at: usize, unit: &[u8]) -> usize
+    ensures { λ r. ⌜ r ≤ length (now (page .entry)) ⌝ }
+{
+    let next = put_lead(page, at, b"; heights in ", 0, 0, unit);
+    svg::put_plain(page, next, b"</text>\n")
+}
+
+// Puts the head of a drawing: its title, the station's name, when, the times' zone and the heights' unit.
+pub fn put_head(
+    page: &mut [u8],
+    at: usize,
+    name: &[u8],
+    zone: &[u8],
+    unit: &[u8],
+    when: When,
+) -> usize
+    ensures { λ r. ⌜ r ≤ length (now (page .entry)) ⌝ }
+{
+    let word = face::trimmed(name);
+    let a = put_title(page, at, word, when);
+    let b = put_name(page, a, word, when.year);
+    let c = put_when(page, b, when);
+    let d = put_zone(page, c, zone);
+    put_unit(page, d, unit)
+}
+
+// Puts what the marks are, what the drawing stands on, and its end.
+pub fn put_foot(page: &mut [u8], at: usize, top: u64, stands_on: Face) -> usize
+    ensures { λ r. ⌜ r ≤ length (now (page .entry)) ⌝ }
+{
+    let a = svg::put_form(
+        page,
+        at,
+        b"<text x=\"@\" y=\"$\" font-size=\"115\" fill=\"#444\">full marks: high water; open marks: low water<tspan x=\"@\" dy=\"170\">",
+        LEFT,
+        top,
+        0,
+        0,
+    );
+    let b = face::put_face(page, a, stands_on);
+    svg::put_plain(page, b, b"</tspan></text>\n</svg>\n")
+}

@@ -1,0 +1,7 @@
+pub mod Heights
+pub mod Lines
+pub mod Places
+pub mod Lanes
+pub mod Sizes
+pub mod Spots
+pub mod Plots

@@ -1,0 +1,32 @@
+-- 01, "Heights and turns": the exact sum, and how far a height may lie from it (demand 3).
+-- Assumes nothing.
+use Prim.Native.Nat.{ℕ, _+_, _*_, _/_, _^_, _≤_}
+use mathlib.Core.List.{List, [], _∷_}
+use lib.IntN.{ℤ, pos, natAbs, _+ℤ_, _-ℤ_, _*ℤ_}
+use lib.ListN.{length}
+use Rattle.cosine.specs.Fraction.{whole, cosine, sine}
+use Rattle.month_prepared.specs.Prepared.{Constituent}
+use Rattle.heights.specs.Angle.{angleAt}
+
+-- "The exact sum is the sum of P × cosine fraction - Q × sine fraction, each at its constituent's angle, over 4,096; for an empty station
+-- it is 0." The fractions are over `whole`, so the exact sum is exactSum / (4,096 × whole).
+unfoldable pub exactSum : List Constituent → ℕ → ℤ
+exactSum [] minute = pos 0
+exactSum (c ∷ cs) minute =
+    c .p *ℤ cosine (angleAt c minute) -ℤ c .q *ℤ sine (angleAt c minute) +ℤ exactSum cs minute
+
+-- "the sum of the sizes of all P and Q"
+unfoldable pub sizes : List Constituent → ℕ
+sizes [] = 0
+sizes (c ∷ cs) = natAbs (c .p) + natAbs (c .q) + sizes cs
+
+-- "Demand 3's third part is the sum of the sizes of all P and Q, over 2^32."
+abbrev pub scale : ℕ
+scale = 2 ^ 32
+
+-- The height lies within 1/2 + n/4,096 + sizes/2^32 of the exact sum, n the number of constituents. "Fractions .. are compared as whole
+-- numbers, both sides multiplied by the denominators": here by 2^32 × whole.
+abbrev pub Near : List Constituent → ℕ → ℤ → Type 0
+Near cs minute height =
+    natAbs (pos (scale * whole) *ℤ height -ℤ pos (scale / 4_096) *ℤ exactSum cs minute)
+    ≤ (scale / 2 + scale / 4_096 * length cs + sizes cs) * whole

@@ -1,2 +1,0 @@
-pub mod Latitude
-pub mod Ranges

@@ -1,0 +1,132 @@
+// Which words say what: a text has a row of words for each thing, trouble, refusal or wrong word, in the order in which they are declared.
+ghost use mathlib.Core.Path.{_≡_};
+ghost use Rattle.columns.specs.Lines.{linesOf};
+ghost use Rattle.faults.specs.Faults.{lineAt};
+ghost use Rattle.messages.specs.Rows.{whatRow, troubleRow, refusalRow, wrongRow};
+use commandline::Wrong;
+use faults::Trouble;
+use faults::What;
+use refusals::Refusal;
+
+// The row of what is at fault.
+fn what_row(what: What) -> usize
+    ensures { λ r. ⌜ r ≡ whatRow what ⌝ }
+{
+    match what {
+        What::File => 0,
+        What::Card => 1,
+        What::Name => 2,
+        What::Frequency => 3,
+        What::Longitude => 4,
+        What::Increase => 5,
+        What::Doodson => 6,
+        What::Phase => 7,
+        What::SatelliteCount => 8,
+        What::Difference => 9,
+        What::SatellitePhase => 10,
+        What::Ratio => 11,
+        What::PartCount => 12,
+        What::Coefficient => 13,
+        What::PartName => 14,
+        What::Degrees => 15,
+        What::Minutes => 16,
+        What::Latitude => 17,
+        What::Amplitude => 18,
+        What::PhaseLag => 19,
+    }
+}
+
+// The words of what is at fault.
+pub fn what_words(text: &[u8], what: What) -> &[u8]
+    ensures { λ r. ⌜ now r ≡ lineAt (linesOf (now (text .entry))) (whatRow what) ⌝ }
+{
+    faults::line_of(text, what_row(what))
+}
+
+// The row of what is wrong with it.
+fn trouble_row(trouble: Trouble) -> usize
+    ensures { λ r. ⌜ r ≡ troubleRow trouble ⌝ }
+{
+    match trouble {
+        Trouble::TooLong => 0,
+        Trouble::BadByte => 1,
+        Trouble::Malformed => 2,
+        Trouble::OutOfRange => 3,
+        Trouble::NotWhole => 4,
+        Trouble::PastTwelve => 5,
+        Trouble::Blank => 6,
+        Trouble::Twice => 7,
+        Trouble::NoFrequency => 8,
+        Trouble::NoDefinition => 9,
+        Trouble::NotMain => 10,
+        Trouble::TooManyFrequencies => 11,
+        Trouble::TooManyMains => 12,
+        Trouble::TooManySatellites => 13,
+        Trouble::TooManyShallows => 14,
+        Trouble::TooManyRecords => 15,
+        Trouble::EndedInFrequencies => 16,
+        Trouble::EndedInLongitudes => 17,
+        Trouble::EndedInMains => 18,
+        Trouble::EndedInShallows => 19,
+        Trouble::NoStationCard => 20,
+    }
+}
+
+// The words of what is wrong with it.
+pub fn trouble_words(text: &[u8], trouble: Trouble) -> &[u8]
+    ensures { λ r. ⌜ now r ≡ lineAt (linesOf (now (text .entry))) (troubleRow trouble) ⌝ }
+{
+    faults::line_of(text, trouble_row(trouble))
+}
+
+// The row of a refusal.
+fn refusal_row(refusal: Refusal) -> usize
+    ensures { λ r. ⌜ r ≡ refusalRow refusal ⌝ }
+{
+    match refusal {
+        Refusal::BadLine => 0,
+        Refusal::Malformed => 1,
+        Refusal::OutOfRange => 2,
+        Refusal::BadName => 3,
+        Refusal::Missing => 4,
+        Refusal::TooMany => 5,
+        Refusal::Ended => 6,
+        Refusal::BadDate => 7,
+        Refusal::BadMinutes => 8,
+        Refusal::TooManyTurns => 9,
+        Refusal::TooLarge => 10,
+        Refusal::NoTable => 11,
+        Refusal::NoStation => 12,
+        Refusal::NoMonth => 13,
+    }
+}
+
+// The general words of a refusal.
+pub fn refusal_words(text: &[u8], refusal: Refusal) -> &[u8]
+    ensures { λ r. ⌜ now r ≡ lineAt (linesOf (now (text .entry))) (refusalRow refusal) ⌝ }
+{
+    faults::line_of(text, refusal_row(refusal))
+}
+
+// The row of a word of the command line that cannot be followed.
+fn wrong_row(wrong: Wrong) -> usize
+    ensures { λ r. ⌜ r ≡ wrongRow wrong ⌝ }
+{
+    match wrong {
+        Wrong::NoCommand => 0,
+        Wrong::NoOption => 1,
+        Wrong::NoValue => 2,
+        Wrong::TooFew => 3,
+        Wrong::TooMany => 4,
+        Wrong::NotNumber => 5,
+        Wrong::NotTime => 6,
+        Wrong::NotDay => 7,
+    }
+}
+
+// The words of what is wrong with it.
+pub fn wrong_words(text: &[u8], wrong: Wrong) -> &[u8]
+    ensures { λ r. ⌜ now r ≡ lineAt (linesOf (now (text .entry))) (wrongRow wrong) ⌝ }
+{
+    faults::line_of(text, wrong_row(wrong))
+}

@@ -1,0 +1,4 @@
+pub mod Longitudes
+pub mod AstronomyView
+pub mod Arguments
+pub mod ArgumentsView

@@ -1,0 +1,89 @@
+// The argument V of a main and of a shallow-water constituent, in ticks.
+use crate::astronomy::Longitudes;
+use angles::CENTICYCLE;
+use angles::TURN;
+use angles::mod_turn;
+use table::at_u64;
+use table::entries::integer_at;
+use table::entries::natural_at;
+ghost use mathlib.Core.Path.{_≡_};
+ghost use Prim.Native.Nat.{_<_, _≤_, _^_, _%_};
+ghost use lib.IntN.{natAbs, pos, _+ℤ_, _*ℤ_};
+ghost use lib.ListN.{getD};
+ghost use Rattle.angles.specs.Ticks.{turn};
+ghost use Rattle.angles.specs.Floor.{modTurn};
+ghost use Rattle.table.specs.View.{integers, shallowOf};
+ghost use Rattle.month_arguments.specs.AstronomyView.{longitudesOf};
+ghost use Rattle.month_arguments.specs.Arguments.{lunarTime, fromParts};
+ghost use Rattle.month_arguments.specs.ArgumentsView.{rowArgument};
+
+// An angle, below a turn.
+fn below(angle: u64) -> u64
+    ensures { λ r. ⌜ r ≡ angle % turn ⌝ }
+{
+    if angle < TURN { angle } else { angle % TURN }
+}
+
+// A whole number of times an angle, which is reduced first.
+fn multiple(number: i8, angle: u64) -> i64
+    ensures { λ r. ⌜ r ≡ number *ℤ pos (angle % turn) ⌝ }
+    ensures { λ r. ⌜ natAbs r ≤ 2 ^ 57 ⌝ }
+{
+    (number as i64) * (below(angle) as i64)
+}
+
+// An angle as often as a number of a main's row says.
+fn term(angles: &[i8; 448], row: usize, column: usize, angle: u64) -> i64
+    ensures { λ r. ⌜ r ≡ getD (integers 7 (now (angles .entry)) row) column (pos 0) *ℤ pos (angle % turn) ⌝ }
+    ensures { λ r. ⌜ natAbs r ≤ 2 ^ 57 ⌝ }
+{
+    multiple(integer_at(angles, 7, row, column), angle)
+}
+
+// Lunar time at midnight.
+fn lunar_time(sun: u64, moon: u64) -> u64
+    ensures { λ r. ⌜ r ≡ modTurn (lunarTime sun moon) ⌝ }
+{
+    mod_turn(multiple(1, sun) + multiple(-1, moon))
+}
+
+// V of the main in a row of the table: its terms added up, and reduced once.
+pub fn main_argument(angles: &[i8; 448], row: usize, l: Longitudes) -> u64
+    ensures { λ r. ⌜ r ≡ rowArgument (longitudesOf l) (now (angles .entry)) row ⌝ }
+{
+    let tau = term(angles, row, 0, lunar_time(l.sun, l.moon));
+    let s = term(angles, row, 1, l.moon);
+    let h = term(angles, row, 2, l.sun);
+    let p = term(angles, row, 3, l.perigee);
+    let n = term(angles, row, 4, l.node);
+    let q = term(angles, row, 5, l.solar);
+    let phase = term(angles, row, 6, CENTICYCLE);
+    mod_turn(tau + s + h + p + n + q + phase)
+}
+
+// An angle, and a whole number of times another, modulo T.
+fn advanced(angle: u64, number: i8, by: u64) -> u64
+    ensures { λ r. ⌜ r ≡ modTurn (pos angle +ℤ number *ℤ pos by) ⌝ }
+{
+    mod_turn(multiple(1, angle) + multiple(number, by))
+}
+
+// V of the shallow constituent in a row of the table, from the mains' V: the sum over its parts of coefficient times V.
+pub fn shallow_argument<'a>(
+    vs: &'a [u64; 64],
+    cards: &'a [u16; 768],
+    coefficients: &'a [i8; 512],
+    row: usize,
+) -> u64
+    ensures { λ r. ⌜ r ≡ fromParts (now (vs .entry)) (shallowOf (now (cards .entry)) (now (coefficients .entry)) row) ⌝ }
+{
+    let parts = natural_at(cards, 6, row, 1) as usize;
+    let mut v = 0;
+    let mut part = 0;
+    while part < parts {
+        let main = natural_at(cards, 6, row, 2 + part) as usize;
+        v = advanced(v, integer_at(coefficients, 4, row, part), at_u64(vs, main));
+        part += 1;
+    }
+    v
+}

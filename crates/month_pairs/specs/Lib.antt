@@ -1,0 +1,5 @@
+pub mod Pairs
+pub mod Ranges
+pub mod PairsView
+pub mod Shallow
+pub mod NodalView

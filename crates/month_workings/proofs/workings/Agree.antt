@@ -1,0 +1,58 @@
+-- A shallow constituent whose parts' mains are worked out: V and the pair from what is kept are those from all mains. By recursion on the parts.
+use mathlib.Core.Path.{_≡_, refl, ap, _∙_}
+use mathlib.Core.List.{List}
+use Prim.Native.Nat.{ℕ, zero, suc, _+_, _≤_, _<_}
+use native.Mathlib.Omega.{arith}
+use lib.IntN.{ℤ, pos, _+ℤ_, _*ℤ_}
+use lib.ListN.{getD}
+use Rattle.angles.specs.Floor.{modTurn}
+use Rattle.table.specs.View.{listed, partOf, naturals, integers, shallowOf}
+use Rattle.month_arguments.specs.Arguments as arguments
+use Rattle.month_arguments.specs.Arguments.{sumOfParts}
+use Rattle.month_satellites.specs.Satellites.{Pair}
+use Rattle.month_pairs.specs.Pairs.{Corrected, tooLarge, pair, one, andThen}
+use Rattle.month_pairs.specs.Shallow as nodal
+use Rattle.month_pairs.specs.Shallow.{timesPart, timesParts}
+use Rattle.month_pairs.specs.NodalView.{pairsOf}
+use Rattle.month_workings.specs.Kept.{Kept, WithParts}
+
+-- ---- parts whose mains stand alike in two lists
+
+module _ (card : List ℕ) (coefficients : List ℤ) where
+  sums-alike : (vs ws : List ℕ) (j n : ℕ) → ((i : ℕ) → j ≤ i → i < j + n → getD vs (getD card (2 + i) 0) 0 ≡ getD ws (getD card (2 + i) 0) 0)
+      → sumOfParts vs (listed (partOf card coefficients) j n) ≡ sumOfParts ws (listed (partOf card coefficients) j n)
+  unfolding sumOfParts listed partOf
+  sums-alike vs ws j zero h = refl
+  sums-alike vs ws j (suc n) h =
+      let first : getD vs (getD card (2 + j) 0) 0 ≡ getD ws (getD card (2 + j) 0) 0 = h j (omega arith) (omega arith) in
+      let rest : sumOfParts vs (listed (partOf card coefficients) (suc j) n) ≡ sumOfParts ws (listed (partOf card coefficients) (suc j) n) = sums-alike vs ws (suc j) n (λ i a b. h i (omega arith) (omega arith)) in
+      rw (first, rest)
+
+  then-alike : (c : Corrected) (f g : Pair → Corrected) → ((p : Pair) → f p ≡ g p) → andThen c f ≡ andThen c g
+  then-alike tooLarge f g h = refl
+  then-alike (pair p) f g h = h p
+
+  products-alike : (ps qs : List Corrected) (j n : ℕ) → ((i : ℕ) → j ≤ i → i < j + n → getD ps (getD card (2 + i) 0) (pair one) ≡ getD qs (getD card (2 + i) 0) (pair one))
+      → (p : Pair) → timesParts ps p (listed (partOf card coefficients) j n) ≡ timesParts qs p (listed (partOf card coefficients) j n)
+  unfolding timesParts timesPart listed partOf
+  products-alike ps qs j zero h p = refl
+  products-alike ps qs j (suc n) h p =
+      let first : timesPart ps p (partOf card coefficients j) ≡ timesPart qs p (partOf card coefficients j) = rw (h j (omega arith) (omega arith)) in
+      ap (λ c. andThen c (λ q. timesParts ps q (listed (partOf card coefficients) (suc j) n))) first
+      ∙ then-alike (timesPart qs p (partOf card coefficients j)) _ _ (products-alike ps qs (suc j) n (λ i a b. h i (omega arith) (omega arith)))
+
+-- ---- a shallow constituent
+
+module _ (all : List ℕ) (pairs : List Corrected) (cards : List ℕ) (coefficients : List ℤ) (row : ℕ) (vs : List ℕ) (xs ys : List ℤ)
+    (w : WithParts (λ k. getD all k 0) (λ k. getD pairs k (pair one)) (naturals 6 cards row) vs xs ys) where
+  pub shallow-argument-is : arguments.fromParts vs (shallowOf cards coefficients row) ≡ arguments.fromParts all (shallowOf cards coefficients row)
+  unfolding arguments.fromParts shallowOf
+  shallow-argument-is =
+      ap modTurn (sums-alike (naturals 6 cards row) (integers 4 coefficients row) vs all 0 (getD (naturals 6 cards row) 1 0)
+      (λ i a b. w .kept .arguments (getD (naturals 6 cards row) (2 + i) 0) (w .has i (omega arith))))
+
+  pub shallow-pair-is : nodal.fromParts (pairsOf xs ys) (shallowOf cards coefficients row) ≡ nodal.fromParts pairs (shallowOf cards coefficients row)
+  unfolding nodal.fromParts shallowOf
+  shallow-pair-is =
+      products-alike (naturals 6 cards row) (integers 4 coefficients row) (pairsOf xs ys) pairs 0 (getD (naturals 6 cards row) 1 0)
+      (λ i a b. w .kept .pairs (getD (naturals 6 cards row) (2 + i) 0) (w .has i (omega arith))) one

@@ -1,0 +1,67 @@
+-- Before any main is worked out: no V is below a turn, and past the table's rows V is 0 and the pair (2^20, 0). By the lengths of its arrays.
+use mathlib.Core.Path.{_≡_, refl, sym, ap, subst, _∙_}
+use mathlib.Core.Bool.{Bool, true, false}
+use mathlib.Core.List.{List, [], _∷_}
+use Prim.Native.Nat.{ℕ, zero, suc, _+_, _*_, _≤_, _<_}
+use native.Mathlib.Omega.{arith}
+use native.Mathlib.Nat.{lt-irrefl, zero-mul}
+use borrow.Author.Tests.{ltb-true, ltb-false}
+use lib.Dec.{ltb}
+use lib.IntN.{ℤ, pos, zero-*ℤ}
+use lib.ListN.{length, getD, replicate, getD-replicate, length-replicate, List·getD-eq-default}
+use Rattle.angles.specs.Ticks.{turn, centicycle}
+use Rattle.angles.specs.Floor.{modTurn}
+use Rattle.table.specs.View.{listed, rowOf, naturals, integers}
+use Rattle.table.proofs.entries.Beyond.{past-rows, past-entries, entry-at}
+use Rattle.month_arguments.specs.Longitudes.{Longitudes, times}
+use Rattle.month_arguments.specs.Arguments.{astronomical, argument}
+use Rattle.month_arguments.specs.ArgumentsView.{rowArgument}
+use Rattle.month_satellites.specs.Latitude.{Factors}
+use Rattle.month_satellites.specs.Satellites.{sumOver, mainPair}
+use Rattle.month_pairs.specs.Pairs.{Corrected, checked, pair, one}
+use Rattle.month_pairs.specs.NodalView.{pairsOf, rowSatellites, rowCorrected}
+use Rattle.month_workings.specs.Kept.{argumentAt, correctedAt, Has, Kept}
+
+-- V of a row past the array
+row-past : (l : Longitudes) (angles : List ℤ) (k : ℕ) → length angles ≤ 7 * k → rowArgument l angles k ≡ 0
+unfolding rowArgument argument times rowOf listed
+row-past l angles k h =
+    rw (past 0, past 1, past 2, past 3, past 4, past 5, past 6) (simp (zero-*ℤ, zero-mul))
+  where
+    past : (j : ℕ) → getD angles (7 * k + j) (pos 0) ≡ pos 0
+    past j = List·getD-eq-default angles (pos 0) (omega arith)
+
+-- the pair of a row past the array
+pair-past : (g : Factors) (longitudes cards : List ℕ) (angles : List ℤ) (ratios : List ℕ) (k : ℕ) → length cards ≤ 3 * k → rowCorrected g longitudes cards angles ratios k ≡ pair one
+unfolding rowCorrected rowSatellites mainPair sumOver checked listed
+pair-past g longitudes cards angles ratios k h =
+    let none : getD (naturals 3 cards k) 2 0 ≡ 0 = sym (past-rows 0 3 cards k 2 (omega arith) (omega arith)) in
+    rw none
+
+-- an entry of a list that has the default from 64 on
+from-64 : {A : Type 0} (none : A) (f : ℕ → A) (n : ℕ) → ((k : ℕ) → 64 ≤ k → f k ≡ none) → (k : ℕ) → 64 ≤ k → getD (listed f 0 n) k none ≡ none
+from-64 none f n h k far = by (ltb k n) refl
+  where
+    by : (t : Bool) → ltb k n ≡ t → getD (listed f 0 n) k none ≡ none
+    by true e = sym (entry-at none f n k (ltb-true k n e)) ∙ h k far
+    by false e = sym (past-entries none f n k (ltb-false k n e))
+
+module _ (l : Longitudes) (angles : List ℤ) (g : Factors) (longitudes cards : List ℕ) (satelliteangles : List ℤ) (ratios : List ℕ) (mains : ℕ) (a : length angles ≡ 448) (b : length cards ≡ 192) where
+  far-only : (k : ℕ) → Has (replicate 64 turn) k → 64 ≤ k
+  far-only k h = by (ltb k 64) refl
+    where
+      by : (t : Bool) → ltb k 64 ≡ t → 64 ≤ k
+      by true e = absurd (lt-irrefl turn (subst (λ (n : ℕ). n < turn) (getD-replicate 64 k turn 0 (ltb-true k 64 e)) h))
+      by false e = ltb-false k 64 e
+
+  pub none-kept : Kept (argumentAt l angles mains) (correctedAt g longitudes cards satelliteangles ratios mains) (replicate 64 turn) (replicate 64 (pos 0)) (replicate 64 (pos 0))
+  none-kept =
+      record {
+        room = (refl, refl, refl);
+        arguments = λ k h.
+            List·getD-eq-default (replicate 64 turn) 0 (far-only k h)
+            ∙ sym (from-64 0 (rowArgument l angles) mains (λ i f. row-past l angles i (omega arith)) k (far-only k h));
+        pairs = λ k h.
+            sym (past-entries (pair one) _ 64 k (far-only k h))
+            ∙ sym (from-64 (pair one) (rowCorrected g longitudes cards satelliteangles ratios) mains (λ i f. pair-past g longitudes cards satelliteangles ratios i (omega arith)) k (far-only k h));
+      }

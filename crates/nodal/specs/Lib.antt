@@ -1,2 +1,0 @@
-pub mod Shallow
-pub mod View

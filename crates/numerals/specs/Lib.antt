@@ -1,2 +1,0 @@
-pub mod Numerals
-pub mod Capped

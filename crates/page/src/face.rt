@@ -1,0 +1,146 @@
+// What every sheet says on its face, and the pieces of text that all views share.
+//
+// A function that puts text takes a lent page and a place on it, as those of `output` do, and gives the place behind the text.
+ghost use mathlib.Core.Path.{_≡_};
+ghost use Prim.Native.Nat.{_≤_};
+ghost use lib.ListN.{length};
+use digits::dates;
+use digits::texts;
+pub use digits::texts::is_greenwich;
+pub use digits::texts::trimmed;
+
+// What a sheet stands on: the station's latitude in minutes, north positive, how many constituents it has, and the CRC-32 of the card
+// file and of the station file.
+pub struct Face {
+    pub latitude: i32,
+    pub constituents: usize,
+    pub cards: u32,
+    pub station: u32,
+}
+
+// Puts a month's name, or its number where it has none.
+pub fn put_month_name(page: &mut [u8], at: usize, month: u32) -> usize
+    ensures { λ r. ⌜ r ≤ length (now (page .entry)) ⌝ }
+{
+    let name = dates::month_name(month);
+    let word = texts::trimmed(&name);
+    if word.len() == 0 {
+        return output::put_number(page, at, month as u64);
+    }
+    output::put_bytes(page, at, word)
+}
+
+// Puts a month and its year, as July 1976.
+pub fn put_month(page: &mut [u8], at: usize, year: u32, month: u32) -> usize
+    ensures { λ r. ⌜ r ≤ length (now (page .entry)) ⌝ }
+{
+    let name = put_month_name(page, at, month);
+    let blank = output::put(page, name, 32);
+    output::put_number(page, blank, year as u64)
+}
+
+// Puts a station's name and a comma, behind which a view puts its month or day.
+pub fn put_name(page: &mut [u8], at: usize, name: &[u8]) -> usize
+    ensures { λ r. ⌜ r ≤ length (now (page .entry)) ⌝ }
+{
+    let next = output::put_bytes(page, at, texts::trimmed(name));
+    output::put_bytes(page, next, b", ")
+}
+
+// Puts a station's name and the month, on a line.
+pub fn put_title(page: &mut [u8], at: usize, name: &[u8], year: u32, month: u32) -> usize
+    ensures { λ r. ⌜ r ≤ length (now (page .entry)) ⌝ }
+{
+    let comma = put_name(page, at, name);
+    let next = put_month(page, comma, year, month);
+    output::put(page, next, 10)
+}
+
+// The same number in 64 bits.
+fn wide(a: i32) -> i64
+    ensures { λ r. ⌜ r ≡ a ⌝ }
+{
+    a as i64
+}
+
+// Puts a latitude, as 48 deg 25' N.
+fn put_latitude(page: &mut [u8], at: usize, latitude: i32) -> usize
+    ensures { λ r. ⌜ r ≤ length (now (page .entry)) ⌝ }
+{
+    let size = angles::size(wide(latitude));
+    let next = output::put_number(page, at, size / 60);
+    output::put_bytes(page, next, &digits::latitude_end(size, latitude < 0))
+}
+
+// Puts the eight hexadecimal digits of a checksum.
+fn put_hex8(page: &mut [u8], at: usize, sum: u32) -> usize
+    ensures { λ r. ⌜ r ≤ length (now (page .entry)) ⌝ }
+{
+    let mut text = [0u8; 16];
+    let n = io::hex(sum as u64, 8, &mut text);
+    output::put_bytes(page, at, &text[..n])
+}
+
+// Puts a latitude and a number of constituents.
+fn put_station(page: &mut [u8], at: usize, latitude: i32, constituents: usize) -> usize
+    ensures { λ r. ⌜ r ≤ length (now (page .entry)) ⌝ }
+{
+    let word = output::put_bytes(page, at, b"latitude ");
+    let comma = put_latitude(page, word, latitude);
+    let next = output::put_bytes(page, comma, b", ");
+    output::put_number(page, next, constituents as u64)
+}
+
+// Puts the checksums of the two files.
+fn put_sums(page: &mut [u8], at: usize, cards: u32, station: u32) -> usize
+    ensures { λ r. ⌜ r ≤ length (now (page .entry)) ⌝ }
+{
+    let word = output::put_bytes(page, at, b" constituents; CRC-32 of the cards ");
+    let comma = put_hex8(page, word, cards);
+    let next = output::put_bytes(page, comma, b", of the station ");
+    put_hex8(page, next, station)
+}
+
+// Puts what a sheet stands on: latitude, constituents and the two checksums, on one line with no line end.
+pub fn put_face(page: &mut [u8], at: usize, face: Face) -> usize
+    ensures { λ r. ⌜ r ≤ length (now (page .entry)) ⌝ }
+{
+    let next = put_station(page, at, face.latitude, face.constituents);
+    put_sums(page, next, face.cards, face.station)
+}
+
+// Puts what the times are: GMT, or the station file's own zone.
+fn put_zone(page: &mut [u8], at: usize, zone: &[u8]) -> usize
+    ensures { λ r. ⌜ r ≤ length (now (page .entry)) ⌝ }
+{
+    if texts::is_greenwich(zone) {
+        return output::put_bytes(page, at, b"GMT");
+    }
+    let next = output::put_bytes(page, at, texts::trimmed(zone));
+    output::put_bytes(page, next, b" (the station file's zone)")
+}
+
+// Puts the unit of the heights and the zone of the times, on one line with no line end.
+pub fn put_scales<'a>(page: &mut [u8], at: usize, zone: &'a [u8], unit: &'a [u8]) -> usize
+    ensures { λ r. ⌜ r ≤ length (now (page .entry)) ⌝ }
+{
+    let word = output::put_bytes(page, at, b"heights in ");
+    let comma = output::put_bytes(page, word, unit);
+    let next = output::put_bytes(page, comma, b", times ");
+    put_zone(page, next, zone)
+}
+
+// Puts the scales and what a sheet stands on, on two lines, the second with no line end.
+pub fn put_stand<'a>(
+    page: &mut [u8],
+    at: usize,
+    face: Face,
+    zone: &'a [u8],
+    unit: &'a [u8],
+) -> usize
+    ensures { λ r. ⌜ r ≤ length (now (page .entry)) ⌝ }
+{
+    let scales = put_scales(page, at, zone, unit);
+    let next = output::put(page, scales, 10);
+    put_face(page, next, face)
+}

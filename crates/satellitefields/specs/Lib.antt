@@ -1,2 +1,0 @@
-pub mod Satellite
-pub mod Answers

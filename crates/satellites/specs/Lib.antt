@@ -1,3 +1,0 @@
-pub mod Satellites
-pub mod Ranges
-pub mod View

@@ -1,4 +1,0 @@
-pub mod Heights
-pub mod Lines
-pub mod Places
-pub mod Lanes

@@ -1,0 +1,162 @@
+// Heights for other programs: comma separated values, a row for each height, behind lines that say what they stand on.
+ghost use Prim.Native.Nat.{_≤_};
+ghost use lib.ListN.{length};
+use digits::dates;
+use digits::texts;
+use page::face;
+use page::face::Face;
+use page::figures;
+
+// Whether a byte is from one to another.
+fn among(byte: u8, low: u8, high: u8) -> bool {
+    low <= byte && byte <= high
+}
+
+// A byte that is safe in a column's name: a letter or a digit as it is, any other as _.
+fn plain(byte: u8) -> u8 {
+    if among(byte, b'0', b'9') {
+        return byte;
+    }
+    if among(byte, b'A', b'Z') {
+        return byte;
+    }
+    if among(byte, b'a', b'z') {
+        return byte;
+    }
+    b'_'
+}
+
+// Puts text as a part of a column's name.
+fn put_plain(page: &mut [u8], at: usize, text: &[u8]) -> usize {
+    let mut next = at;
+    let mut i = 0;
+    while i < text.len() {
+        next = output::put(page, next, plain(text[i]));
+        i += 1;
+    }
+    next
+}
+
+// Puts the name of the column of times: its zone is in it where that is not Greenwich's.
+fn put_time_name(page: &mut [u8], at: usize, zone: &[u8]) -> usize {
+    let next = output::put_bytes(page, at, b"time");
+    if texts::is_greenwich(zone) {
+        return next;
+    }
+    let word = output::put(page, next, b'_');
+    put_plain(page, word, texts::trimmed(zone))
+}
+
+// Puts the two columns' names, on a line.
+fn put_names<'a>(page: &mut [u8], at: usize, zone: &'a [u8], unit: &'a [u8]) -> usize
+    ensures { λ r. ⌜ r ≤ length (now (page .entry)) ⌝ }
+{
+    let a = put_time_name(page, at, zone);
+    let b = output::put_bytes(page, a, b",height_");
+    let c = put_plain(page, b, unit);
+    output::put(page, c, 10)
+}
+
+// Puts the lines before the rows: what the heights stand on, and the columns' names.
+fn put_head<'a>(page: &mut [u8], at: usize, face: Face, zone: &'a [u8], unit: &'a [u8]) -> usize
+    ensures { λ r. ⌜ r ≤ length (now (page .entry)) ⌝ }
+{
+    let a = output::put_bytes(page, at, b"# ");
+    let b = face::put_scales(page, a, zone, unit);
+    let c = output::put_bytes(page, b, b"\n# ");
+    let d = face::put_face(page, c, face);
+    let e = output::put(page, d, 10);
+    put_names(page, e, zone, unit)
+}
+
+// Puts what stands between a time and a height: the mark of Greenwich's time, and a comma.
+fn put_comma(page: &mut [u8], at: usize, greenwich: bool) -> usize {
+    if greenwich {
+        return output::put_bytes(page, at, b"Z,");
+    }
+    output::put(page, at, b',')
+}
+
+// Puts the ISO time of a minute of a month, as 1976-07-01T00:00.
+fn put_iso(page: &mut [u8], at: usize, year: u32, month: u32, minute: u32) -> usize {
+    let next = output::put_bytes(page, at, &dates::iso_day(year, month, minute));
+    figures::put_clock(page, next, minute)
+}
+
+// Puts a row: a time and a height.
+fn put_row(
+    page: &mut [u8],
+    at: usize,
+    greenwich: bool,
+    year: u32,
+    month: u32,
+    minute: u32,
+    height: i64,
+) -> usize
+    ensures { λ r. ⌜ r ≤ length (now (page .entry)) ⌝ }
+{
+    let time = put_iso(page, at, year, month, minute);
+    let comma = put_comma(page, time, greenwich);
+    let next = figures::put_exact(page, comma, height);
+    output::put(page, next, 10)
+}
+
+// The minute a step behind another; minutes stay below 2^32.
+fn step_on(minute: u32, step: u32) -> u32 {
+    std::num::wrapping_add_u32(minute, step)
+}
+
+// Puts a row for each height, from a start in the month on, a step apart.
+fn put_rows(
+    page: &mut [u8],
+    at: usize,
+    greenwich: bool,
+    year: u32,
+    month: u32,
+    start: u32,
+    step: u32,
+    heights: &[i64],
+) -> usize
+    ensures { λ r. ⌜ r ≤ length (now (page .entry)) ⌝ }
+{
+    let mut next = output::on_page(page.len(), at);
+    let mut minute = start;
+    let mut i = 0;
+    while i < heights.len() {
+        next = put_row(page, next, greenwich, year, month, minute, heights[i]);
+        minute = step_on(minute, step);
+        i += 1;
+    }
+    next
+}
+
+// Puts heights, from a start in the month on, a step apart, with what they stand on before them.
+pub fn put_heights<'a>(
+    page: &mut [u8],
+    at: usize,
+    face: Face,
+    name: &'a [u8],
+    zone: &'a [u8],
+    unit: &'a [u8],
+    year: u32,
+    month: u32,
+    start: u32,
+    step: u32,
+    heights: &'a [i64],
+) -> usize
+    ensures { λ r. ⌜ r ≤ length (now (page .entry)) ⌝ }
+{
+    let mark = output::put_bytes(page, at, b"# ");
+    let title = face::put_title(page, mark, name, year, month);
+    let head = put_head(page, title, face, zone, unit);
+    put_rows(
+        page,
+        head,
+        texts::is_greenwich(zone),
+        year,
+        month,
+        start,
+        step,
+        heights,
+    )
+}

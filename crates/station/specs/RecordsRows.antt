@@ -1,0 +1,48 @@
+-- 01, "Satellites and weights": "lent as one row of records: place, amplitude, phase"; the records lent, and the rows of the code's struct.
+-- Assumes nothing.
+use Prim.Native.Nat.{ℕ, zero, suc, _+_}
+use mathlib.Core.List.{List, [], _∷_}
+use lib.ListN.{getD, set, replicate}
+use Rattle.station.specs.declared.records.Record.{Record}
+use Rattle.station.specs.declared.records.Rows.{Rows}
+
+-- record k of three lists
+abbrev pub recordFrom : List ℕ → List ℕ → List ℕ → ℕ → Record
+recordFrom places amplitudes phases k = record { place = getD places k 0; amplitude = getD amplitudes k 0; phase = getD phases k 0 }
+
+-- the n records from k on
+unfoldable pub recordsFrom : List ℕ → List ℕ → List ℕ → ℕ → ℕ → List Record
+recordsFrom places amplitudes phases k zero = []
+recordsFrom places amplitudes phases k (suc n) =
+    recordFrom places amplitudes phases k ∷ recordsFrom places amplitudes phases (k + 1) n
+
+abbrev pub recordAt : Rows → ℕ → Record
+recordAt rows k = recordFrom (rows .places) (rows .amplitudes) (rows .phases) k
+
+-- the n records of the rows
+abbrev pub recordsOf : Rows → ℕ → List Record
+recordsOf rows n = recordsFrom (rows .places) (rows .amplitudes) (rows .phases) 0 n
+
+-- ---- the lent records, taken apart
+
+abbrev pub blank : Record
+blank = record { place = 0; amplitude = 0; phase = 0 }
+
+-- record k of those lent
+abbrev pub lentAt : List Record → ℕ → Record
+lentAt rs k = getD rs k blank
+
+abbrev pub noRows : Rows
+noRows = record { places = replicate 146 0; amplitudes = replicate 146 0; phases = replicate 146 0 }
+
+abbrev pub putRow : Rows → ℕ → ℕ → ℕ → ℕ → Rows
+putRow rows k place amplitude phase =
+    record { places = set (rows .places) k place; amplitudes = set (rows .amplitudes) k amplitude; phases = set (rows .phases) k phase }
+
+abbrev pub putLent : Rows → ℕ → Record → Rows
+putLent rows k r = putRow rows k (r .place) (r .amplitude) (r .phase)
+
+-- the first k of the records lent, each in its row
+unfoldable pub rowsUpto : List Record → ℕ → Rows
+rowsUpto rs zero = noRows
+rowsUpto rs (suc k) = putLent (rowsUpto rs k) k (lentAt rs k)

@@ -1,0 +1,69 @@
+// A station's records that lie in three arrays: their places, amplitudes and phase lags.
+ghost use mathlib.Core.Path.{_≡_};
+ghost use mathlib.Core.Bool.{false};
+ghost use Prim.Native.Nat.{_<_, min};
+ghost use lib.ListN.{length};
+ghost use Rattle.station.specs.RecordsRows.{rowsUpto, putRow, noRows};
+ghost use Rattle.station.specs.Arrays.{oneLength, lacking, recordsIn};
+use crate::records::Rows;
+
+// No records.
+fn no_rows() -> Rows
+    ensures { λ r. ⌜ r ≡ noRows ⌝ }
+{
+    Rows {
+        places: [0u8; 146],
+        amplitudes: [0u32; 146],
+        phases: [0u32; 146],
+    }
+}
+
+// Rows with one more record.
+fn with_record(rows: Rows, k: usize, place: u8, amplitude: u32, phase: u32) -> Rows
+    requires { ⌜ k < 146 ⌝ }
+    ensures { λ r. ⌜ r ≡ putRow rows k place amplitude phase ⌝ }
+{
+    let mut out = rows;
+    out.places[k] = place;
+    out.amplitudes[k] = amplitude;
+    out.phases[k] = phase;
+    out
+}
+
+// The shorter of two.
+fn shorter(a: usize, b: usize) -> usize
+    ensures { λ r. ⌜ r ≡ min a b ⌝ }
+{
+    if a < b { a } else { b }
+}
+
+// The first 146 records of three arrays that are as long as each other: past 146 the station is refused by its count.
+pub fn rows_in(places: &[u8], amplitudes: &[u32], phases: &[u32]) -> Rows
+    requires { ⌜ length (now amplitudes) ≡ length (now places) ⌝ }
+    requires { ⌜ length (now phases) ≡ length (now places) ⌝ }
+    ensures { λ r. ⌜ r ≡ rowsUpto (recordsIn (now (places .entry)) (now (amplitudes .entry)) (now (phases .entry))) (min (length (now (places .entry))) 146) ⌝ }
+{
+    let most = shorter(places.len(), 146);
+    let mut rows = no_rows();
+    let mut k: usize = 0;
+    while k < most {
+        rows = with_record(rows, k, places[k], amplitudes[k], phases[k]);
+        k += 1;
+    }
+    rows
+}
+
+// Whether three arrays are as long as each other.
+pub fn one_length(places: usize, amplitudes: usize, phases: usize) -> bool
+    ensures { λ r. ⌜ r ≡ oneLength places amplitudes phases ⌝ }
+{
+    places == amplitudes && places == phases
+}
+
+// The first record that one of three arrays lacks: they differ in length.
+pub fn lacking_record(places: usize, amplitudes: usize, phases: usize) -> usize
+    requires { ⌜ oneLength places amplitudes phases ≡ false ⌝ }
+    ensures { λ r. ⌜ r ≡ lacking places amplitudes phases ⌝ }
+{
+    shorter(places, shorter(amplitudes, phases)) + 1
+}

@@ -1,0 +1,64 @@
+// A station's records as they are lent, one for each constituent, taken apart into an array for each field.
+ghost use mathlib.Core.Path.{_≡_};
+ghost use Prim.Native.Nat.{_<_, min};
+ghost use lib.ListN.{length};
+ghost use Rattle.station.specs.RecordsRows.{noRows, putRow, rowsUpto};
+
+// One of a station's constituents, as it is lent: its place in the table, its amplitude and its phase lag.
+pub struct Record {
+    pub place: u8,
+    pub amplitude: u32,
+    pub phase: u32,
+}
+
+// The records taken apart: an array for each field.
+pub struct Rows {
+    pub places: [u8; 146],
+    pub amplitudes: [u32; 146],
+    pub phases: [u32; 146],
+}
+
+// Rows with one more record.
+fn put(rows: Rows, k: usize, place: u8, amplitude: u32, phase: u32) -> Rows
+    requires { ⌜ k < 146 ⌝ }
+    ensures { λ r. ⌜ r ≡ putRow rows k place amplitude phase ⌝ }
+{
+    let mut out = rows;
+    out.places[k] = place;
+    out.amplitudes[k] = amplitude;
+    out.phases[k] = phase;
+    out
+}
+
+// No rows yet.
+fn none() -> Rows
+    ensures { λ r. ⌜ r ≡ noRows ⌝ }
+{
+    Rows {
+        places: [0u8; 146],
+        amplitudes: [0u32; 146],
+        phases: [0u32; 146],
+    }
+}
+
+// Past 146 nothing is taken: a longer row is refused by its count.
+fn at_most(n: usize) -> usize
+    ensures { λ r. ⌜ r ≡ min n 146 ⌝ }
+{
+    if n < 146 { n } else { 146 }
+}
+
+// The records taken apart, the first 146 of them: the thin function over the lent slice of structs. Its proof is a walk by hand.
+pub fn rows_of(rs: &[Record]) -> Rows
+    ensures { λ r. ⌜ r ≡ rowsUpto (now (rs .entry)) (min (length (now (rs .entry))) 146) ⌝ }
+{
+    let m = at_most(rs.len());
+    let mut rows = none();
+    let mut i: usize = 0;
+    while i < m {
+        let r = rs[i];
+        rows = put(rows, i, r.place, r.amplitude, r.phase);
+        i += 1;
+    }
+    rows
+}

@@ -1,3 +1,0 @@
-pub mod Formats
-pub mod Cards
-pub mod Answers

@@ -1,0 +1,169 @@
+// The turns of a whole month, for sheets and drawings.
+//
+// 01's search ends where a stride would pass the last minute asked. From the month's first minute on it so leaves out a turn in what is left
+// of the month behind its last whole stride, and a sheet without that turn would name a later one as the next. Searches over the month's last
+// minutes alone, as long as each of 01's strides, find it.
+ghost use Prim.Native.Nat.{_+_, _≤_};
+ghost use Rattle.clock.specs.View.{Made};
+ghost use Rattle.swings.specs.Kept.{Kept};
+ghost use Rattle.swings.specs.Month.{MonthTurns};
+use clock::Clock;
+use clock::TurnsAnswer;
+
+// One turn, or none.
+struct Turn {
+    found: bool,
+    high: bool,
+    minute: u32,
+    height: i64,
+}
+
+// How many turns stand in the lent buffers, and whether the first is high.
+struct Known {
+    count: usize,
+    first: bool,
+}
+
+// No turn.
+fn no_turn() -> Turn {
+    Turn {
+        found: false,
+        high: false,
+        minute: 0,
+        height: 0,
+    }
+}
+
+// The last of so many turns.
+fn last_of<'a>(count: usize, first: bool, minutes: &'a [u32], heights: &'a [i64]) -> Turn {
+    if count == 0 {
+        return no_turn();
+    }
+    Turn {
+        found: true,
+        high: crate::is_high(first, count - 1),
+        minute: digits::minute_at(minutes, count - 1),
+        height: digits::height_at(heights, count - 1),
+    }
+}
+
+// The last turn of a search over the month's last minutes, as many as a width.
+fn turn_at_end(clock: Clock, last: u32, width: u32) -> Turn
+    requires { ⌜ Made clock ⌝ }
+{
+    let mut minutes = [0u32; 16];
+    let mut heights = [0i64; 16];
+    let from = if width < last { last - width } else { 0 };
+    let answer = clock::turns(clock, from, last, &mut minutes, &mut heights);
+    match answer {
+        TurnsAnswer::Turns(count, first) => last_of(count, first, &minutes, &heights),
+        TurnsAnswer::Refused(_, _) => no_turn(),
+    }
+}
+
+// Whether a turn may follow another: it is later, and high where that is low.
+fn follows(turn: Turn, known: Turn) -> bool {
+    if !turn.found {
+        return false;
+    }
+    if !known.found {
+        return true;
+    }
+    if turn.minute <= known.minute {
+        return false;
+    }
+    turn.high != known.high
+}
+
+// Puts a minute and a height at a place of the buffers; whether both have it.
+fn put_turn(at: usize, minute: u32, height: i64, minutes: &mut [u32], heights: &mut [i64]) -> bool
+    ensures { λ r. ⌜ Kept at (now (minutes .entry)) (now (minutes .exit)) (now (heights .entry)) (now (heights .exit)) ⌝ }
+{
+    if minutes.len() <= at {
+        return false;
+    }
+    if heights.len() <= at {
+        return false;
+    }
+    minutes[at] = minute;
+    heights[at] = height;
+    true
+}
+
+// So many turns, and one more of which it is known whether it was put behind them.
+fn counted(count: usize, first: bool, high: bool, put: bool) -> Known
+    ensures { λ r. ⌜ (count ≤ r .count) × (r .count ≤ count + 1) ⌝ }
+{
+    if !put {
+        return Known { count, first };
+    }
+    if count == 0 {
+        return Known {
+            count: 1,
+            first: high,
+        };
+    }
+    if count < 65_536 {
+        return Known {
+            count: count + 1,
+            first,
+        };
+    }
+    Known { count, first }
+}
+
+// So many turns and one more, where it may follow the last of them.
+fn with_turn(
+    count: usize,
+    first: bool,
+    turn: Turn,
+    minutes: &mut [u32],
+    heights: &mut [i64],
+) -> Known
+    ensures { λ r. ⌜ (count ≤ r .count) × (r .count ≤ count + 1) ⌝ }
+    ensures { λ r. ⌜ Kept count (now (minutes .entry)) (now (minutes .exit)) (now (heights .entry)) (now (heights .exit)) ⌝ }
+{
+    let known = last_of(count, first, minutes, heights);
+    if !follows(turn, known) {
+        return Known { count, first };
+    }
+    let put = put_turn(count, turn.minute, turn.height, minutes, heights);
+    counted(count, first, turn.high, put)
+}
+
+// So many turns and the three that may stand at the month's end.
+fn with_ends(
+    count: usize,
+    first: bool,
+    far: Turn,
+    near: Turn,
+    last: Turn,
+    minutes: &mut [u32],
+    heights: &mut [i64],
+) -> Known
+    ensures { λ r. ⌜ (count ≤ r .count) × (r .count ≤ count + 3) ⌝ }
+    ensures { λ r. ⌜ Kept count (now (minutes .entry)) (now (minutes .exit)) (now (heights .entry)) (now (heights .exit)) ⌝ }
+{
+    let a = with_turn(count, first, far, minutes, heights);
+    let b = with_turn(a.count, a.first, near, minutes, heights);
+    with_turn(b.count, b.first, last, minutes, heights)
+}
+
+// The turns of the month that a clock has prepared, whose last minute is given, from the front of the buffers: 01's search over the whole
+// month, and what 01's three strides find behind its last one at the month's end. A refusal is the clock's.
+pub fn month_turns(clock: Clock, last: u32, minutes: &mut [u32], heights: &mut [i64]) -> TurnsAnswer
+    requires { ⌜ Made clock ⌝ }
+    ensures { λ r. ⌜ MonthTurns clock last (now (minutes .entry)) (now (minutes .exit)) (now (heights .entry)) (now (heights .exit)) r ⌝ }
+{
+    let answer = clock::turns(clock, 0, last, minutes, heights);
+    match answer {
+        TurnsAnswer::Turns(count, first) => {
+            let far = turn_at_end(clock, last, 360);
+            let near = turn_at_end(clock, last, 180);
+            let end = turn_at_end(clock, last, 30);
+            let known = with_ends(count, first, far, near, end, minutes, heights);
+            TurnsAnswer::Turns(known.count, known.first)
+        }
+        TurnsAnswer::Refused(refusal, place) => TurnsAnswer::Refused(refusal, place),
+    }
+}

@@ -1,0 +1,95 @@
+// Bisection: a bracket in which the slope changes sense is halved to the turn in it. The table of cosines and the arrays are lent.
+ghost use mathlib.Core.Path.{_≡_};
+ghost use mathlib.Core.Bool.{cond};
+ghost use Prim.Native.Nat.{_+_, _≤_, _<_};
+ghost use lib.Dec.{ltb};
+ghost use lib.IntN.{natAbs};
+ghost use Rattle.cosine.specs.Fixed.{IsTable};
+ghost use Rattle.turns.specs.Slope.{InRange, slopeOf};
+ghost use Rattle.turns.specs.BisectionPosts.{TurnedPost};
+use crate::sense::differs;
+use crate::slopes::slope;
+use cosine::ENTRIES;
+
+// A turn's minute; the later of the two ends that hold the change, and the slope there.
+pub struct Turned {
+    pub turn: u64,
+    pub later: u64,
+    pub slope: i64,
+}
+
+// The turn between two ends one minute apart: the end with the smaller slope size, the earlier if equal.
+fn turn_between(minute: u64, early: i64, late: i64) -> Turned
+    requires { ⌜ minute < 44_640 ⌝ }
+    ensures { λ r. ⌜ r .turn ≡ cond (ltb (natAbs late) (natAbs early)) (minute + 1) minute ⌝ }
+    ensures { λ r. ⌜ (r .later ≡ minute + 1) × (r .slope ≡ late) ⌝ }
+{
+    let later = minute + 1;
+    if angles::size(late) < angles::size(early) {
+        return Turned {
+            turn: later,
+            later: later,
+            slope: late,
+        };
+    }
+    Turned {
+        turn: minute,
+        later: later,
+        slope: late,
+    }
+}
+
+// Halves a bracket whose ends' slopes are given until its ends are one minute apart, and gives the turn between them.
+pub fn bisect<'a>(
+    table: &'a [u32; ENTRIES],
+    arguments: &'a [u64; 146],
+    lags: &'a [u16; 146],
+    frequencies: &'a [u64; 146],
+    ps: &'a [i32; 146],
+    qs: &'a [i32; 146],
+    count: usize,
+    start: u64,
+    length: u64,
+    early: i64,
+    late: i64,
+) -> Turned
+    requires { ⌜ IsTable (now table) × ((count ≤ 146) × InRange count (now frequencies)) ⌝ }
+    requires { ⌜ (0 < length) × (start + length ≤ 44_640) ⌝ }
+    requires { ⌜ (early ≡ slopeOf (now arguments) (now lags) (now frequencies) (now ps) (now qs) count start) × (late ≡ slopeOf (now arguments) (now lags) (now frequencies) (now ps) (now qs) count (start + length)) ⌝ }
+    ensures { λ r. ⌜ TurnedPost (slopeOf (now (arguments .entry)) (now (lags .entry)) (now (frequencies .entry)) (now (ps .entry)) (now (qs .entry)) count) start length r ⌝ }
+{
+    if length <= 1 {
+        return turn_between(start, early, late);
+    }
+    let half = length / 2;
+    let cut = start + half;
+    let middle = slope(table, arguments, lags, frequencies, ps, qs, count, cut);
+    if differs(early, middle) {
+        return bisect(
+            table,
+            arguments,
+            lags,
+            frequencies,
+            ps,
+            qs,
+            count,
+            start,
+            half,
+            early,
+            middle,
+        );
+    }
+    bisect(
+        table,
+        arguments,
+        lags,
+        frequencies,
+        ps,
+        qs,
+        count,
+        cut,
+        length - half,
+        middle,
+        late,
+    )
+}

@@ -1,0 +1,144 @@
+// The search for turns of the water: strides in a prepared month, and the turn in each in which the slope changes sense. The table of cosines and the arrays are lent.
+ghost use mathlib.Core.Path.{_≡_};
+ghost use Prim.Native.Nat.{_≤_, _<_};
+ghost use lib.ListN.{length};
+ghost use Rattle.cosine.specs.Fixed.{IsTable};
+ghost use Rattle.turns.specs.Slope.{InRange, slopeOf};
+ghost use Rattle.turns.specs.Search.{turnsOf};
+ghost use Rattle.turns.specs.SearchPosts.{NextPost, FoundPost};
+use crate::bisection::bisect;
+use crate::sense::differs;
+use crate::sense::rises;
+use crate::slopes::slope;
+use cosine::ENTRIES;
+
+// How many turns were found, and whether the first is high.
+pub struct Summary {
+    pub count: usize,
+    pub high: bool,
+}
+
+// A turn, whether it is high, the minute from which the search resumes and the slope there.
+struct Next {
+    found: bool,
+    turn: u64,
+    high: bool,
+    later: u64,
+    slope: i64,
+}
+
+// Strides from a minute until the ends' slopes differ in sense, and finds the turn between them.
+fn next_turn<'a>(
+    table: &'a [u32; ENTRIES],
+    arguments: &'a [u64; 146],
+    lags: &'a [u16; 146],
+    frequencies: &'a [u64; 146],
+    ps: &'a [i32; 146],
+    qs: &'a [i32; 146],
+    count: usize,
+    stride: u64,
+    last: u64,
+    minute: u64,
+    here: i64,
+) -> Next
+    requires { ⌜ IsTable (now table) × ((count ≤ 146) × InRange count (now frequencies)) ⌝ }
+    requires { ⌜ (0 < stride) × ((stride ≤ 720) × ((minute ≤ last) × (last ≤ 44_640))) ⌝ }
+    requires { ⌜ here ≡ slopeOf (now arguments) (now lags) (now frequencies) (now ps) (now qs) count minute ⌝ }
+    ensures { λ r. ⌜ NextPost (slopeOf (now (arguments .entry)) (now (lags .entry)) (now (frequencies .entry)) (now (ps .entry)) (now (qs .entry)) count) stride last minute r ⌝ }
+{
+    let mut from = minute;
+    let mut behind = here;
+    while from + stride <= last {
+        let to = from + stride;
+        let ahead = slope(table, arguments, lags, frequencies, ps, qs, count, to);
+        if differs(behind, ahead) {
+            let t = bisect(
+                table,
+                arguments,
+                lags,
+                frequencies,
+                ps,
+                qs,
+                count,
+                from,
+                stride,
+                behind,
+                ahead,
+            );
+            return Next {
+                found: true,
+                turn: t.turn,
+                high: rises(behind),
+                later: t.later,
+                slope: t.slope,
+            };
+        }
+        from = to;
+        behind = ahead;
+    }
+    Next {
+        found: false,
+        turn: last,
+        high: false,
+        later: from,
+        slope: behind,
+    }
+}
+
+// Finds every turn, and keeps the minutes.
+pub fn find_turns<'a>(
+    table: &'a [u32; ENTRIES],
+    arguments: &'a [u64; 146],
+    lags: &'a [u16; 146],
+    frequencies: &'a [u64; 146],
+    ps: &'a [i32; 146],
+    qs: &'a [i32; 146],
+    count: usize,
+    stride: u64,
+    first: u64,
+    last: u64,
+    kept: &mut [u16; 44640],
+) -> Summary
+    requires { ⌜ IsTable (now table) × ((count ≤ 146) × InRange count (now frequencies)) ⌝ }
+    requires { ⌜ (0 < stride) × ((stride ≤ 720) × ((first ≤ last) × (last ≤ 44_640))) ⌝ }
+    requires { ⌜ length (now kept) ≡ 44_640 ⌝ }
+    ensures { λ r. ⌜ FoundPost (turnsOf (slopeOf (now (arguments .entry)) (now (lags .entry)) (now (frequencies .entry)) (now (ps .entry)) (now (qs .entry)) count) stride first last) (now (kept .exit)) r ⌝ }
+{
+    let here = slope(table, arguments, lags, frequencies, ps, qs, count, first);
+    let mut next = next_turn(
+        table,
+        arguments,
+        lags,
+        frequencies,
+        ps,
+        qs,
+        count,
+        stride,
+        last,
+        first,
+        here,
+    );
+    let high = next.high;
+    let mut found: usize = 0;
+    while next.found {
+        kept[found] = next.turn as u16;
+        found = found + 1;
+        next = next_turn(
+            table,
+            arguments,
+            lags,
+            frequencies,
+            ps,
+            qs,
+            count,
+            stride,
+            last,
+            next.later,
+            next.slope,
+        );
+    }
+    Summary {
+        count: found,
+        high: high,
+    }
+}

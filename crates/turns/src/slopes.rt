@@ -1,0 +1,47 @@
+// The slope of the water at a minute of a prepared month. The table of cosines and the arrays are lent.
+ghost use mathlib.Core.Path.{_≡_};
+ghost use Prim.Native.Nat.{_*_, _≤_, _^_};
+ghost use lib.IntN.{natAbs};
+ghost use Rattle.cosine.specs.Fixed.{IsTable};
+ghost use Rattle.turns.specs.Slope.{fall, InRange, slopeOf};
+use cosine::ENTRIES;
+use heights::minuteangle;
+use heights::shares;
+
+// What a constituent of weights P and Q takes from the slope at an angle.
+fn fall_at(table: &[u32; ENTRIES], angle: u64, p: i32, q: i32, frequency: u64) -> i64
+    requires { ⌜ IsTable (now table) ⌝ }
+    requires { ⌜ frequency ≤ 4_999_999_999 ⌝ }
+    ensures { λ r. ⌜ r ≡ fall p q frequency angle ⌝ }
+    ensures { λ r. ⌜ natAbs r ≤ 2 ^ 32 * 4_999_999 ⌝ }
+{
+    let w = cosine::wave(table, angle);
+    let whole = (shares::weigh(p, w.sine) + shares::weigh(q, w.cosine)) >> 30;
+    whole * (frequency / 1_000) as i64
+}
+
+// The slope of the first `count` constituents at a minute.
+pub fn slope<'a>(
+    table: &'a [u32; ENTRIES],
+    arguments: &'a [u64; 146],
+    lags: &'a [u16; 146],
+    frequencies: &'a [u64; 146],
+    ps: &'a [i32; 146],
+    qs: &'a [i32; 146],
+    count: usize,
+    minute: u64,
+) -> i64
+    requires { ⌜ IsTable (now table) × ((count ≤ 146) × InRange count (now frequencies)) ⌝ }
+    requires { ⌜ minute ≤ 44_640 ⌝ }
+    ensures { λ r. ⌜ r ≡ slopeOf (now (arguments .entry)) (now (lags .entry)) (now (frequencies .entry)) (now (ps .entry)) (now (qs .entry)) count minute ⌝ }
+{
+    let mut falls: i64 = 0;
+    let mut k: usize = 0;
+    while k < count {
+        let frequency = frequencies[k];
+        let angle = minuteangle::angle_at(arguments[k], lags[k], frequency, minute);
+        falls = falls + fall_at(table, angle, ps[k], qs[k], frequency);
+        k = k + 1;
+    }
+    -falls
+}
