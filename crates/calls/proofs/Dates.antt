@@ -9,7 +9,8 @@ use Rattle.table.specs.Table.{Table}
 use Rattle.station.specs.Station.{Station}
 use Rattle.calendar.specs.Calendar.{inRange, monthMinutes}
 use Rattle.month.specs.Month.{Prepared, monthOf}
-use Rattle.calls.specs.State.{Maybe, Month, State, stateOf}
+use Rattle.calls.specs.State.{Maybe, Month, State}
+use Rattle.calls.specs.inner.Flags.{stateOf}
 use Rattle.calls.specs.Returned.{Returned, refused, told, onAccepted}
 use Rattle.calls.specs.Calls.{dateAsked, preparedReturns, monthLeft, monthFor, dateReturns, dateLeaves}
 

@@ -7,7 +7,8 @@ use Rattle.table.specs.Table.{Table}
 use Rattle.station.specs.Station.{Station}
 use Rattle.card_file.specs.Cards as cards
 use Rattle.card_file.specs.Cards.{readCards}
-use Rattle.calls.specs.State.{Month, State, stateOf}
+use Rattle.calls.specs.State.{Month, State}
+use Rattle.calls.specs.inner.Flags.{stateOf}
 use Rattle.calls.specs.Returned.{accepted, refused}
 use Rattle.calls.specs.Calls.{cardsReturns, cardsLeaves}
 

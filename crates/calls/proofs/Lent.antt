@@ -14,8 +14,8 @@ use Rattle.refusals.specs.Outcome as outcome
 use Rattle.refusals.specs.Outcome.{Outcome, refuseIf}
 use Rattle.table.specs.Table.{Table}
 use Rattle.station.specs.Station.{stationOutcome}
-use Rattle.station.specs.RecordsRows.{rowsUpto}
-use Rattle.station.specs.RecordsRows.{recordsOf}
+use Rattle.station.specs.inner.Rows.{rowsUpto}
+use Rattle.station.specs.Records.{recordsOf}
 use Rattle.station.specs.declared.records.Record.{Record}
 use Rattle.station.specs.declared.records.Rows.{Rows}
 use Rattle.station.proofs.records.Copies.{records-length, lent-is}

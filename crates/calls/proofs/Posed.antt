@@ -18,7 +18,8 @@ use Rattle.heights.specs.Series.{seriesOf}
 use Rattle.turns.specs.Slope.{slopeAt}
 use Rattle.turns.specs.Search.{turnsOf}
 use Rattle.turns.specs.Written as written
-use Rattle.calls.specs.State.{Month, State, stateOf}
+use Rattle.calls.specs.State.{Month, State}
+use Rattle.calls.specs.inner.Flags.{stateOf}
 use Rattle.calls.specs.Returned.{Returned, accepted, heightIs, refused}
 use Rattle.calls.specs.Calls.{ready, heightReturns, SeriesGiven, seriesRefused, seriesGives, TurnsGiven, turnsRefused, turnsGives, searched}
 

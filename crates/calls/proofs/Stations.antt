@@ -10,7 +10,8 @@ use Rattle.refusals.specs.Outcome.{Outcome}
 use Rattle.station.specs.declared.records.Record.{Record}
 use Rattle.table.specs.Table.{Table}
 use Rattle.station.specs.Station.{Station}
-use Rattle.calls.specs.State.{Month, State, stateOf}
+use Rattle.calls.specs.State.{Month, State}
+use Rattle.calls.specs.inner.Flags.{stateOf}
 use Rattle.calls.specs.Returned.{accepted, refused, told}
 use Rattle.calls.specs.Calls.{stationAsked, stationReturns, stationLeaves}
 

@@ -2,4 +2,4 @@ pub mod State
 pub mod Returned
 pub mod Calls
 pub mod Asked
-pub mod Posts
+pub mod inner

@@ -2,7 +2,6 @@
 -- Assumes nothing.
 use Prim.Native.Nat.{ℕ}
 use mathlib.Core.List.{List}
-use mathlib.Core.Bool.{Bool, true, false}
 use Rattle.table.specs.Table.{Table}
 use Rattle.station.specs.Station.{Station}
 use Rattle.month_prepared.specs.Prepared.{Constituent}
@@ -25,13 +24,3 @@ pub record State : Type 0 where
 -- "a clock with no table, station or month"
 abbrev pub nothing : State
 nothing = record { table = none; station = none; month = none }
-
--- what a flag says is there
-abbrev pub when : {A : Type 0} → Bool → A → Maybe A
-when true a = some a
-when false a = none
-
--- a state by its flags: whether a table, a station and a month are there, and which
-abbrev pub stateOf : Bool → Table → Bool → Station → Bool → Month → State
-stateOf tabled table stationed station dated month =
-    record { table = when tabled table; station = when stationed station; month = when dated month }

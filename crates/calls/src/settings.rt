@@ -1,10 +1,10 @@
 // What a station, a date and a month come to, before the clock keeps them: accepted, or 21, 22, 8 and 11 with 01's places.
 ghost use mathlib.Core.Path.{_≡_};
 ghost use Rattle.refusals.specs.Outcome.{outcomeOf};
-ghost use Rattle.month.specs.View.{preparedOf};
+ghost use Rattle.month.specs.inner.View.{preparedOf};
 ghost use Rattle.calls.specs.Returned.{answerReturned};
 ghost use Rattle.calls.specs.Calls.{preparedReturns, dateAsked};
-ghost use Rattle.calls.specs.Posts.{TakenPost};
+ghost use Rattle.calls.specs.inner.Posts.{TakenPost};
 use month::Preparation;
 use month::Prepared;
 use refusals::Answer;

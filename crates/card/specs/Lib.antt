@@ -1,6 +1,4 @@
 pub mod Formats
 pub mod Card
-pub mod Answers
-pub mod LinesAnswers
 pub mod Places
-pub mod PlacesAnswers
+pub mod inner

@@ -6,7 +6,7 @@ ghost use lib.IntN.{pos};
 ghost use Rattle.fields.specs.declared.Format.the-variants.{Whole};
 ghost use Rattle.card.specs.Formats.{field, within};
 ghost use Rattle.card.specs.Card.{number, numbers};
-ghost use Rattle.card.specs.Answers.{smallGives, naturalGives, NaturalWithin, faultGives};
+ghost use Rattle.card.specs.inner.Answers.{smallGives, naturalGives, NaturalWithin, faultGives};
 
 pub mod lines; // Walking down the lines of the file, and how a card begins that may end its part
 pub mod places; // The places of constituents

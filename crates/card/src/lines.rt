@@ -4,7 +4,7 @@ ghost use Prim.Native.Nat.{_-_, _≤_, _<_};
 ghost use lib.ListN.{length, drop};
 ghost use Rattle.columns.specs.Lines.{firstLine};
 ghost use Rattle.card.specs.Card as card;
-ghost use Rattle.card.specs.LinesAnswers.{NextLine, openingGives};
+ghost use Rattle.card.specs.inner.Lines.{NextLine, openingGives};
 use crate::Refusal;
 
 // The line that starts at a byte of the file.

@@ -5,7 +5,7 @@ ghost use Rattle.columns.specs.Columns.{columns};
 ghost use Rattle.columns.specs.Names.{namesFrom};
 ghost use Rattle.card.specs.Card.{placeNamed, isAmong};
 ghost use Rattle.card.specs.Places.{mainAt, mainNamed};
-ghost use Rattle.card.specs.PlacesAnswers.{placeGives, placesIn};
+ghost use Rattle.card.specs.inner.Places.{placeGives, placesIn};
 use crate::Refusal;
 use columns::names;
 

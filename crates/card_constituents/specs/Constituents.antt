@@ -6,7 +6,7 @@ use lib.Dec.{leb, eqb}
 use Rattle.table.specs.Table.{Main}
 use Rattle.card.specs.Card.{Reading, given, refused, onward, onwardOrEnd}
 use Rattle.card_mains.specs.Mains.{mainPlaces, nextMain}
-use Rattle.card_constituents.specs.Rows.{withCard}
+use Rattle.card_constituents.specs.Satellites.{withCard}
 
 -- "A constituent card leads to its satellite cards, and the last of these leads to the next constituent card."
 -- Line n is the next; before it stand `mains`, with so many satellites in all; `m` is a main of whose satellites `count` are still to come.

@@ -1,3 +1,3 @@
-pub mod Rows
-pub mod Answers
 pub mod Constituents
+pub mod Satellites
+pub mod inner

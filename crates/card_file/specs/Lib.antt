@@ -1,6 +1,4 @@
 pub mod Cards
-pub mod Answers
-pub mod Read
-pub mod Rest
 pub mod Satellites
 pub mod Counts
+pub mod inner

@@ -1,7 +1,7 @@
 // What a card file comes to: how many of each an accepted file has, or its refusal.
 ghost use mathlib.Core.Path.{_≡_};
 ghost use Prim.Native.Nat.{_≤_, min};
-ghost use Rattle.table.specs.View.{tableOf};
+ghost use Rattle.table.specs.inner.View.{tableOf};
 ghost use Rattle.card_file.specs.Cards.{readCards};
 ghost use Rattle.card_file.specs.Satellites.{satellitesIn};
 ghost use Rattle.card_file.specs.Counts.{countsOf};

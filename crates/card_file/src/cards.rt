@@ -6,8 +6,8 @@ ghost use lib.ListN.{length};
 ghost use Rattle.table.specs.Table.{Frequency, Table};
 ghost use Rattle.card.specs.Card.{isAmong};
 ghost use Rattle.card_file.specs.Cards.{allDefined};
-ghost use Rattle.card.specs.PlacesAnswers.{placesIn};
-ghost use Rattle.card_file.specs.Answers.{definedGives};
+ghost use Rattle.card.specs.inner.Places.{placesIn};
+ghost use Rattle.card_file.specs.inner.Answers.{definedGives};
 use card::places::is_among;
 
 // Whether a main or a shallow constituent has the place.

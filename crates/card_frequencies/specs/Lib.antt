@@ -1,3 +1,3 @@
 pub mod Frequencies
-pub mod Answers
 pub mod Longitudes
+pub mod inner

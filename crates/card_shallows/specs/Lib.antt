@@ -1,5 +1,5 @@
 pub mod Coefficients
 pub mod Parts
-pub mod Answers
 pub mod Shallow
 pub mod Shallows
+pub mod inner

@@ -3,7 +3,7 @@ ghost use mathlib.Core.Path.{_≡_};
 ghost use Prim.Native.Nat.{_≤_, _<_};
 ghost use lib.IntN.{natAbs};
 ghost use Rattle.card_shallows.specs.Coefficients.{coefficient, coefficientIn};
-ghost use Rattle.card.specs.Answers.{smallGives};
+ghost use Rattle.card.specs.inner.Answers.{smallGives};
 use card::Refusal;
 use card::Small;
 

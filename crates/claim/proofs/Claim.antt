@@ -12,7 +12,7 @@ use lib.IntN.{ℤ}
 use Rattle.card_file.specs.Cards as cards
 use Rattle.card_file.specs.Cards.{readCards}
 use Rattle.station.specs.declared.records.Record.{Record}
-use Rattle.station.specs.RecordsRows.{recordsOf}
+use Rattle.station.specs.Records.{recordsOf}
 use Rattle.clock.specs.declared.Clock.{Clock}
 use Rattle.calls.specs.State as state
 use Rattle.calls.specs.State.{State, some, none}

@@ -5,17 +5,17 @@ use mathlib.Core.List.{List}
 use Rattle.refusals.specs.Outcome.{numberOf}
 use Rattle.refusals.specs.declared.Refusal.{Refusal}
 use Rattle.refusals.specs.declared.Answer.the-variants.{Accepted, Refused}
-use Rattle.table.specs.View.{tableOf}
-use Rattle.station.specs.Rows.{stationOf}
+use Rattle.table.specs.inner.View.{tableOf}
+use Rattle.station.specs.inner.Station.{stationOf}
 use Rattle.card_file.specs.Cards.{readCards, accepted, refused}
-use Rattle.card_file.specs.Read.{outcomeOf}
+use Rattle.card_file.specs.inner.Read.{outcomeOf}
 use Rattle.card_file.specs.declared.cardfile.Read.{Read}
 use Rattle.card_file.proofs.cardfile.Ranges.{accepted-in-range}
 use Rattle.calls.proofs.Files.{file-accepted, file-refused}
 use Rattle.clock.specs.declared.Clock.{Clock}
 use Rattle.clock.specs.View.{view, monthIn, Made}
 use Rattle.clock.specs.Posts.{CardsPost}
-use Rattle.clock.specs.Parts.{withTable}
+use Rattle.clock.specs.inner.Parts.{withTable}
 use Rattle.clock.proofs.Tables.{in-range}
 
 module _ (c : Clock) (file : List ℕ) (read : Read) (made : Made c) (reads : outcomeOf read ≡ readCards file) where

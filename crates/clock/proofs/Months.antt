@@ -13,27 +13,28 @@ use Rattle.refusals.specs.Outcome.{outcomeOf, numberOf}
 use Rattle.refusals.specs.declared.Refusal.{Refusal}
 use Rattle.refusals.specs.declared.Answer.{Answer}
 use Rattle.refusals.specs.declared.Answer.the-variants.{Accepted, Refused}
-use Rattle.table.specs.View.{tableOf}
-use Rattle.station.specs.Rows.{stationOf}
+use Rattle.table.specs.inner.View.{tableOf}
+use Rattle.station.specs.inner.Station.{stationOf}
 use Rattle.month_prepared.specs.Prepared.{Constituent}
 use Rattle.month_prepared.specs.declared.Month.{Month}
-use Rattle.month_prepared.specs.View.{constituentAt, constituentsAfter, constituentsFrom, constituentsOf}
+use Rattle.month_prepared.specs.inner.View.{constituentAt, constituentsAfter, constituentsFrom, constituentsOf}
 use Rattle.calendar.specs.Calendar.{monthMinutes}
 use Rattle.calendar.proofs.Months.{minutes-short}
 use Rattle.month.specs.Month.{monthOf, prepared}
-use Rattle.month.specs.View.{answeredWith, preparedOf}
+use Rattle.month.specs.inner.View.{answeredWith, preparedOf}
 use Rattle.month.specs.declared.Prepared.{Prepared}
 use Rattle.month.specs.declared.Preparation.{Preparation}
 use Rattle.month.specs.declared.Preparation.the-variants as preparation
 use Rattle.month.proofs.Ranges.{prepared-in-range}
-use Rattle.turns.specs.Slope.{InRange}
+use Rattle.turns.specs.inner.Lists.{InRange}
 use Rattle.clock.specs.declared.Clock.{Clock}
 use Rattle.calls.specs.Returned.{accepted, answerReturned}
 use Rattle.calls.specs.Calls.{preparedReturns, dateAsked}
 use Rattle.calls.proofs.Dates.{date-refused, date-prepared}
 use Rattle.clock.specs.View.{view, monthIn, Made}
-use Rattle.clock.specs.Posts.{PreparedPost, DatePost}
-use Rattle.clock.specs.Parts.{withMonth}
+use Rattle.clock.specs.Posts.{DatePost}
+use Rattle.clock.specs.inner.Posts.{PreparedPost}
+use Rattle.clock.specs.inner.Parts.{withMonth}
 use Rattle.clock.proofs.Tables.{frequencies-within}
 
 -- a constituent's frequency is that of its place

@@ -8,19 +8,20 @@ use Rattle.refusals.specs.Outcome.{outcomeOf, numberOf}
 use Rattle.refusals.specs.declared.Refusal.{Refusal}
 use Rattle.refusals.specs.declared.Answer.{Answer}
 use Rattle.refusals.specs.declared.Answer.the-variants.{Accepted, Refused}
-use Rattle.table.specs.View.{tableOf}
+use Rattle.table.specs.inner.View.{tableOf}
 use Rattle.station.specs.declared.records.Record.{Record}
-use Rattle.station.specs.RecordsRows.{recordsOf, rowsUpto}
+use Rattle.station.specs.Records.{recordsOf}
+use Rattle.station.specs.inner.Rows.{rowsUpto}
 use Rattle.station.specs.declared.records.Rows.{Rows}
-use Rattle.station.specs.Rows.{stationOf}
+use Rattle.station.specs.inner.Station.{stationOf}
 use Rattle.station.specs.declared.Taken.{Taken}
-use Rattle.calls.specs.Posts.{TakenPost}
+use Rattle.calls.specs.inner.Posts.{TakenPost}
 use Rattle.calls.proofs.Stations.{station-accepted, station-refused}
 use Rattle.calls.proofs.Lent.{lent-same}
 use Rattle.clock.specs.declared.Clock.{Clock}
 use Rattle.clock.specs.View.{view, monthIn, Made}
 use Rattle.clock.specs.Posts.{StationPost}
-use Rattle.clock.specs.Parts.{withStation}
+use Rattle.clock.specs.inner.Parts.{withStation}
 
 module _ (c : Clock) (latitude : ℤ) (n : ℕ) (rows : Rows) (made : Made c) (taken : Taken) (says : TakenPost (c .tabled) (c .table) latitude n rows taken) where
   pub taken-accepted : taken .answer ≡ Accepted → StationPost c latitude (recordsOf rows n) Accepted (withStation c (taken .station))

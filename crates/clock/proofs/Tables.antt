@@ -11,10 +11,10 @@ use borrow.Author.Tests.{ltb-true, ltb-false}
 use lib.ListN.{length, getD, List·getD-eq-default}
 use Rattle.table.specs.Table as document
 use Rattle.table.specs.Table.{Frequency, noCards}
-use Rattle.table.specs.View.{tableOf, listed, frequencyOf}
+use Rattle.table.specs.inner.View.{tableOf, listed, frequencyOf}
 use Rattle.table.specs.declared.Table.{Table}
 use Rattle.table.proofs.Rows.{listed-length, listed-at}
-use Rattle.turns.specs.Slope.{InRange}
+use Rattle.turns.specs.inner.Lists.{InRange}
 use Rattle.calls.proofs.settings.Tables.{frequencies-count}
 
 -- a table of no cards has none

@@ -1,4 +1,4 @@
 pub mod Returned
 pub mod View
 pub mod Posts
-pub mod Parts
+pub mod inner

@@ -6,14 +6,10 @@ use mathlib.Core.Path.{_≡_}
 use lib.IntN.{ℤ}
 use Rattle.refusals.specs.declared.Answer.{Answer}
 use Rattle.station.specs.declared.records.Record.{Record}
-use Rattle.calls.specs.State.{State, nothing}
-use Rattle.calls.specs.Returned.{onAccepted, answerReturned}
+use Rattle.calls.specs.State.{nothing}
+use Rattle.calls.specs.Returned.{answerReturned}
 use Rattle.clock.specs.Returned.{heightReturned, turnsReturned}
-use Rattle.table.specs.View.{tableOf}
-use Rattle.station.specs.Rows.{stationOf}
-use Rattle.calendar.specs.Calendar.{monthMinutes}
-use Rattle.month.specs.Month.{monthOf}
-use Rattle.calls.specs.Calls.{preparedReturns, monthLeft, cardsReturns, cardsLeaves, stationReturns, stationLeaves, dateReturns, dateLeaves, heightReturns, seriesGives, turnsGives}
+use Rattle.calls.specs.Calls.{cardsReturns, cardsLeaves, stationReturns, stationLeaves, dateReturns, dateLeaves, heightReturns, seriesGives, turnsGives}
 use Rattle.clock.specs.View.{view, Made}
 use Rattle.clock.specs.declared.Clock.{Clock}
 use Rattle.clock.specs.declared.HeightAnswer.{HeightAnswer}
@@ -37,16 +33,6 @@ pub record DatePost (c : Clock) (year month : ℕ) (answer : Answer) (left : Clo
   pub made : Made left
   pub returns : answerReturned answer ≡ dateReturns (view c) year month
   pub leaves : view left ≡ dateLeaves (view c) year month
-
--- a month that is prepared for a date in range, whatever the flags of the clock say
-pub record PreparedPost (c : Clock) (year month : ℕ) (answer : Answer) (left : Clock) : Type 0 where
-  pub made : Made left
-  pub returns : answerReturned answer ≡ preparedReturns (monthOf (tableOf (c .table)) (stationOf (c .station)) year month)
-  pub leaves : view left ≡ onAccepted (answerReturned answer) (record {
-    table = view c .table;
-    station = view c .station;
-    month = monthLeft (monthMinutes year month) (monthOf (tableOf (c .table)) (stationOf (c .station)) year month);
-  }) (view c)
 
 pub record HeightPost (c : Clock) (minute : ℕ) (answer : HeightAnswer) : Type 0 where
   pub returns : heightReturned answer ≡ heightReturns (view c) minute

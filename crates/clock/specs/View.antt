@@ -3,12 +3,13 @@
 use Prim.Native.Nat.{ℕ, _≤_, min}
 use mathlib.Core.List.{List}
 use Rattle.cosine.specs.Fixed.{IsTable}
-use Rattle.table.specs.View.{tableOf}
-use Rattle.station.specs.Rows.{stationOf}
+use Rattle.table.specs.inner.View.{tableOf}
+use Rattle.station.specs.inner.Station.{stationOf}
 use Rattle.month_prepared.specs.Prepared.{Constituent}
-use Rattle.month_prepared.specs.View.{constituentsFrom}
-use Rattle.turns.specs.Slope.{InRange}
-use Rattle.calls.specs.State.{Month, State, stateOf}
+use Rattle.month_prepared.specs.inner.View.{constituentsFrom}
+use Rattle.turns.specs.inner.Lists.{InRange}
+use Rattle.calls.specs.State.{Month, State}
+use Rattle.calls.specs.inner.Flags.{stateOf}
 use Rattle.clock.specs.declared.Clock.{Clock}
 
 -- the prepared constituents

@@ -4,18 +4,19 @@
 // No call asks anything of its caller but a clock that `new` or another call made.
 ghost use mathlib.Core.Path.{_≡_};
 ghost use mathlib.Core.Bool.{true};
-ghost use Rattle.table.specs.View.{tableOf};
-ghost use Rattle.station.specs.Rows.{stationOf};
+ghost use Rattle.table.specs.inner.View.{tableOf};
+ghost use Rattle.station.specs.inner.Station.{stationOf};
 ghost use Rattle.month.specs.Month.{monthOf};
 ghost use Rattle.calendar.specs.Calendar.{inRange};
 ghost use Rattle.clock.specs.View.{Made};
-ghost use Rattle.clock.specs.Posts.{NewPost, CardsPost, StationPost, DatePost, HeightPost, SeriesPost, TurnsPost, PreparedPost};
-ghost use Rattle.station.specs.RecordsRows.{recordsOf};
-ghost use Rattle.month.specs.View.{preparedOf};
-ghost use Rattle.turns.specs.Written.{returnedOf};
+ghost use Rattle.clock.specs.Posts.{NewPost, CardsPost, StationPost, DatePost, HeightPost, SeriesPost, TurnsPost};
+ghost use Rattle.clock.specs.inner.Posts.{PreparedPost};
+ghost use Rattle.station.specs.Records.{recordsOf};
+ghost use Rattle.month.specs.inner.View.{preparedOf};
+ghost use Rattle.turns.specs.inner.Answers.{returnedOf};
 ghost use Rattle.calls.specs.Calls.{searchReturns};
 ghost use Rattle.clock.specs.Returned.{turnsReturned};
-ghost use Rattle.clock.specs.Parts.{accepts, withTable, withStation, withMonth};
+ghost use Rattle.clock.specs.inner.Parts.{accepts, withTable, withStation, withMonth};
 use calls::asked;
 use calls::settings;
 use card_file::cardfile;

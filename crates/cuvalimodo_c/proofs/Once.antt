@@ -14,7 +14,7 @@ use Rattle.calls.specs.Calls.{SeriesGiven, seriesGives, TurnsGiven, turnsGives}
 use Rattle.clock.specs.Posts as clock
 use Rattle.station.specs.Arrays.{recordsIn}
 use Rattle.cuvalimodo_c.specs.Setting.{stateAfter, setOnce, settingReturned}
-use Rattle.cuvalimodo_c.specs.Posts.{ReadyPost}
+use Rattle.cuvalimodo_c.specs.inner.Posts.{ReadyPost}
 use Rattle.cuvalimodo_c.specs.declared.onecall.Ready.{Ready}
 use Rattle.cuvalimodo_c.specs.Answers.{verdictOf, turningsOf}
 use Rattle.cuvalimodo_c.specs.declared.Verdict.{Verdict}

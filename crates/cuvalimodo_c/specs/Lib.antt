@@ -1,4 +1,4 @@
 pub mod Answers
 pub mod OneCall
 pub mod Setting
-pub mod Posts
+pub mod inner

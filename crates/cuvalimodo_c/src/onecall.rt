@@ -7,7 +7,7 @@ ghost use Rattle.cuvalimodo_c.specs.declared.onecall.Setting.the-variant
 ghost use Rattle.station.specs.Arrays.{recordsIn};
 ghost use Rattle.clock.specs.View.{Made};
 ghost use Rattle.clock.specs.Posts.{NewPost};
-ghost use Rattle.cuvalimodo_c.specs.Posts.{DatedPost, SetPost, ReadyPost};
+ghost use Rattle.cuvalimodo_c.specs.inner.Posts.{DatedPost, SetPost, ReadyPost};
 use clock::After;
 use clock::Clock;
 use refusals::Answer;

@@ -15,8 +15,8 @@ use mir.Val.{SFits, toZ}
 use mir.ValLaws.{toZ-pos}
 use Rattle.fields.specs.Numerals.{wholeGood, wholeSize, fixedGood, fixedSize}
 use Rattle.fields.specs.Number.{number, malformed, signed, inRange, unsigned}
-use Rattle.fields.specs.NumeralsCapped.{cap, kept}
-use Rattle.fields.specs.Capped.{keptOf}
+use Rattle.fields.specs.inner.Cap.{cap, kept}
+use Rattle.fields.specs.inner.Kept.{keptOf}
 use Rattle.fields.specs.declared.Format.{Format}
 use Rattle.fields.specs.declared.Format.the-variants.{Whole, Fixed}
 use Rattle.fields.specs.declared.numerals.Size.the-variants.{Of, Bad}

@@ -1,4 +1,3 @@
 pub mod Number
-pub mod Capped
 pub mod Numerals
-pub mod NumeralsCapped
+pub mod inner

@@ -4,7 +4,7 @@ ghost use Prim.Native.Nat.{_-_};
 ghost use Rattle.columns.specs.Columns.{columns};
 ghost use Rattle.fields.specs.Number as number;
 ghost use Rattle.fields.specs.Number.{signed, numberOf, inRange};
-ghost use Rattle.fields.specs.Capped.{keptOf};
+ghost use Rattle.fields.specs.inner.Kept.{keptOf};
 
 mod numerals; // The digits of a number field behind its sign
 

@@ -5,7 +5,7 @@ ghost use lib.ListN.{replicate};
 ghost use Rattle.columns.specs.Columns.{columns};
 ghost use Rattle.fields.specs.Numerals as number;
 ghost use Rattle.fields.specs.Numerals.{wholeGood, wholeSize, fixedGood, fixedSize};
-ghost use Rattle.fields.specs.NumeralsCapped.{cap, kept};
+ghost use Rattle.fields.specs.inner.Cap.{cap, kept};
 
 // A number without its sign.
 pub enum Size {

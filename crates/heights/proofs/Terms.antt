@@ -5,7 +5,7 @@ use mathlib.Core.Path.{_≡_, refl}
 use mathlib.Core.List.{List, []}
 use lib.IntN.{ℤ, pos, _+ℤ_}
 use lib.ListN.{getD}
-use Rattle.month_prepared.specs.View.{constituentsAfter}
+use Rattle.month_prepared.specs.inner.View.{constituentsAfter}
 use Rattle.month_prepared.proofs.Places.{constituents-more, constituents-none}
 use Rattle.heights.specs.Angle.{angle}
 use Rattle.heights.specs.Share.{share}

@@ -2,5 +2,5 @@ pub mod Height
 pub mod Angle
 pub mod Share
 pub mod Series
-pub mod Angles
 pub mod Exact
+pub mod inner

@@ -3,7 +3,7 @@ ghost use mathlib.Core.Path.{_≡_};
 ghost use Prim.Native.Nat.{_≤_, _^_};
 ghost use lib.IntN.{natAbs};
 ghost use Rattle.cosine.specs.Fixed.{IsTable};
-ghost use Rattle.month_prepared.specs.View.{constituentsFrom};
+ghost use Rattle.month_prepared.specs.inner.View.{constituentsFrom};
 ghost use Rattle.heights.specs.Height.{heightAt};
 
 pub mod minuteangle; // A constituent's angle at a minute

@@ -8,9 +8,9 @@ use lib.IntN.{ℤ, pos}
 use lib.ListN.{length, set, length-set}
 use lib.Seq.{getD-set-same, getD-set-other}
 use Rattle.month_prepared.specs.Prepared.{Constituent}
-use Rattle.month_prepared.specs.View.{constituentAt, constituentsAfter}
+use Rattle.month_prepared.specs.inner.View.{constituentAt, constituentsAfter}
 use Rattle.month_prepared.specs.declared.Month.{Month}
-use Rattle.month.specs.View.{heldUpto}
+use Rattle.month.specs.inner.View.{heldUpto}
 
 module _ (arguments lags frequencies : List ℕ) (ps qs : List ℤ) (k : ℕ) (argument lag frequency : ℕ) (p q : ℤ) where
   -- the five lists with the new numbers, from place j on

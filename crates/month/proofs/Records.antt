@@ -8,22 +8,22 @@ use native.Mathlib.Nat.{sub-zero}
 use lib.ListN.{getD}
 use Rattle.table.specs.Table.{Main, Shallow}
 use Rattle.month_prepared.specs.Prepared.{Constituent}
-use Rattle.station.specs.RecordsRows.{recordFrom, recordsFrom}
+use Rattle.station.specs.Records.{recordFrom, recordsFrom}
 use Rattle.month_arguments.specs.Longitudes.{Longitudes}
 use Rattle.table.specs.Definitions.{definitionAt}
 use Rattle.month_satellites.specs.Latitude.{Factors}
 use Rattle.month_satellites.specs.Satellites.{Pair}
 use Rattle.month_pairs.specs.Pairs as pairs
 use Rattle.month_pairs.specs.Pairs.{pair}
-use Rattle.month_pairs.specs.Ranges.{Small}
-use Rattle.month_satellites.specs.SatellitesRanges.{Sized}
-use Rattle.month_satellites.specs.View.{pairOf}
-use Rattle.month_pairs.specs.PairsView.{correctedOf}
+use Rattle.month_pairs.specs.inner.Ranges.{Small}
+use Rattle.month_satellites.specs.inner.Ranges.{Sized}
+use Rattle.month_satellites.specs.inner.View.{pairOf}
+use Rattle.month_pairs.specs.inner.Corrected.{correctedOf}
 use Rattle.month_satellites.specs.declared.satellites.Pair as code
 use Rattle.month_pairs.specs.declared.pairs.Corrected.the-variants.{TooLarge, Within}
 use Rattle.month_workings.specs.Worked.{argumentOf, correctionOf}
 use Rattle.month.specs.Month.{Prepared, tooLarge, prepared, before, recordThen, recordsPrepared, weight, constituent}
-use Rattle.month_workings.specs.View.{IsWorked}
+use Rattle.month_workings.specs.inner.View.{IsWorked}
 use Rattle.month_workings.specs.declared.worked.Worked.{Worked}
 
 -- what is done goes before what is left

@@ -1,2 +1,2 @@
 pub mod Month
-pub mod View
+pub mod inner

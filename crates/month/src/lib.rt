@@ -21,14 +21,14 @@ ghost use lib.IntN.{natAbs};
 ghost use lib.ListN.{length, getD};
 ghost use Rattle.calendar.specs.Calendar.{inRange};
 ghost use Rattle.cosine.specs.Fixed.{IsTable};
-ghost use Rattle.table.specs.View.{tableOf};
-ghost use Rattle.station.specs.RecordsRows.{recordsFrom};
-ghost use Rattle.station.specs.Rows.{stationOf};
-ghost use Rattle.month_arguments.specs.AstronomyView.{longitudesOf, Reduced};
-ghost use Rattle.month_satellites.specs.LatitudeRanges.{AreFactors, factorsOf};
+ghost use Rattle.table.specs.inner.View.{tableOf};
+ghost use Rattle.station.specs.Records.{recordsFrom};
+ghost use Rattle.station.specs.inner.Station.{stationOf};
+ghost use Rattle.month_arguments.specs.inner.Longitudes.{longitudesOf, Reduced};
+ghost use Rattle.month_satellites.specs.inner.Factors.{AreFactors, factorsOf};
 ghost use Rattle.month.specs.Month.{weight, recordsPrepared, monthOf};
-ghost use Rattle.month_workings.specs.View.{mainsOf, shallowsOf};
-ghost use Rattle.month.specs.View.{preparedOf, frequenciesOf};
+ghost use Rattle.month_workings.specs.inner.View.{mainsOf, shallowsOf};
+ghost use Rattle.month.specs.inner.View.{preparedOf, frequenciesOf};
 
 // What preparing a month says: that it is ready, or the record, from 1, that is refused by 11.
 pub enum Preparation {

@@ -1,4 +1,3 @@
 pub mod Longitudes
-pub mod AstronomyView
 pub mod Arguments
-pub mod ArgumentsView
+pub mod inner

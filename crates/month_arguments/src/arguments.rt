@@ -12,10 +12,10 @@ ghost use lib.IntN.{natAbs, pos, _+ℤ_, _*ℤ_};
 ghost use lib.ListN.{getD};
 ghost use Rattle.angles.specs.Ticks.{turn};
 ghost use Rattle.angles.specs.Floor.{modTurn};
-ghost use Rattle.table.specs.View.{integers, shallowOf};
-ghost use Rattle.month_arguments.specs.AstronomyView.{longitudesOf};
+ghost use Rattle.table.specs.inner.View.{integers, shallowOf};
+ghost use Rattle.month_arguments.specs.inner.Longitudes.{longitudesOf};
 ghost use Rattle.month_arguments.specs.Arguments.{lunarTime, fromParts};
-ghost use Rattle.month_arguments.specs.ArgumentsView.{rowArgument};
+ghost use Rattle.month_arguments.specs.inner.Rows.{rowArgument};
 
 // An angle, below a turn.
 fn below(angle: u64) -> u64

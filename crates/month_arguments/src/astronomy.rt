@@ -9,7 +9,7 @@ ghost use lib.Signed.{remZ};
 ghost use lib.ListN.{getD};
 ghost use Rattle.angles.specs.Ticks.{turn};
 ghost use Rattle.month_arguments.specs.Longitudes.{longitude, longitudesOn};
-ghost use Rattle.month_arguments.specs.AstronomyView.{longitudesOf};
+ghost use Rattle.month_arguments.specs.inner.Longitudes.{longitudesOf};
 
 // A cycle in 10^-10 cycle, and T / 216: card one counts modulo the first, days times card two modulo the second.
 const CYCLE: u64 = TURN / TEN_BILLIONTH;

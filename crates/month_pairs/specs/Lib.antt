@@ -1,5 +1,3 @@
 pub mod Pairs
-pub mod Ranges
-pub mod PairsView
 pub mod Shallow
-pub mod NodalView
+pub mod inner

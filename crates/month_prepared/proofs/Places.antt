@@ -6,7 +6,7 @@ use lib.IntN.{ℤ}
 use lib.ListN.{length}
 use native.Mathlib.Omega.{arith}
 use Rattle.month_prepared.specs.Prepared.{Constituent}
-use Rattle.month_prepared.specs.View.{constituentAt, constituentsAfter, constituentsFrom, constituentsOf}
+use Rattle.month_prepared.specs.inner.View.{constituentAt, constituentsAfter, constituentsFrom, constituentsOf}
 use Rattle.month_prepared.specs.declared.Month.{Month}
 
 module _ (arguments lags frequencies : List ℕ) (ps qs : List ℤ) where

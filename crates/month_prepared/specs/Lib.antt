@@ -1,2 +1,2 @@
 pub mod Prepared
-pub mod View
+pub mod inner

@@ -1,7 +1,7 @@
 ghost use mathlib.Core.Path.{_≡_};
 ghost use mathlib.Core.List.{[]};
 ghost use Prim.Native.Nat.{min};
-ghost use Rattle.month_prepared.specs.View.{constituentsOf};
+ghost use Rattle.month_prepared.specs.inner.View.{constituentsOf};
 
 // A station's constituents in a prepared month: V in ticks, phase lag in hundredths of a degree, frequency in 10^-10 cycle an hour,
 // weights P and Q, the first `count` places of each.

@@ -1,5 +1,3 @@
 pub mod Latitude
-pub mod LatitudeRanges
 pub mod Satellites
-pub mod SatellitesRanges
-pub mod View
+pub mod inner

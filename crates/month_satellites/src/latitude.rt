@@ -4,7 +4,7 @@ ghost use Prim.Native.Nat.{_≤_, _^_};
 ghost use lib.IntN.{natAbs};
 ghost use Rattle.cosine.specs.Fixed.{IsTable};
 ghost use Rattle.month_satellites.specs.Latitude.{latitudeSize, s20, diurnalNorth, semidiurnalNorth, bySide, factorsAt};
-ghost use Rattle.month_satellites.specs.LatitudeRanges.{factorMost, IsS20, AreFactors, factorsOf};
+ghost use Rattle.month_satellites.specs.inner.Factors.{factorMost, IsS20, AreFactors, factorsOf};
 use angles::floor_div;
 use cosine::ENTRIES;
 use cosine::wave;

@@ -1,3 +1,2 @@
-pub mod Kept
 pub mod Worked
-pub mod View
+pub mod inner

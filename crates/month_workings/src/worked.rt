@@ -13,10 +13,10 @@ use table::definitions::Found;
 use table::definitions::find;
 ghost use Rattle.cosine.specs.Fixed.{IsTable};
 ghost use Rattle.month_arguments.specs.Longitudes.{nodal};
-ghost use Rattle.month_arguments.specs.AstronomyView.{longitudesOf, Reduced};
-ghost use Rattle.month_satellites.specs.LatitudeRanges.{AreFactors, factorsOf};
-ghost use Rattle.month_workings.specs.Kept.{argumentAt, correctedAt, Kept};
-ghost use Rattle.month_workings.specs.View.{mainsOf, shallowsOf, Ready, FromMains, IsWorked};
+ghost use Rattle.month_arguments.specs.inner.Longitudes.{longitudesOf, Reduced};
+ghost use Rattle.month_satellites.specs.inner.Factors.{AreFactors, factorsOf};
+ghost use Rattle.month_workings.specs.inner.Kept.{argumentAt, correctedAt, Kept};
+ghost use Rattle.month_workings.specs.inner.View.{mainsOf, shallowsOf, Ready, FromMains, IsWorked};
 
 // What stands at a place of the table: its V, and its pair or refusal 11.
 pub struct Worked {

@@ -4,9 +4,9 @@ use Prim.Native.Nat.{ℕ}
 use Rattle.clock.specs.declared.Clock.{Clock}
 use Rattle.clock.specs.View.{Made}
 use Rattle.transcript.specs.declared.input.Window.{Window}
-use Rattle.transcript.specs.Window.{Within}
+use Rattle.transcript.specs.inner.Window.{Within}
 use Rattle.replay.specs.declared.Step.{Step}
-use Rattle.replay.specs.Posts.{StepPost}
+use Rattle.replay.specs.inner.Posts.{StepPost}
 
 pub step-made : {n : ℕ} (s : Step) (w : Window) → Made (s .clock) → s .window ≡ w → Within n w → StepPost n s
 step-made {n} s w m e h = record { made = m; within = subst (Within n) (sym e) h }

@@ -1,1 +1,1 @@
-pub mod Posts
+pub mod inner

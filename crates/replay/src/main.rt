@@ -4,8 +4,8 @@
 ghost use mathlib.Core.Path.{_≡_};
 ghost use lib.ListN.{length};
 ghost use Rattle.clock.specs.View.{Made};
-ghost use Rattle.transcript.specs.Window.{Within};
-ghost use Rattle.replay.specs.Posts.{StepPost};
+ghost use Rattle.transcript.specs.inner.Window.{Within};
+ghost use Rattle.replay.specs.inner.Posts.{StepPost};
 use clock::Clock;
 use clock::HeightAnswer;
 use clock::TurnsAnswer;

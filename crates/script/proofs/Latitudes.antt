@@ -15,7 +15,7 @@ use mir.ValLaws.{toZ-pos, toZ-ofZ}
 use native.Mathlib.Omega.{arith}
 use Rattle.script.specs.Words.{words, inFront}
 use Rattle.script.specs.Script.{hasMinus, behindMinus}
-use Rattle.script.specs.Left.{wordsFrom}
+use Rattle.script.specs.inner.Left.{wordsFrom}
 use Rattle.script.proofs.words.Words.{words-first}
 
 -- the words of a line that begins with a byte

@@ -1,3 +1,3 @@
 pub mod Script
 pub mod Words
-pub mod Left
+pub mod inner

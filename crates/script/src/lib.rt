@@ -5,7 +5,7 @@ ghost use Prim.Native.Nat.{_+_, _-_, _≤_, _^_};
 ghost use lib.ListN.{length};
 ghost use lib.IntN.{pos, negℤ};
 ghost use Rattle.script.specs.Script.{callOf, callOfWords, recordOf, same, hasMinus, stationAt, stationOf, cardsOf, dateOf, heightOf, seriesOf, turnsOf};
-ghost use Rattle.script.specs.Left.{wordsFrom};
+ghost use Rattle.script.specs.inner.Left.{wordsFrom};
 
 mod words; // The words of a line, and the decimal numbers among them
 

@@ -3,7 +3,7 @@ ghost use mathlib.Core.Path.{_≡_};
 ghost use Prim.Native.Nat.{_+_, _-_, _≤_};
 ghost use lib.ListN.{length, drop};
 ghost use Rattle.script.specs.Words.{number, reading, lastNumber};
-ghost use Rattle.script.specs.Left.{wordsFrom, wordLength, readingAt};
+ghost use Rattle.script.specs.inner.Left.{wordsFrom, wordLength, readingAt};
 
 // A word that is a number, or is not.
 pub enum Number {

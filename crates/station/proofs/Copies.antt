@@ -8,10 +8,10 @@ use native.Mathlib.Omega.{arith}
 use lib.ListN.{getD, set, replicate}
 use lib.IntN.{ℤ}
 use Rattle.station.specs.declared.records.Rows.{Rows}
-use Rattle.station.specs.RecordsRows.{recordsFrom, recordsOf}
+use Rattle.station.specs.Records.{recordsFrom, recordsOf}
 use Rattle.station.proofs.records.Copies.{stored, stored-at}
 use Rattle.station.specs.declared.Station as code
-use Rattle.station.specs.Rows.{noStation, stationUpto, stationOf}
+use Rattle.station.specs.inner.Station.{noStation, stationUpto, stationOf}
 
 -- records whose fields agree are the same records
 agreeing : (ps ms fs ps′ ms′ fs′ : List ℕ) (k n : ℕ)

@@ -18,8 +18,8 @@ use Rattle.station.specs.declared.records.Record.{Record}
 use Rattle.station.specs.declared.records.Rows.{Rows}
 use Rattle.station.specs.declared.Station as code
 use Rattle.station.specs.Station.{repeated, recordOutcome, recordsOutcome}
-use Rattle.station.specs.Rows.{placesBefore, stationUpto, putRecord}
-use Rattle.station.specs.RecordsRows.{recordAt, recordsFrom}
+use Rattle.station.specs.inner.Station.{placesBefore, stationUpto, putRecord}
+use Rattle.station.specs.Records.{recordAt, recordsFrom}
 
 -- a place among the first k is the last of them, or among those before it
 pub repeated-more : (place : ℕ) (places : List ℕ) (k : ℕ) → 0 < k

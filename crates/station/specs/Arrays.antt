@@ -6,7 +6,7 @@ use mathlib.Core.List.{List}
 use lib.ListN.{length}
 use lib.Dec.{eqb}
 use Rattle.station.specs.declared.records.Record.{Record}
-use Rattle.station.specs.RecordsRows.{recordsFrom}
+use Rattle.station.specs.Records.{recordsFrom}
 
 -- "lent as one row of records: place, amplitude, phase": record k has place, amplitude and phase number k
 abbrev pub recordsIn : List ℕ → List ℕ → List ℕ → List Record

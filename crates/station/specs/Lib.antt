@@ -1,5 +1,4 @@
 pub mod Station
-pub mod Rows
-pub mod Posts
-pub mod RecordsRows
 pub mod Arrays
+pub mod Records
+pub mod inner

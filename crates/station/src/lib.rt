@@ -3,9 +3,9 @@ ghost use mathlib.Core.Path.{_≡_};
 ghost use Prim.Native.Nat.{_+_, _%_, _<_, _≤_};
 ghost use Rattle.refusals.specs.Outcome.{outcomeOf};
 ghost use Rattle.station.specs.Station.{repeated, recordOutcome};
-ghost use Rattle.station.specs.Rows.{placesBefore, noStation, putRecord};
-ghost use Rattle.station.specs.Posts.{RecordsPost, StationPost};
-ghost use Rattle.station.specs.RecordsRows.{recordAt};
+ghost use Rattle.station.specs.inner.Station.{placesBefore, noStation, putRecord};
+ghost use Rattle.station.specs.inner.Posts.{RecordsPost, StationPost};
+ghost use Rattle.station.specs.Records.{recordAt};
 
 pub mod records; // A station's records as they are lent, one for each constituent, taken apart into an array for each field
 pub mod recordarrays; // A station's records that lie in three arrays

@@ -3,7 +3,7 @@ ghost use mathlib.Core.Path.{_≡_};
 ghost use mathlib.Core.Bool.{false};
 ghost use Prim.Native.Nat.{_<_, min};
 ghost use lib.ListN.{length};
-ghost use Rattle.station.specs.RecordsRows.{rowsUpto, putRow, noRows};
+ghost use Rattle.station.specs.inner.Rows.{rowsUpto, putRow, noRows};
 ghost use Rattle.station.specs.Arrays.{oneLength, lacking, recordsIn};
 use crate::records::Rows;
 

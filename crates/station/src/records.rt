@@ -2,7 +2,7 @@
 ghost use mathlib.Core.Path.{_≡_};
 ghost use Prim.Native.Nat.{_<_, min};
 ghost use lib.ListN.{length};
-ghost use Rattle.station.specs.RecordsRows.{noRows, putRow, rowsUpto};
+ghost use Rattle.station.specs.inner.Rows.{noRows, putRow, rowsUpto};
 
 // One of a station's constituents, as it is lent: its place in the table, its amplitude and its phase lag.
 pub struct Record {

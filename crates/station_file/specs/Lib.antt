@@ -1,5 +1,4 @@
 pub mod Formats
 pub mod Cards
-pub mod StationfieldsAnswers
 pub mod Station
-pub mod StationfileAnswers
+pub mod inner

@@ -1,3 +1,3 @@
 pub mod Swings
-pub mod Kept
 pub mod Month
+pub mod inner

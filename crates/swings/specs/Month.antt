@@ -8,7 +8,7 @@ use Rattle.clock.specs.declared.Clock.{Clock}
 use Rattle.clock.specs.declared.TurnsAnswer.{TurnsAnswer}
 use Rattle.clock.specs.declared.TurnsAnswer.the-variants.{Turns, Refused}
 use Rattle.clock.specs.Posts.{TurnsPost}
-use Rattle.swings.specs.Kept.{Kept}
+use Rattle.swings.specs.inner.Kept.{Kept}
 
 -- so many turns and at most three more
 pub record More (count : ℕ) (answer : TurnsAnswer) : Type 0 where

@@ -5,7 +5,7 @@
 // minutes alone, as long as each of 01's strides, find it.
 ghost use Prim.Native.Nat.{_+_, _≤_};
 ghost use Rattle.clock.specs.View.{Made};
-ghost use Rattle.swings.specs.Kept.{Kept};
+ghost use Rattle.swings.specs.inner.Kept.{Kept};
 ghost use Rattle.swings.specs.Month.{MonthTurns};
 use clock::Clock;
 use clock::TurnsAnswer;

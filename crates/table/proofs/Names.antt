@@ -8,7 +8,7 @@ use native.Mathlib.Numerals.{add-one}
 use lib.ListN.{getD}
 use Rattle.columns.specs.Columns.{padded}
 use Rattle.columns.specs.Names.{namesFrom}
-use Rattle.table.specs.View.{listed, rowOf, frequencyOf}
+use Rattle.table.specs.inner.View.{listed, rowOf, frequencyOf}
 
 -- a row is its columns
 row-is-name : (xs : List ℕ) (a j n : ℕ) → listed (λ i. getD xs (a + i) 0) j n ≡ padded 0 xs (a + j) n

@@ -9,7 +9,7 @@ use native.Mathlib.Numerals.{add-one}
 use lib.IntN.{ℤ}
 use lib.ListN.{length, getD, set, take, drop, length-set, drop-of-length-le}
 use lib.Seq.{sets, drop-cons, getD-set-same, getD-set-other, getD-take, length-take-le, ext-getD}
-use Rattle.table.specs.View.{listed, rowOf}
+use Rattle.table.specs.inner.View.{listed, rowOf}
 
 module _ {A : Type 0} where
   -- entries that are equal one by one make equal lists

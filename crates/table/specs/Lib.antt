@@ -1,4 +1,3 @@
 pub mod Table
-pub mod View
 pub mod Definitions
-pub mod DefinitionsView
+pub mod inner

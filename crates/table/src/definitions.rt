@@ -3,7 +3,7 @@ use crate::entries::natural_at;
 ghost use mathlib.Core.Path.{_≡_};
 ghost use Prim.Native.Nat.{_≤_};
 ghost use lib.ListN.{length};
-ghost use Rattle.table.specs.DefinitionsView.{placeIn, firstRow, Finds};
+ghost use Rattle.table.specs.inner.Found.{placeIn, firstRow, Finds};
 
 // The row of a main or of a shallow-water constituent, or neither.
 pub enum Found {

@@ -5,7 +5,7 @@ ghost use mathlib.Core.Path.{_≡_};
 ghost use Prim.Native.Nat.{_≤_, _^_};
 ghost use lib.IntN.{pos, natAbs};
 ghost use lib.ListN.{getD, length};
-ghost use Rattle.table.specs.View.{naturals, integers};
+ghost use Rattle.table.specs.inner.View.{naturals, integers};
 
 // A number of a row of whole numbers, or 0 past the rows and columns.
 pub fn natural_at(numbers: &[u16], width: usize, row: usize, column: usize) -> u16

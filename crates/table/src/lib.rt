@@ -5,7 +5,7 @@ ghost use lib.ListN.{length, getD};
 ghost use lib.Seq.{sets};
 ghost use lib.IntN.{pos};
 ghost use Rattle.table.specs.Table.{noCards};
-ghost use Rattle.table.specs.View.{tableOf};
+ghost use Rattle.table.specs.inner.View.{tableOf};
 
 pub mod entries; // A number of a row of the table's arrays, by its column
 pub mod definitions; // What stands at a place of the table

@@ -3,7 +3,7 @@
 ghost use mathlib.Core.Path.{_≡_};
 ghost use Prim.Native.Nat.{min};
 ghost use lib.ListN.{length};
-ghost use Rattle.station.specs.RecordsRows.{recordsOf};
+ghost use Rattle.station.specs.Records.{recordsOf};
 ghost use Rattle.calls.specs.State.{nothing};
 ghost use Rattle.calls.specs.Calls.{stationLeaves, dateLeaves, seriesGives, turnsGives};
 ghost use Rattle.clock.specs.View.{view, Made};

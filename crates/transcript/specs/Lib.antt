@@ -1,2 +1,1 @@
-pub mod Window
-pub mod Posts
+pub mod inner

@@ -3,7 +3,7 @@ ghost use mathlib.Core.Path.{_≡_};
 ghost use Prim.Native.Nat.{_+_, _-_, _≤_, _<_};
 ghost use lib.Dec.{eqb};
 ghost use lib.ListN.{length};
-ghost use Rattle.transcript.specs.Window.{Within, Ends, oneIf, feedsFrom};
+ghost use Rattle.transcript.specs.inner.Window.{Within, Ends, oneIf, feedsFrom};
 use libc::STDIN_FILENO;
 use std::num::wrapping_add_u64;
 

@@ -2,9 +2,9 @@
 ghost use mathlib.Core.Path.{_≡_};
 ghost use Prim.Native.Nat.{_+_, _≤_, _<_};
 ghost use lib.ListN.{length};
-ghost use Rattle.transcript.specs.Window.{Within};
-ghost use Rattle.station.specs.RecordsRows.{noRows};
-ghost use Rattle.transcript.specs.Posts.{FilePost, keptRow};
+ghost use Rattle.transcript.specs.inner.Window.{Within};
+ghost use Rattle.station.specs.inner.Rows.{noRows};
+ghost use Rattle.transcript.specs.inner.Posts.{FilePost, keptRow};
 use crate::input;
 use crate::input::Window;
 use script::Call;

@@ -2,8 +2,7 @@ pub mod Written
 pub mod Slope
 pub mod Sense
 pub mod Cuts
-pub mod BisectionPosts
 pub mod Search
-pub mod SearchPosts
 pub mod Stride
 pub mod Strides
+pub mod inner

@@ -4,10 +4,12 @@ ghost use mathlib.Core.List.{map};
 ghost use Prim.Native.Nat.{_≤_, _<_};
 ghost use lib.ListN.{length, take};
 ghost use Rattle.cosine.specs.Fixed.{IsTable};
-ghost use Rattle.turns.specs.Slope.{InRange, slopeOf};
+ghost use Rattle.turns.specs.inner.Lists.{InRange, slopeOf};
 ghost use Rattle.turns.specs.Search.{turnsOf};
-ghost use Rattle.turns.specs.SearchPosts.{Kept};
-ghost use Rattle.turns.specs.Written.{inFront, given, givenOf, heightOf};
+ghost use Rattle.turns.specs.inner.Search.{Kept};
+ghost use Rattle.turns.specs.Written.{inFront, given};
+ghost use Rattle.turns.specs.inner.Lists.{heightOf};
+ghost use Rattle.turns.specs.inner.Answers.{givenOf};
 
 mod slopes; // The slope of the water at a minute of a prepared month
 mod sense; // The sense of a slope

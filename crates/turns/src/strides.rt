@@ -2,8 +2,8 @@
 ghost use mathlib.Core.Path.{_≡_};
 ghost use Prim.Native.Nat.{_≤_, _<_};
 ghost use Rattle.columns.specs.Columns.{columns};
-ghost use Rattle.table.specs.View.{tableOf};
-ghost use Rattle.station.specs.Rows.{stationOf};
+ghost use Rattle.table.specs.inner.View.{tableOf};
+ghost use Rattle.station.specs.inner.Station.{stationOf};
 ghost use Rattle.turns.specs.Strides.{amplitudeAt, amplitudeOf, stationStride};
 use crate::tides::stride;
 use columns::names;

@@ -5,7 +5,7 @@ ghost use mathlib.Core.Path.{_≡_};
 ghost use mathlib.Core.Bool.{true};
 ghost use lib.ListN.{length};
 ghost use Rattle.calendar.specs.Calendar.{inRange};
-ghost use Rattle.transcript.specs.Window.{Within};
+ghost use Rattle.transcript.specs.inner.Window.{Within};
 use card_file::cardfile;
 use month::Preparation;
 use month_prepared::Month;

@@ -1,7 +1,7 @@
 -- What the table's struct counts of its document's table. Rests on the laws of rows. Assumes nothing.
 use mathlib.Core.Path.{_≡_}
 use lib.ListN.{length}
-use Rattle.table.specs.View.{tableOf, frequencyOf}
+use Rattle.table.specs.inner.View.{tableOf, frequencyOf}
 use Rattle.table.specs.declared.Table.{Table}
 use Rattle.table.proofs.Rows.{listed-length}
 

@@ -9,7 +9,7 @@ use lib.ListN.{getD}
 use native.Mathlib.Omega.{arith}
 use Rattle.columns.specs.Names.{same, namesFrom, placeFrom, placeOf}
 use Rattle.columns.specs.declared.names.Found.the-variants.{At}
-use Rattle.table.specs.View.{listed}
+use Rattle.table.specs.inner.View.{listed}
 use Rattle.table.proofs.Rows.{listed-next, listed-end}
 use Rattle.card.specs.Card.{good, bad, isAmong}
 use Rattle.card.specs.Places.{mainAt}

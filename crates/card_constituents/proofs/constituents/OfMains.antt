@@ -13,16 +13,16 @@ use lib.IntN.{ℤ}
 use lib.ListN.{length, getD, drop}
 use Rattle.columns.specs.Lines.{linesOf, firstLine, restLines}
 use Rattle.table.specs.Table.{Main}
-use Rattle.table.specs.View.{listed, rowOf, mainOf}
+use Rattle.table.specs.inner.View.{listed, rowOf, mainOf}
 use Rattle.table.proofs.Rows.{listed-one-more}
 use Rattle.card.proofs.lines.Walk.{lines-here, lines-end}
 use Rattle.card.specs.Card.{_>>=_, given, refused, onward, onwardOrEnd}
-use Rattle.card.specs.Answers.{faultGives}
+use Rattle.card.specs.inner.Answers.{faultGives}
 use Rattle.card.specs.declared.Fault.{Fault}
-use Rattle.card.specs.PlacesAnswers.{placesIn}
+use Rattle.card.specs.inner.Places.{placesIn}
 use Rattle.card_mains.specs.Mains.{nextMain, mainPlaces}
 use Rattle.card_mains.specs.declared.mains.MainStep.{MainStep}
-use Rattle.card_constituents.specs.Answers.{satellitesEnd, Stored, mainsIn, stepGives, MainStored, MainsKept, mainsOver, SatellitesStored}
+use Rattle.card_constituents.specs.inner.Rows.{satellitesEnd, Stored, mainsIn, stepGives, MainStored, MainsKept, mainsOver, SatellitesStored}
 use Rattle.card_constituents.specs.Constituents.{mainsFrom, satellitesFrom}
 
 -- one main more, whose satellites are stored too

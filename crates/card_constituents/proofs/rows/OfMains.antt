@@ -8,18 +8,18 @@ use native.Mathlib.Nat.{zero-add, add-zero}
 use lib.IntN.{ℤ, pos}
 use lib.ListN.{length, getD, set, length-append, length-set}
 use lib.Seq.{sets, length-sets, getD-set-same, getD-set-other, take-at, getD-at}
-use Rattle.table.specs.View.{listed, rowOf, naturals, integers, satelliteOf, mainOf}
+use Rattle.table.specs.inner.View.{listed, rowOf, naturals, integers, satelliteOf, mainOf}
 use Rattle.table.proofs.Rows.{listed-same, listed-one-more, listed-both, row-put, row-kept, ends-with, listed-length}
-use Rattle.card_mains.specs.SatellitecardAnswers.{Kept}
+use Rattle.card_mains.specs.inner.Satellites.{Kept}
 use Rattle.card.specs.Card.{Next, gives}
-use Rattle.card.specs.PlacesAnswers.{placesIn}
+use Rattle.card.specs.inner.Places.{placesIn}
 use Rattle.card_mains.specs.Mains.{MainCard, nextMain}
-use Rattle.card_mains.specs.MainsAnswers.{mainGives, mainStepGives}
+use Rattle.card_mains.specs.inner.Mains.{mainGives, mainStepGives}
 use Rattle.card_mains.specs.declared.mains.MainRead.{MainRead}
 use Rattle.card_mains.specs.declared.mains.MainStep.the-variants.{Gives}
 use Rattle.card_mains.proofs.mains.Room.{main-room}
-use Rattle.card_constituents.specs.Rows.{withMore}
-use Rattle.card_constituents.specs.Answers.{MainRoom, satellitesEnd, Stored, mainsIn, MainStored, MainsKept, Begun}
+use Rattle.card_constituents.specs.Satellites.{withMore}
+use Rattle.card_constituents.specs.inner.Rows.{MainRoom, satellitesEnd, Stored, mainsIn, MainStored, MainsKept, Begun}
 
 -- a main whose rows and satellites are as they were
 main-same : (cards cards′ ratios ratios′ : List ℕ) (angles angles′ sat sat′ : List ℤ) (k s : ℕ) → naturals 3 cards′ k ≡ naturals 3 cards k → integers 7 angles′ k ≡ integers 7 angles k

@@ -7,11 +7,11 @@ use Rattle.refusals.specs.Outcome.{numberOf}
 use Rattle.refusals.specs.declared.Refusal.{Refusal}
 use Rattle.refusals.specs.declared.Answer.{Answer}
 use Rattle.refusals.specs.declared.Answer.the-variants.{Accepted, Refused}
-use Rattle.table.specs.View.{tableOf, listed, frequencyOf, mainOf, shallowOf}
+use Rattle.table.specs.inner.View.{tableOf, listed, frequencyOf, mainOf, shallowOf}
 use Rattle.table.specs.declared.Table.{Table}
 use Rattle.table.proofs.Rows.{listed-length}
 use Rattle.card_file.specs.Cards.{Outcome, accepted, refused, readCards}
-use Rattle.card_file.specs.Read.{gives, outcomeOf}
+use Rattle.card_file.specs.inner.Read.{gives, outcomeOf}
 use Rattle.card_file.specs.declared.cardfile.Read.{Read}
 use Rattle.card_file.specs.Satellites.{satellitesIn}
 use Rattle.card_file.specs.Counts.{countsOf}

@@ -11,7 +11,7 @@ use native.Mathlib.Nat.{zero-add}
 use lib.ListN.{length, getD, List·getD-eq-default}
 use lib.IntN.{ℤ}
 use Rattle.table.specs.Table.{Main}
-use Rattle.table.specs.View.{listed, rowOf, naturals, mainOf, satelliteOf, tableOf}
+use Rattle.table.specs.inner.View.{listed, rowOf, naturals, mainOf, satelliteOf, tableOf}
 use Rattle.table.specs.declared.Table.{Table}
 use Rattle.table.proofs.Rows.{listed-length, listed-at, listed-next, listed-end}
 use Rattle.card_file.specs.Satellites.{satellitesIn}

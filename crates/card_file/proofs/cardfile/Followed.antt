@@ -7,8 +7,8 @@ use Rattle.columns.specs.Lines.{linesOf}
 use Rattle.card.specs.Card as card
 use Rattle.card.specs.Card.{Reading}
 use Rattle.card_file.specs.Cards.{Outcome, refused, followed}
-use Rattle.card.specs.LinesAnswers.{readingGives, Within}
-use Rattle.card.specs.Answers.{numberOf}
+use Rattle.card.specs.inner.Lines.{readingGives, Within}
+use Rattle.card.specs.inner.Answers.{numberOf}
 use Rattle.card.specs.declared.Refusal.{Refusal}
 use Rattle.card.specs.declared.lines.Progress.{Progress}
 use Rattle.card.specs.declared.lines.Progress.the-variants.{Reached, Refused}

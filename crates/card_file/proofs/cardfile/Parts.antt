@@ -9,17 +9,17 @@ use Rattle.table.specs.Table as document
 use Rattle.table.specs.Table.{Frequency}
 use Rattle.table.proofs.Rows.{listed-length}
 use Rattle.card_file.specs.Cards.{allDefined}
-use Rattle.card_file.specs.Answers.{definedGives}
+use Rattle.card_file.specs.inner.Answers.{definedGives}
 use Rattle.card_file.specs.declared.cards.Defined.{Defined}
-use Rattle.card_file.specs.Rest.{withShallows}
-use Rattle.table.specs.View.{tableOf, listed, frequencyOf, mainOf, shallowOf}
+use Rattle.card_file.specs.inner.Rest.{withShallows}
+use Rattle.table.specs.inner.View.{tableOf, listed, frequencyOf, mainOf, shallowOf}
 use Rattle.table.specs.declared.Table.{Table}
 use Rattle.card.specs.Card.{Reading}
 use Rattle.card_frequencies.specs.Frequencies.{namesOf}
 use Rattle.card_mains.specs.Mains.{mainPlaces}
 use Rattle.card_constituents.specs.Constituents.{mainsFrom}
 use Rattle.card_shallows.specs.Shallows.{shallowPlaces, shallowsFrom}
-use Rattle.card.specs.PlacesAnswers.{placesIn}
+use Rattle.card.specs.inner.Places.{placesIn}
 use Rattle.table.proofs.Names.{names-of}
 use Rattle.card_constituents.proofs.constituents.OfMains as mains
 use Rattle.card_shallows.proofs.shallows.Rows as shallows

@@ -12,7 +12,7 @@ use Rattle.columns.specs.Columns.{padded, columns}
 use Rattle.columns.specs.Lines.{linesOf, firstLine, restLines}
 use Rattle.columns.specs.Names.{namesFrom}
 use Rattle.table.specs.Table.{Frequency}
-use Rattle.table.specs.View.{listed, frequencyOf}
+use Rattle.table.specs.inner.View.{listed, frequencyOf}
 use Rattle.table.proofs.Rows.{listed-same, listed-one-more, row-put, row-kept}
 use Rattle.card.specs.declared.Natural.{Natural}
 use Rattle.card.specs.declared.Natural.the-variants as natural
@@ -22,8 +22,8 @@ use Rattle.card.specs.Card.{good, _>>=_, gives, given, refused, onwardOrEnd}
 use Rattle.card_frequencies.specs.Frequencies.{frequencyCard, nextFrequency, frequenciesFrom}
 use Rattle.columns.proofs.names.Names.{names-count}
 use Rattle.card.proofs.lines.Walk.{lines-here, lines-end}
-use Rattle.card.specs.Answers.{naturalGives}
-use Rattle.card_frequencies.specs.Answers.{frequencyRead, frequencyGives}
+use Rattle.card.specs.inner.Answers.{naturalGives}
+use Rattle.card_frequencies.specs.inner.Answers.{frequencyRead, frequencyGives}
 use Rattle.card.proofs.lines.Openings.{had-room}
 use Rattle.table.proofs.Names.{names-of}
 

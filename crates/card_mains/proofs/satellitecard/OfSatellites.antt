@@ -8,13 +8,13 @@ use lib.IntN.{ℤ, pos}
 use lib.ListN.{length, set, length-append}
 use lib.Seq.{sets, take-at, getD-at}
 use Rattle.table.specs.Table.{markOf, Satellite}
-use Rattle.table.specs.View.{listed, satelliteOf}
+use Rattle.table.specs.inner.View.{listed, satelliteOf}
 use Rattle.table.proofs.Rows.{listed-same, listed-one-more, row-put, row-kept}
 use Rattle.card.specs.Card.{good, _>>=_}
 use Rattle.card.specs.Formats.{satelliteColumn}
 use Rattle.card_mains.specs.Satellite.{satellite}
 use Rattle.card_mains.specs.Satellites.{satellitesOn}
-use Rattle.card_mains.specs.SatellitecardAnswers.{Kept}
+use Rattle.card_mains.specs.inner.Satellites.{Kept}
 use Rattle.table.proofs.Rows.{ends-with}
 
 -- satellite k stored

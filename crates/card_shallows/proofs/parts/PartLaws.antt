@@ -10,7 +10,7 @@ use lib.ListN.{length, set}
 use lib.Seq.{getD-set-same, getD-set-other}
 use Rattle.columns.specs.Columns.{columns}
 use Rattle.table.specs.Table.{Part}
-use Rattle.table.specs.View.{listed, partOf}
+use Rattle.table.specs.inner.View.{listed, partOf}
 use Rattle.table.proofs.Rows.{listed-same, listed-one-more}
 use Rattle.card.specs.Formats.{partColumn, coefficientField, partName}
 use Rattle.card.specs.Card.{Card, good, bad, _>>=_, number}
@@ -19,7 +19,7 @@ use Rattle.card_shallows.specs.Parts.{partsOn}
 use Rattle.card.specs.Places.{mainNamed}
 use Rattle.card_shallows.specs.declared.parts.PartRead.{PartRead}
 use Rattle.card_shallows.specs.declared.parts.PartRead.the-variants.{Gives}
-use Rattle.card_shallows.specs.Answers.{partGives}
+use Rattle.card_shallows.specs.inner.Answers.{partGives}
 use Rattle.card_shallows.proofs.coefficients.Coefficients.{coefficient-sizes}
 use Rattle.card_shallows.specs.Parts as shallows
 

@@ -9,15 +9,15 @@ use lib.IntN.{ℤ, pos}
 use lib.ListN.{length, getD, drop}
 use lib.Seq.{sets}
 use Rattle.columns.specs.Lines.{linesOf, firstLine, restLines}
-use Rattle.table.specs.View.{listed, shallowOf}
+use Rattle.table.specs.inner.View.{listed, shallowOf}
 use Rattle.table.proofs.Rows.{listed-same, listed-one-more, listed-length, row-at, row-put, row-kept}
 use Rattle.card.specs.Card.{given, refused, onwardOrEnd}
 use Rattle.card_shallows.specs.Shallow.{shallowCard, nextShallow}
 use Rattle.card_shallows.specs.Shallows.{shallowPlaces, shallowsFrom}
-use Rattle.card.specs.PlacesAnswers.{placesIn}
+use Rattle.card.specs.inner.Places.{placesIn}
 use Rattle.card.proofs.lines.Walk.{lines-here, lines-end}
 use Rattle.card.proofs.lines.Openings.{had-room}
-use Rattle.card_shallows.specs.Answers.{inRows, stepGives, shallowGives}
+use Rattle.card_shallows.specs.inner.Answers.{inRows, stepGives, shallowGives}
 use Rattle.card_shallows.specs.declared.parts.ShallowStep.{ShallowStep}
 use Rattle.card_shallows.specs.declared.parts.ShallowStep.the-variants.{Gives}
 use Rattle.card_shallows.specs.declared.parts.ShallowRead.{ShallowRead}

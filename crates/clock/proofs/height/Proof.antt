@@ -9,8 +9,8 @@ use mir.Syntax.{w64}
 use mir.Val.{SFits}
 use mir.ValLaws.{toZ-ofZ}
 use Rattle.refusals.specs.Outcome.{outcomeOf}
-use Rattle.table.specs.View.{tableOf}
-use Rattle.station.specs.Rows.{stationOf}
+use Rattle.table.specs.inner.View.{tableOf}
+use Rattle.station.specs.inner.Station.{stationOf}
 use Rattle.calls.proofs.asked.Passed.{height-within}
 use Rattle.calls.proofs.Posed.{height-refused, height-given}
 use Rattle.clock.specs.View.{view, monthIn}

@@ -41,8 +41,8 @@ use denote.Triple.Table.{entered, cited}
 use denote.Triple.Walked.{says, needs, Stays, stay-none, stay-dropped, stay-none-slice, walkOf, Walks, ends-at, walked, goes-none, goes-dropped, goes-none-slice, walk-meets}
 use Rattle.station.specs.declared.records.Record.{Record}
 use Rattle.station.specs.declared.records.Rows.{Rows}
-use Rattle.station.specs.RecordsRows.{rowsUpto}
-use Rattle.station.specs.RecordsRows.{recordsOf}
+use Rattle.station.specs.inner.Rows.{rowsUpto}
+use Rattle.station.specs.Records.{recordsOf}
 use Rattle.station.proofs.records.Record as T
 use Rattle.station.proofs.records.Rows as R
 use Rattle.station.proofs.records.Rows.Laws as R′

@@ -6,8 +6,8 @@ use native.Mathlib.Omega.{arith}
 use Prim.Native.Nat.{_≤_}
 use mathlib.Core.Path.{sym, ap, _∙_}
 use Rattle.refusals.specs.Outcome.{outcomeOf}
-use Rattle.table.specs.View.{tableOf}
-use Rattle.station.specs.Rows.{stationOf}
+use Rattle.table.specs.inner.View.{tableOf}
+use Rattle.station.specs.inner.Station.{stationOf}
 use Rattle.calls.proofs.asked.Passed.{turns-within}
 use Rattle.calls.specs.Calls.{searched}
 use Rattle.calls.proofs.Posed.{turns-refused, turns-given}

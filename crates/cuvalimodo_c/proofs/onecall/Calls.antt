@@ -10,7 +10,8 @@ use lib.IntN.{ℤ}
 use Rattle.refusals.specs.declared.Answer.{Answer}
 use Rattle.station.specs.declared.records.Record.{Record}
 use Rattle.station.specs.declared.records.Rows.{Rows}
-use Rattle.station.specs.RecordsRows.{rowsUpto, recordsOf}
+use Rattle.station.specs.Records.{recordsOf}
+use Rattle.station.specs.inner.Rows.{rowsUpto}
 use Rattle.station.proofs.records.Copies.{records-length}
 use Rattle.clock.specs.declared.Clock.{Clock}
 use Rattle.calls.specs.State.{State, nothing}
@@ -22,7 +23,7 @@ use Rattle.clock.proofs.Stations.{lent-post}
 use Rattle.clock.specs.declared.After.{After}
 use Rattle.station.specs.Arrays.{recordsIn, oneLength, lacking}
 use Rattle.cuvalimodo_c.specs.Setting.{firstRefusal, stateAfter, setReturns, setOnce, settingReturned}
-use Rattle.cuvalimodo_c.specs.Posts.{DatedPost, SetPost, ReadyPost}
+use Rattle.cuvalimodo_c.specs.inner.Posts.{DatedPost, SetPost, ReadyPost}
 use Rattle.cuvalimodo_c.specs.declared.onecall.Ready.{Ready}
 use Rattle.cuvalimodo_c.specs.declared.onecall.Setting.{Setting}
 use Rattle.cuvalimodo_c.specs.declared.onecall.Setting.the-variants.{Uneven}

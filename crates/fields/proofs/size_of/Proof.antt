@@ -2,7 +2,7 @@
 use borrow.Author.Needs.{needs}
 use Rattle.fields.proofs.size_of.Statement.{statement}
 use Rattle.fields.proofs.size_of.Tie as tie
-use Rattle.fields.specs.Capped.{keptOf}
+use Rattle.fields.specs.inner.Kept.{keptOf}
 
 enum-told : tie.Need-enum-told
 enum-told c = search needs

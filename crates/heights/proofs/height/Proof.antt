@@ -12,7 +12,7 @@ use mir.Val.{SFits, toZ}
 use mir.ValLaws.{toZ-ofZ}
 use Rattle.angles.specs.Floor.{floorDiv}
 use Rattle.angles.proofs.Known.{plainly, plus, shifted, kept, fits, says}
-use Rattle.month_prepared.specs.View.{constituentsAfter, constituentsFrom}
+use Rattle.month_prepared.specs.inner.View.{constituentsAfter, constituentsFrom}
 use Rattle.heights.specs.Share.{share}
 use Rattle.heights.specs.Height.{sumOfShares, heightAt}
 use Rattle.heights.proofs.Terms.{shares-more, shares-none}

@@ -7,7 +7,7 @@ use mathlib.Core.List.{List}
 use lib.ListN.{getD}
 use Rattle.angles.specs.Ticks.{turn}
 use Rattle.heights.proofs.minuteangle.Turning.{lap, angle-below, angle-later}
-use Rattle.heights.specs.Angles.{Angles, Advances, Below, MovedOn}
+use Rattle.heights.specs.inner.Angles.{Angles, Advances, Below, MovedOn}
 
 -- what a constituent advances, from the frequency less whole laps
 pub advance-is : (f s : ℕ) → f % lap * s % lap * 1_314 ≡ 1_314 * f * s % turn

@@ -7,7 +7,7 @@ use native.Mathlib.Nat.{zero-add}
 use native.Mathlib.Omega.{arith}
 use lib.ListN.{getD, List·getD-eq-default}
 use Rattle.table.proofs.Rows.{listed-at, listed-length}
-use Rattle.month.specs.View.{frequenciesOf}
+use Rattle.month.specs.inner.View.{frequenciesOf}
 
 at-u64-requires : tie.Need-at-u64-requires
 at-u64-requires c κs = search needs

@@ -12,11 +12,11 @@ use mir.ValLaws.{toZ-ofZ}
 use Rattle.angles.proofs.Machine.{fits-below}
 use Rattle.calendar.proofs.Days.{count-small}
 use Rattle.month_arguments.specs.Longitudes.{longitudesOn}
-use Rattle.month_arguments.specs.AstronomyView.{longitudesOf}
+use Rattle.month_arguments.specs.inner.Longitudes.{longitudesOf}
 use Rattle.month_arguments.proofs.astronomy.Reduced.{are-reduced}
 use Rattle.month_satellites.specs.Latitude.{factorsAt}
-use Rattle.month_satellites.specs.LatitudeRanges.{factorsOf}
-use Rattle.station.specs.Rows.{stationOf}
+use Rattle.month_satellites.specs.inner.Factors.{factorsOf}
+use Rattle.station.specs.inner.Station.{stationOf}
 use Rattle.month.specs.Month.{monthDay}
 use Rattle.month.proofs.Whole.{rows-are-month}
 

@@ -11,17 +11,17 @@ use mir.Val.{SFits, toZ, ofZ}
 use mir.ValLaws.{toZ-ofZ}
 use Rattle.angles.proofs.Machine.{held, fits-below}
 use Rattle.month_arguments.specs.Longitudes.{nodal}
-use Rattle.month_arguments.specs.AstronomyView.{longitudesOf}
-use Rattle.month_satellites.specs.LatitudeRanges.{factorsOf}
-use Rattle.month_satellites.specs.SatellitesRanges.{Sized}
-use Rattle.month_pairs.specs.Ranges.{Small}
-use Rattle.month_prepared.specs.View.{constituentsAfter}
-use Rattle.station.specs.RecordsRows.{recordsFrom}
-use Rattle.month_workings.specs.Kept.{argumentAt, correctedAt, Kept}
+use Rattle.month_arguments.specs.inner.Longitudes.{longitudesOf}
+use Rattle.month_satellites.specs.inner.Factors.{factorsOf}
+use Rattle.month_satellites.specs.inner.Ranges.{Sized}
+use Rattle.month_pairs.specs.inner.Ranges.{Small}
+use Rattle.month_prepared.specs.inner.View.{constituentsAfter}
+use Rattle.station.specs.Records.{recordsFrom}
+use Rattle.month_workings.specs.inner.Kept.{argumentAt, correctedAt, Kept}
 use Rattle.month_workings.proofs.workings.None.{none-kept}
 use Rattle.month.specs.Month.{before, prepared, weight, recordsPrepared}
-use Rattle.month_workings.specs.View.{mainsOf, shallowsOf}
-use Rattle.month.specs.View.{heldUpto, frequenciesOf}
+use Rattle.month_workings.specs.inner.View.{mainsOf, shallowsOf}
+use Rattle.month.specs.inner.View.{heldUpto, frequenciesOf}
 use Rattle.month.proofs.Put.{Room, with-one, room-kept, stands-last}
 use Rattle.month.proofs.Records.{left, all-done, none-done, refused-at, accepted-at}
 use borrow.Author.Needs.{needs}

@@ -9,7 +9,7 @@ use lib.ListN.{getD}
 use Rattle.angles.specs.Ticks.{turn, centicycle}
 use Rattle.angles.specs.Floor.{modTurn}
 use Rattle.angles.proofs.Angles.{of-sum, again}
-use Rattle.table.specs.View.{listed, partOf, naturals, integers, shallowOf}
+use Rattle.table.specs.inner.View.{listed, partOf, naturals, integers, shallowOf}
 use Rattle.table.proofs.Rows.{listed-next, listed-end}
 use Rattle.month_arguments.specs.Longitudes.{Longitudes, times}
 use Rattle.month_arguments.specs.Arguments.{lunarTime, astronomical, argument, sumOfParts, fromParts}

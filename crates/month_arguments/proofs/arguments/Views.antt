@@ -3,11 +3,11 @@ use mathlib.Core.Path.{_≡_, refl}
 use mathlib.Core.List.{List, map}
 use Prim.Native.Nat.{ℕ}
 use lib.IntN.{ℤ}
-use Rattle.table.specs.View.{listed, mainOf}
+use Rattle.table.specs.inner.View.{listed, mainOf}
 use Rattle.table.proofs.entries.Beyond.{listed-map}
 use Rattle.month_arguments.specs.Longitudes.{Longitudes}
 use Rattle.month_arguments.specs.Arguments.{mainArgument}
-use Rattle.month_arguments.specs.ArgumentsView.{rowArgument}
+use Rattle.month_arguments.specs.inner.Rows.{rowArgument}
 
 module _ (l : Longitudes) (maincards : List ℕ) (angles satelliteangles : List ℤ) (satelliteratios : List ℕ) where
   pub main-row : (k : ℕ) → rowArgument l angles k ≡ mainArgument l (mainOf maincards angles satelliteangles satelliteratios k)

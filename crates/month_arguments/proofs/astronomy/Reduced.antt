@@ -12,7 +12,7 @@ use Rattle.angles.proofs.Angles.{below-turn, periodic, of-sum}
 use mathlib.Core.List.{List}
 use lib.ListN.{getD}
 use Rattle.month_arguments.specs.Longitudes.{longitude, longitudesOn}
-use Rattle.month_arguments.specs.AstronomyView.{longitudesOf, Reduced}
+use Rattle.month_arguments.specs.inner.Longitudes.{longitudesOf, Reduced}
 use Rattle.month_arguments.specs.declared.astronomy.Longitudes as code
 
 -- ---- division toward zero: quotient and remainder

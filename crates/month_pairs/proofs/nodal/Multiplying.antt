@@ -3,7 +3,7 @@ use mathlib.Core.Path.{_≡_}
 use mathlib.Core.List.{List}
 use Prim.Native.Nat.{ℕ, _+_, _-_, _≤_, _<_}
 use Rattle.table.specs.Table.{Part}
-use Rattle.table.specs.View.{listed}
+use Rattle.table.specs.inner.View.{listed}
 use Rattle.table.proofs.Rows.{listed-next, listed-end}
 use Rattle.month_satellites.specs.Satellites.{Pair}
 use Rattle.month_pairs.specs.Pairs.{Corrected, pair, andThen}

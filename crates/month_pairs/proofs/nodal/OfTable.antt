@@ -3,11 +3,11 @@ use mathlib.Core.Path.{_≡_, refl}
 use mathlib.Core.List.{List, map}
 use Prim.Native.Nat.{ℕ}
 use lib.IntN.{ℤ}
-use Rattle.table.specs.View.{listed, mainOf}
+use Rattle.table.specs.inner.View.{listed, mainOf}
 use Rattle.table.proofs.entries.Beyond.{listed-map}
 use Rattle.month_satellites.specs.Latitude.{Factors}
 use Rattle.month_pairs.specs.Shallow.{mainCorrected}
-use Rattle.month_pairs.specs.NodalView.{rowSatellites, rowCorrected}
+use Rattle.month_pairs.specs.inner.Rows.{rowSatellites, rowCorrected}
 
 module _ (g : Factors) (longitudes : List ℕ) (cards : List ℕ) (angles satelliteangles : List ℤ) (ratios : List ℕ) where
   -- a main's row

@@ -1,6 +1,6 @@
 -- `month_prepared::no_constituents` meets its contract: by computing. Assumes nothing.
 use mathlib.Core.Path.{refl}
-use Rattle.month_prepared.specs.View.{constituentsAfter}
+use Rattle.month_prepared.specs.inner.View.{constituentsAfter}
 use Rattle.month_prepared.proofs.no_constituents.Statement.{statement}
 use Rattle.month_prepared.proofs.no_constituents.Tie as tie
 use Rattle.month_prepared.proofs.no_constituents.Reads as reads

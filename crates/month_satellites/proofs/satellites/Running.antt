@@ -11,7 +11,7 @@ use mir.Val.{SFits, toZ}
 use Rattle.angles.proofs.Machine.{held}
 use Rattle.angles.proofs.Known.{Known, plainly, read, fits, kept, plus}
 use Rattle.table.specs.Table.{Satellite}
-use Rattle.table.specs.View.{listed}
+use Rattle.table.specs.inner.View.{listed}
 use Rattle.table.proofs.Rows.{listed-next, listed-end}
 use Rattle.month_satellites.specs.Satellites.{sumOver}
 

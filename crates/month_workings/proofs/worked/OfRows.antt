@@ -5,25 +5,25 @@ use mathlib.Core.List.{List}
 use Prim.Native.Nat.{ℕ, _<_}
 use lib.IntN.{ℤ}
 use lib.ListN.{getD}
-use Rattle.table.specs.View.{listed, naturals, mainOf, shallowOf}
+use Rattle.table.specs.inner.View.{listed, naturals, mainOf, shallowOf}
 use Rattle.table.proofs.entries.Beyond.{entry-at}
 use Rattle.table.specs.Definitions.{Definition, main, shallow, undefined, definitionAt}
-use Rattle.table.specs.DefinitionsView.{definitionOf, Within, Finds}
+use Rattle.table.specs.inner.Found.{definitionOf, Within, Finds}
 use Rattle.table.specs.declared.definitions.Found.{Found}
 use Rattle.table.specs.declared.definitions.Found.the-variants as found
 use Rattle.month_arguments.specs.Longitudes.{Longitudes, nodal}
 use Rattle.month_arguments.specs.Arguments as arguments
-use Rattle.month_arguments.specs.ArgumentsView.{rowArgument}
+use Rattle.month_arguments.specs.inner.Rows.{rowArgument}
 use Rattle.month_arguments.proofs.arguments.Views.{main-row, mains-rows}
 use Rattle.month_satellites.specs.Latitude.{Factors}
 use Rattle.month_pairs.specs.Pairs.{Corrected, pair, one}
 use Rattle.month_pairs.specs.Shallow as pairs
-use Rattle.month_pairs.specs.NodalView.{rowCorrected, pairsOf}
+use Rattle.month_pairs.specs.inner.Rows.{rowCorrected, pairsOf}
 use Rattle.month_pairs.proofs.nodal.OfTable.{main-of-row, mains-of-rows}
-use Rattle.month_workings.specs.Kept.{argumentAt, correctedAt, Kept, WithMain, WithParts}
+use Rattle.month_workings.specs.inner.Kept.{argumentAt, correctedAt, Kept, WithMain, WithParts}
 use Rattle.month_workings.proofs.workings.Agree.{shallow-argument-is, shallow-pair-is}
 use Rattle.month_workings.specs.Worked.{argumentOf, correctionOf}
-use Rattle.month_workings.specs.View.{mainsOf, shallowsOf, Ready, argumentFrom, pairFrom, FromMains, IsWorked}
+use Rattle.month_workings.specs.inner.View.{mainsOf, shallowsOf, Ready, argumentFrom, pairFrom, FromMains, IsWorked}
 use Rattle.month_workings.specs.declared.worked.Worked.{Worked}
 
 module _ (g : Factors) (l : Longitudes) (maincards : List ℕ) (mainangles satelliteangles : List ℤ) (satelliteratios : List ℕ) (mains : ℕ) (shallowcards : List ℕ) (coefficients : List ℤ) (vs : List ℕ) (xs ys : List ℤ) where

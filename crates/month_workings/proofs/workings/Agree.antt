@@ -6,15 +6,15 @@ use native.Mathlib.Omega.{arith}
 use lib.IntN.{ℤ, pos, _+ℤ_, _*ℤ_}
 use lib.ListN.{getD}
 use Rattle.angles.specs.Floor.{modTurn}
-use Rattle.table.specs.View.{listed, partOf, naturals, integers, shallowOf}
+use Rattle.table.specs.inner.View.{listed, partOf, naturals, integers, shallowOf}
 use Rattle.month_arguments.specs.Arguments as arguments
 use Rattle.month_arguments.specs.Arguments.{sumOfParts}
 use Rattle.month_satellites.specs.Satellites.{Pair}
 use Rattle.month_pairs.specs.Pairs.{Corrected, tooLarge, pair, one, andThen}
 use Rattle.month_pairs.specs.Shallow as nodal
 use Rattle.month_pairs.specs.Shallow.{timesPart, timesParts}
-use Rattle.month_pairs.specs.NodalView.{pairsOf}
-use Rattle.month_workings.specs.Kept.{Kept, WithParts}
+use Rattle.month_pairs.specs.inner.Rows.{pairsOf}
+use Rattle.month_workings.specs.inner.Kept.{Kept, WithParts}
 
 -- ---- parts whose mains stand alike in two lists
 

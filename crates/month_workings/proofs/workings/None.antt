@@ -11,16 +11,16 @@ use lib.IntN.{ℤ, pos, zero-*ℤ}
 use lib.ListN.{length, getD, replicate, getD-replicate, length-replicate, List·getD-eq-default}
 use Rattle.angles.specs.Ticks.{turn, centicycle}
 use Rattle.angles.specs.Floor.{modTurn}
-use Rattle.table.specs.View.{listed, rowOf, naturals, integers}
+use Rattle.table.specs.inner.View.{listed, rowOf, naturals, integers}
 use Rattle.table.proofs.entries.Beyond.{past-rows, past-entries, entry-at}
 use Rattle.month_arguments.specs.Longitudes.{Longitudes, times}
 use Rattle.month_arguments.specs.Arguments.{astronomical, argument}
-use Rattle.month_arguments.specs.ArgumentsView.{rowArgument}
+use Rattle.month_arguments.specs.inner.Rows.{rowArgument}
 use Rattle.month_satellites.specs.Latitude.{Factors}
 use Rattle.month_satellites.specs.Satellites.{sumOver, mainPair}
 use Rattle.month_pairs.specs.Pairs.{Corrected, checked, pair, one}
-use Rattle.month_pairs.specs.NodalView.{pairsOf, rowSatellites, rowCorrected}
-use Rattle.month_workings.specs.Kept.{argumentAt, correctedAt, Has, Kept}
+use Rattle.month_pairs.specs.inner.Rows.{pairsOf, rowSatellites, rowCorrected}
+use Rattle.month_workings.specs.inner.Kept.{argumentAt, correctedAt, Has, Kept}
 
 -- V of a row past the array
 row-past : (l : Longitudes) (angles : List ℤ) (k : ℕ) → length angles ≤ 7 * k → rowArgument l angles k ≡ 0

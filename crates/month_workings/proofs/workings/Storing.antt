@@ -12,8 +12,8 @@ use lib.Seq.{getD-set-same, getD-set-other}
 use Rattle.angles.specs.Ticks.{turn}
 use Rattle.table.proofs.entries.Beyond.{entry-at, past-entries}
 use Rattle.month_pairs.specs.Pairs.{Corrected, checked, pair, one}
-use Rattle.month_pairs.specs.NodalView.{sumAt, pairsOf}
-use Rattle.month_workings.specs.Kept.{Has, Kept, WithMain}
+use Rattle.month_pairs.specs.inner.Rows.{sumAt, pairsOf}
+use Rattle.month_workings.specs.inner.Kept.{Has, Kept, WithMain}
 
 -- pair k of 64
 pair-is : (xs ys : List ℤ) (k : ℕ) → k < 64 → getD (pairsOf xs ys) k (pair one) ≡ checked (sumAt xs ys k)

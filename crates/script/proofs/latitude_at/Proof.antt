@@ -7,7 +7,7 @@ use mir.ValLaws.{toZ-ofZ}
 use borrow.Author.Needs.{needs}
 use Rattle.script.specs.Script.{stationOf}
 use Rattle.script.specs.Words.{reading}
-use Rattle.script.specs.Left.{wordsFrom, readingAt}
+use Rattle.script.specs.inner.Left.{wordsFrom, readingAt}
 use Rattle.script.proofs.words.Words.{field-most}
 use Rattle.script.proofs.Latitudes.{behind-is}
 use Rattle.script.proofs.latitude_at.Statement.{statement}

@@ -2,7 +2,7 @@
 use native.Mathlib.Omega.{arith}
 use borrow.Author.Needs.{needs}
 use Rattle.script.specs.Script.{recordOfWords}
-use Rattle.script.specs.Left.{wordsFrom}
+use Rattle.script.specs.inner.Left.{wordsFrom}
 use Rattle.script.proofs.words.Words.{field-most}
 use Rattle.script.proofs.parse_record.Statement.{statement}
 use Rattle.script.proofs.parse_record.Tie as tie

@@ -16,7 +16,7 @@ use Rattle.script.specs.declared.words.Number.the-variants.{Value, NoNum
 use Rattle.script.specs.Words.{words, inFront, number, isDigit, withDigit, numberAfter, read, readingOf, reading, ended}
 use Rattle.script.specs.declared.words.Field.{Field}
 use Rattle.script.specs.declared.words.Field.the-variants.{Read}
-use Rattle.script.specs.Left.{wordsFrom, wordLength, readingAt}
+use Rattle.script.specs.inner.Left.{wordsFrom, wordLength, readingAt}
 
 -- ---- what is left of a list
 

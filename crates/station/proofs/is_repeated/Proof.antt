@@ -8,7 +8,7 @@ use mathlib.Core.Path.{_≡_, refl}
 use Prim.Native.Nat.{_≤_}
 use borrow.Author.Tests.{eq-eqb, ne-eqb}
 use Rattle.station.specs.Station.{repeated}
-use Rattle.station.specs.Rows.{placesBefore}
+use Rattle.station.specs.inner.Station.{placesBefore}
 use Rattle.station.proofs.Laws.{repeated-more, repeated-none}
 
 abbrev Inv-loop : tie.InvT-loop

@@ -9,7 +9,8 @@ use native.Mathlib.Omega.{arith}
 use lib.ListN.{length, getD, set, replicate, drop, length-set, drop-of-length-le}
 use lib.Seq.{getD-set-same, getD-set-other, drop-cons}
 use Rattle.station.specs.declared.records.Record.{Record}
-use Rattle.station.specs.RecordsRows.{blank, rowsUpto, recordsFrom, recordsOf}
+use Rattle.station.specs.Records.{recordsFrom, recordsOf}
+use Rattle.station.specs.inner.Rows.{blank, rowsUpto}
 
 -- f 0, f 1 and so on, k of them, stored over the start of a list
 unfoldable pub stored : List ℕ → (ℕ → ℕ) → ℕ → List ℕ

@@ -14,14 +14,14 @@ use mathlib.Core.List.{[]}
 use Prim.Native.Nat.{_+_, _-_, _≤_}
 use Rattle.refusals.specs.Outcome.{accepted, outcomeOf}
 use Rattle.station.specs.Station.{recordsOutcome}
-use Rattle.station.specs.Rows.{placesBefore, stationUpto}
-use Rattle.station.specs.RecordsRows.{recordsFrom}
-use Rattle.station.specs.RecordsRows.{recordsOf}
+use Rattle.station.specs.inner.Station.{placesBefore, stationUpto}
+use Rattle.station.specs.Records.{recordsFrom}
+use Rattle.station.specs.Records.{recordsOf}
 use Rattle.station.proofs.Laws.{records-more, records-none, record-fits, upto-more, narrow-is}
 use mathlib.Core.Path.{ap, sym, _∙_}
 use Rattle.station.proofs.Laws.{stops, not-accepted}
 use Rattle.station.specs.Station.{recordOutcome}
-use Rattle.station.specs.RecordsRows.{recordAt}
+use Rattle.station.specs.Records.{recordAt}
 
 abbrev Inv-loop : tie.InvT-loop
 Inv-loop frequencies n rows station₀ k₀ station k = (recordsOutcome frequencies (placesBefore (rows .places) k) (k + 1) (recordsFrom (rows .places) (rows .amplitudes) (rows .phases) k (n - k)) ≡ recordsOutcome frequencies [] 1 (recordsOf rows n)) × (station ≡ stationUpto station₀ rows k) × (k ≤ n)

@@ -14,7 +14,7 @@ use lib.Signed.{ltZ}
 use borrow.Author.Tests.{lt-ltb, le-ltb}
 use Rattle.refusals.specs.declared.Refusal.the-variants.{OutOfRange, TooMany}
 use Rattle.station.specs.Station.{stationOutcome}
-use Rattle.station.specs.RecordsRows.{recordsOf}
+use Rattle.station.specs.Records.{recordsOf}
 use Rattle.station.proofs.Laws.{not-accepted}
 use Rattle.station.proofs.Copies.{kept-is}
 use Rattle.station.proofs.records.Copies.{records-length}

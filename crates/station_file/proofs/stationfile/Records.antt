@@ -11,18 +11,19 @@ use lib.ListN.{length, getD, set, drop, length-drop}
 use lib.Seq.{getD-set-same, getD-set-other}
 use Rattle.columns.specs.Lines.{linesOf, firstLine, restLines}
 use Rattle.columns.proofs.Lines.{lines-next, lines-none}
-use Rattle.table.specs.View.{listed}
+use Rattle.table.specs.inner.View.{listed}
 use Rattle.table.proofs.Rows.{listed-same, listed-one-more}
 use Rattle.card.specs.Card.{gives}
 use Rattle.card.proofs.lines.Openings.{had-room}
 use Rattle.card.proofs.lines.Walk.{lines-end}
 use Rattle.station.specs.declared.records.Record.{Record}
 use Rattle.station.specs.declared.records.Rows.{Rows}
-use Rattle.station.specs.RecordsRows.{putRow, recordFrom, recordsFrom}
-use Rattle.station.specs.RecordsRows.{recordsOf}
+use Rattle.station.specs.Records.{recordFrom, recordsFrom}
+use Rattle.station.specs.inner.Rows.{putRow}
+use Rattle.station.specs.Records.{recordsOf}
 use Rattle.station.proofs.records.Copies.{records-length}
 use Rattle.station_file.specs.Cards.{stationCard, recordFields, nextRecord}
-use Rattle.station_file.specs.StationfieldsAnswers.{recordGives}
+use Rattle.station_file.specs.inner.Cards.{recordGives}
 use Rattle.station_file.specs.declared.stationfields.RecordStep.{RecordStep}
 use Rattle.station_file.specs.Station.{refusedAt, acceptedWith, onward, recordsOn, behindCard, stationLines, stationFile}
 

@@ -9,7 +9,7 @@ use Rattle.clock.specs.declared.Clock.{Clock}
 use Rattle.clock.specs.declared.TurnsAnswer.{TurnsAnswer}
 use Rattle.clock.specs.declared.TurnsAnswer.the-variants.{Turns, Refused}
 use Rattle.clock.specs.Posts.{TurnsPost}
-use Rattle.swings.specs.Kept.{Kept}
+use Rattle.swings.specs.inner.Kept.{Kept}
 use Rattle.swings.specs.Month.{More, Beside, countOf, MonthTurns}
 use Rattle.swings.proofs.monthturns.Kept.{kept-all}
 

@@ -5,9 +5,9 @@ use Prim.Native.Nat.{ℕ, _≤_, _<_}
 use native.Mathlib.Omega.{arith}
 use lib.IntN.{ℤ}
 use Rattle.table.specs.Table.{Main, Shallow}
-use Rattle.table.specs.View.{listed, mainOf, shallowOf}
+use Rattle.table.specs.inner.View.{listed, mainOf, shallowOf}
 use Rattle.table.specs.Definitions.{Definition, main, shallow, undefined, firstWith, definitionAt}
-use Rattle.table.specs.DefinitionsView.{placeIn, firstRow, Finds}
+use Rattle.table.specs.inner.Found.{placeIn, firstRow, Finds}
 use Rattle.table.specs.declared.definitions.Found.the-variants as found
 use Rattle.table.proofs.definitions.Search.{row-found, row-missing}
 

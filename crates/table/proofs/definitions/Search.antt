@@ -5,9 +5,9 @@ use Prim.Native.Nat.{ℕ, zero, suc, _+_, _-_, _≤_, _<_}
 use native.Mathlib.Numerals.{add-one}
 use native.Mathlib.Omega.{arith}
 use lib.Dec.{eqb}
-use Rattle.table.specs.View.{listed}
+use Rattle.table.specs.inner.View.{listed}
 use Rattle.table.specs.Definitions.{Definition, firstWith}
-use Rattle.table.specs.DefinitionsView.{firstRow}
+use Rattle.table.specs.inner.Found.{firstRow}
 
 module _ (f : ℕ → ℕ) (place : ℕ) where
   pub first-more : (k n : ℕ) → k < n → firstRow f place k (n - k) ≡ cond (eqb (f k) place) k (firstRow f place (k + 1) (n - (k + 1)))

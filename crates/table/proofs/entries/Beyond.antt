@@ -5,7 +5,7 @@ use Prim.Native.Nat.{ℕ, zero, suc, _+_, _*_, _≤_, _<_}
 use native.Mathlib.Nat.{le-trans, le-of-eq, le-of-lt, mul-le-mul, zero-add}
 use native.Mathlib.Omega.{arith}
 use lib.ListN.{length, getD, List·getD-eq-default}
-use Rattle.table.specs.View.{listed, rowOf}
+use Rattle.table.specs.inner.View.{listed, rowOf}
 use Rattle.table.proofs.Rows.{row-at, row-length, listed-at, listed-length}
 
 module _ {A : Type 0} (none : A) where

@@ -2,7 +2,7 @@
 use mir.Syntax.{w32}
 use mir.ValLaws.{toZ-ofZ}
 use mathlib.Core.Path.{_∙_, ap}
-use Rattle.station.specs.RecordsRows.{recordsOf}
+use Rattle.station.specs.Records.{recordsOf}
 use Rattle.calls.specs.State.{State}
 use Rattle.calls.specs.Calls.{cardsLeaves, stationLeaves}
 use borrow.Author.Needs.{needs}

@@ -5,7 +5,7 @@ use Prim.Native.Nat.{ℕ, suc, _+_, _-_, _≤_, _<_}
 use native.Mathlib.Omega.{arith}
 use lib.Dec.{eqb}
 use lib.ListN.{getD}
-use Rattle.transcript.specs.Window.{oneIf, feedsFrom}
+use Rattle.transcript.specs.inner.Window.{oneIf, feedsFrom}
 
 pub feeds-more : (s : List ℕ) (k e : ℕ) → k < e → feedsFrom s k (e - k) ≡ oneIf (eqb (getD s k 0) 10) + feedsFrom s (k + 1) (e - (k + 1))
 unfolding feedsFrom

@@ -12,7 +12,7 @@ use mir.Val.{SFits, toZ, ofZ}
 use mir.ValLaws.{toZ-ofZ}
 use Rattle.turns.specs.Sense.{differ}
 use Rattle.turns.specs.Cuts.{earlierEnd}
-use Rattle.turns.specs.BisectionPosts.{TurnedPost}
+use Rattle.turns.specs.inner.Bisection.{TurnedPost}
 use Rattle.turns.specs.declared.bisection.Turned.{Turned}
 use Rattle.turns.proofs.bisection.Cuts.{cut-done, cut-early, cut-late}
 

@@ -18,7 +18,7 @@ use Rattle.turns.specs.Cuts.{earlierEnd, laterEnd}
 use Rattle.turns.proofs.bisection.Cuts.{by-test, end-within}
 use Rattle.turns.specs.Search.{Turn, turnIn, turnsFrom, turnsOf}
 use Rattle.turns.specs.Search.{firstHigh, minutesOf}
-use Rattle.turns.specs.SearchPosts.{NextPost, FoundPost, onwards}
+use Rattle.turns.specs.inner.Search.{NextPost, FoundPost, onwards}
 use Rattle.turns.specs.declared.search.Next.{Next}
 use Rattle.turns.proofs.search.Strides.{smaller-within, turns-few}
 use Rattle.turns.proofs.search.Stored.{stored-all}

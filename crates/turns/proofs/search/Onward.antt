@@ -7,11 +7,11 @@ use native.Mathlib.Nat.{le-refl}
 use lib.IntN.{ℤ}
 use Rattle.turns.specs.Sense.{rising, differ}
 use Rattle.turns.specs.Cuts.{earlierEnd}
-use Rattle.turns.specs.BisectionPosts.{TurnedPost}
+use Rattle.turns.specs.inner.Bisection.{TurnedPost}
 use Rattle.turns.specs.declared.bisection.Turned.{Turned}
 use Rattle.turns.proofs.bisection.Cuts.{end-within}
 use Rattle.turns.specs.Search.{turnsOf, firstHigh}
-use Rattle.turns.specs.SearchPosts.{NextPost}
+use Rattle.turns.specs.inner.Search.{NextPost}
 use Rattle.turns.proofs.search.Strides.{smaller-within, turns-none, turns-same, turns-one}
 
 module _ (slope : ℕ → ℤ) (stride : ℕ) (some : 0 < stride) (last minute from : ℕ) (same : turnsOf slope stride minute last ≡ turnsOf slope stride from last) where

@@ -13,7 +13,7 @@ use mir.Val.{toZ}
 use Rattle.angles.specs.Floor.{floorDiv}
 use Rattle.angles.proofs.Machine.{held}
 use Rattle.angles.proofs.Known.{Known, plainly, read, cast, bounded, kept, plus, times, shifted}
-use Rattle.month_prepared.specs.View.{constituentsAfter}
+use Rattle.month_prepared.specs.inner.View.{constituentsAfter}
 use Rattle.month_prepared.proofs.Places.{constituents-more, constituents-none}
 use Rattle.heights.specs.Angle.{angle}
 use Rattle.turns.specs.Slope.{fall, fallsAt}

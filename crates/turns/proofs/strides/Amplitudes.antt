@@ -6,7 +6,7 @@ use mathlib.Core.List.{List}
 use native.Mathlib.Omega.{arith}
 use lib.ListN.{getD}
 use lib.Dec.{eqb}
-use Rattle.station.specs.RecordsRows.{recordsFrom}
+use Rattle.station.specs.Records.{recordsFrom}
 use Rattle.turns.specs.Strides.{amplitudeAt}
 
 module _ (places amplitudes lags : List ℕ) (k n place : ℕ) where

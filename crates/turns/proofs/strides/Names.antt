@@ -3,7 +3,7 @@ use mathlib.Core.Path.{_≡_, ap}
 use Prim.Native.Nat.{ℕ}
 use mathlib.Core.List.{List}
 use Rattle.columns.specs.Names.{namesFrom, placeOf}
-use Rattle.table.specs.View.{tableOf}
+use Rattle.table.specs.inner.View.{tableOf}
 use Rattle.table.specs.declared.Table as code
 use Rattle.station.specs.Station.{Station}
 use Rattle.table.proofs.Names.{names-of}

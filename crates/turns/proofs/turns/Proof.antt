@@ -4,8 +4,8 @@ use Rattle.turns.proofs.turns.Statement.{statement}
 use Rattle.turns.proofs.turns.Tie as tie
 use native.Mathlib.Omega.{arith}
 use Rattle.turns.specs.Search.{turnsOf}
-use Rattle.turns.specs.Slope.{slopeOf}
-use Rattle.turns.specs.Written.{heightOf}
+use Rattle.turns.specs.inner.Lists.{slopeOf}
+use Rattle.turns.specs.inner.Lists.{heightOf}
 use Rattle.turns.proofs.Front.{few-minutes, few-heights, all-given}
 
 find-turns-requires : tie.Need-find-turns-requires

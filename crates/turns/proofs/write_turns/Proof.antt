@@ -11,7 +11,7 @@ use lib.Seq.{sets}
 use mir.Syntax.{w64}
 use mir.Val.{SFits}
 use mir.ValLaws.{toZ-ofZ}
-use Rattle.turns.specs.Written.{heightOf}
+use Rattle.turns.specs.inner.Lists.{heightOf}
 use Rattle.turns.proofs.Front.{store-more, store-none, stored}
 
 abbrev Inv-loop : tie.InvT-loop

@@ -3,7 +3,7 @@ use mathlib.Core.Path.{_≡_, refl}
 use native.Mathlib.Omega.{arith}
 use lib.ListN.{length}
 use borrow.Author.Needs.{needs}
-use Rattle.transcript.specs.Window.{Within}
+use Rattle.transcript.specs.inner.Window.{Within}
 use Rattle.weights.proofs.run.Statement.{statement}
 use Rattle.weights.proofs.run.Tie as tie
 

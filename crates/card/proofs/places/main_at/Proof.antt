@@ -7,9 +7,9 @@ use mathlib.Core.Path.{_≡_}
 use Prim.Native.Nat.{_-_, _*_}
 use lib.ListN.{getD}
 use borrow.Author.Tests.{eq-eqb, ne-eqb}
-use Rattle.table.specs.View.{listed}
+use Rattle.table.specs.inner.View.{listed}
 use Rattle.card.specs.Places.{mainAt}
-use Rattle.card.specs.PlacesAnswers.{placesIn}
+use Rattle.card.specs.inner.Places.{placesIn}
 use Rattle.card.proofs.places.Defined.{main-more, main-none}
 
 abbrev Inv-loop : tie.InvT-loop

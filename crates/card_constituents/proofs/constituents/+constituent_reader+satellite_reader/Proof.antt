@@ -27,10 +27,10 @@ use native.Mathlib.Numerals.{add-one-le}
 use lib.ListN.{length}
 use borrow.Author.Tests.{eq-eqb, ne-eqb, le-leb, lt-leb}
 use Rattle.columns.specs.Names.{namesFrom}
-use Rattle.table.specs.View.{mainOf}
+use Rattle.table.specs.inner.View.{mainOf}
 use Rattle.card.specs.declared.Fault.{Fault}
 use Rattle.card_mains.specs.declared.mains.MainStep.{MainStep}
-use Rattle.card_constituents.specs.Answers.{mainsIn, Begun, Grown}
+use Rattle.card_constituents.specs.inner.Rows.{mainsIn, Begun, Grown}
 use Rattle.card_constituents.proofs.constituents.OfMains.{stored-one-more, one-more, mains-end, mains-step, satellites-end, satellites-step}
 
 abbrev μ-constituent-reader : Measures 6 constituent-reader-kinds.ps ℕ

@@ -8,7 +8,7 @@ use mir.Syntax.{w8}
 use mir.Val.{SFits}
 use mir.ValLaws.{toZ-ofZ}
 use Rattle.columns.specs.Names.{namesFrom}
-use Rattle.card_mains.specs.MainsAnswers.{mainStepGives}
+use Rattle.card_mains.specs.inner.Mains.{mainStepGives}
 use Rattle.card_constituents.proofs.rows.OfMains.{step-room, stored-begun}
 
 next-main-requires : tie.Need-next-main-requires

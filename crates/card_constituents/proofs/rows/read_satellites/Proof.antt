@@ -6,10 +6,10 @@ use Prim.Native.Nat.{_+_, _*_, _≤_, min}
 use mathlib.Core.Path.{_≡_, refl, sym, ap, _∙_}
 use native.Mathlib.Omega.{arith}
 use lib.ListN.{length, getD, length-set}
-use Rattle.table.specs.View.{listed, satelliteOf}
+use Rattle.table.specs.inner.View.{listed, satelliteOf}
 use Rattle.table.proofs.Rows.{row-at}
 use Rattle.card.specs.Card.{good}
-use Rattle.card.specs.Answers.{faultGives}
+use Rattle.card.specs.inner.Answers.{faultGives}
 use Rattle.card_mains.specs.Satellites.{satelliteCard}
 use Rattle.card_constituents.proofs.rows.OfMains.{mains-kept, main-grown, mains-kept-grown, grown-end, grown-stored}
 

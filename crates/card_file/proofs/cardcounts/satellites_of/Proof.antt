@@ -1,6 +1,6 @@
 use Rattle.card_file.proofs.cardcounts.Counting.{satellitesFrom, satellites-next, satellites-least, satellites-all}
 use Rattle.card_file.specs.Satellites.{satellitesIn}
-use Rattle.table.specs.View.{tableOf}
+use Rattle.table.specs.inner.View.{tableOf}
 use borrow.Author.Needs.{needs}
 use native.Mathlib.Omega.{arith}
 use Prim.Native.Nat.{_+_, _-_, _*_, _≤_, min}

@@ -8,9 +8,9 @@ use Rattle.card_file.proofs.cardfile.refused.Reads as refused-reads
 use Rattle.card_frequencies.proofs.longitudes.read_five.Reads as read-five-reads
 use mathlib.Core.Path.{_≡_, refl, sym, ap, _∙_}
 use native.Mathlib.Omega.{arith}
-use Rattle.card_file.specs.Rest.{increasesAnd}
+use Rattle.card_file.specs.inner.Rest.{increasesAnd}
 use Rattle.card_file.proofs.cardfile.Followed.{part-refused, part-reached}
-use Rattle.table.specs.View.{tableOf}
+use Rattle.table.specs.inner.View.{tableOf}
 use Rattle.card_file.proofs.cardfile.Followed.{part-refused, part-reached, reached-within}
 
 -- src/lib.rt:129:9

@@ -7,8 +7,8 @@ use Rattle.card_file.proofs.cardfile.increases_and.Reads as increases-a
 use Rattle.card_file.proofs.cardfile.refused.Reads as refused-reads
 use Rattle.card_frequencies.proofs.longitudes.read_five.Reads as read-five-reads
 use mathlib.Core.Path.{_≡_, refl, sym, ap, _∙_}
-use Rattle.table.specs.View.{tableOf}
-use Rattle.card_file.specs.Rest.{longitudesAnd}
+use Rattle.table.specs.inner.View.{tableOf}
+use Rattle.card_file.specs.inner.Rest.{longitudesAnd}
 use Rattle.card_file.proofs.cardfile.Followed.{part-refused, part-reached, reached-within}
 
 -- src/lib.rt:147:9

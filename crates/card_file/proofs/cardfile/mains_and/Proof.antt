@@ -11,8 +11,8 @@ use mathlib.Core.List.{List, []}
 use Prim.Native.Nat.{ℕ}
 use lib.ListN.{drop}
 use Rattle.columns.specs.Lines.{linesOf}
-use Rattle.table.specs.View.{tableOf, listed}
-use Rattle.card_file.specs.Rest.{mainsAnd}
+use Rattle.table.specs.inner.View.{tableOf, listed}
+use Rattle.card_file.specs.inner.Rest.{mainsAnd}
 use Rattle.card_file.proofs.cardfile.Followed.{part-refused, part-reached, reached-within}
 use Rattle.card_file.proofs.cardfile.Parts.{part-3}
 

@@ -11,9 +11,9 @@ use mathlib.Core.Path.{_≡_, refl, sym, ap, _∙_}
 use mathlib.Core.List.{List, []}
 use Prim.Native.Nat.{ℕ}
 use Rattle.table.specs.Table.{Frequency}
-use Rattle.table.specs.View.{tableOf}
+use Rattle.table.specs.inner.View.{tableOf}
 use Rattle.card_file.specs.Cards.{readCards, Outcome}
-use Rattle.card_file.specs.Rest.{longitudesAnd, increasesAnd, mainsAnd, shallowsAnd}
+use Rattle.card_file.specs.inner.Rest.{longitudesAnd, increasesAnd, mainsAnd, shallowsAnd}
 use Rattle.card_file.proofs.cardfile.Followed.{part-refused, part-reached, reached-within}
 
 -- src/lib.rt:164:9

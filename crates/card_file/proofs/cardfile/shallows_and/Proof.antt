@@ -12,10 +12,10 @@ use Prim.Native.Nat.{ℕ}
 use lib.ListN.{drop}
 use Rattle.columns.specs.Lines.{linesOf}
 use Rattle.table.specs.Table as document
-use Rattle.table.specs.View.{tableOf, listed, shallowOf}
-use Rattle.card_file.specs.Answers.{definedGives}
+use Rattle.table.specs.inner.View.{tableOf, listed, shallowOf}
+use Rattle.card_file.specs.inner.Answers.{definedGives}
 use Rattle.card_file.specs.declared.cards.Defined.{Defined}
-use Rattle.card_file.specs.Rest.{shallowsAnd, withShallows}
+use Rattle.card_file.specs.inner.Rest.{shallowsAnd, withShallows}
 use Rattle.card_file.proofs.cardfile.Followed.{part-refused, part-reached}
 use Rattle.card_file.proofs.cardfile.Parts.{part-4, last-check}
 

@@ -5,7 +5,7 @@ use Rattle.card_file.proofs.cards.is_defined.Tie as tie
 use Rattle.card.proofs.places.Defined.{among-both}
 use mathlib.Core.Path.{_≡_}
 use Rattle.card.specs.Card.{isAmong}
-use Rattle.card.specs.PlacesAnswers.{placesIn}
+use Rattle.card.specs.inner.Places.{placesIn}
 
 is-among-requires : tie.Need-is-among-requires
 is-among-requires c κs = search needs

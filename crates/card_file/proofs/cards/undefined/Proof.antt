@@ -10,7 +10,7 @@ use native.Mathlib.Omega.{arith}
 use lib.ListN.{length, drop}
 use Rattle.table.specs.Table.{Frequency, Table}
 use Rattle.card_file.specs.Cards.{allDefined}
-use Rattle.card.specs.PlacesAnswers.{placesIn}
+use Rattle.card.specs.inner.Places.{placesIn}
 use Rattle.card_file.proofs.cards.Last.{defined-more, defined-none}
 
 abbrev Inv-loop : tie.InvT-loop

@@ -12,9 +12,9 @@ use lib.Seq.{sets, length-sets}
 use Rattle.columns.specs.Columns.{columns}
 use Rattle.columns.specs.Lines.{linesOf}
 use Rattle.columns.proofs.Columns.{length-padded}
-use Rattle.table.specs.View.{listed, frequencyOf}
+use Rattle.table.specs.inner.View.{listed, frequencyOf}
 use Rattle.card_frequencies.specs.Frequencies.{frequenciesFrom}
-use Rattle.card_frequencies.specs.Answers.{frequencyGives}
+use Rattle.card_frequencies.specs.inner.Answers.{frequencyGives}
 use Rattle.card_frequencies.proofs.frequencies.Rows.{frequency-room, frequency-put, frequencies-end}
 use Rattle.card_frequencies.proofs.frequencies.Rows.{frequencies-step}
 

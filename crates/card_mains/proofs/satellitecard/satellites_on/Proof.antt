@@ -10,11 +10,11 @@ use native.Mathlib.Nat.{sub-zero}
 use Prim.Native.Nat.{_+_, _-_, _*_, _≤_}
 use lib.ListN.{length, length-set, take, set}
 use lib.Seq.{length-sets, length-take-le, sets}
-use Rattle.table.specs.View.{listed, satelliteOf}
+use Rattle.table.specs.inner.View.{listed, satelliteOf}
 use Rattle.card_mains.specs.Satellites.{satellitesOn}
-use Rattle.card_mains.specs.SatellitecardAnswers.{Kept}
+use Rattle.card_mains.specs.inner.Satellites.{Kept}
 use Rattle.card_mains.proofs.satellitecard.OfSatellites.{satellite-put, satellite-kept, satellites-grow, satellites-more, satellites-none}
-use Rattle.card_mains.specs.SatellitecardAnswers.{SatelliteRoom}
+use Rattle.card_mains.specs.inner.Satellites.{SatelliteRoom}
 
 abbrev Inv-loop : tie.InvT-loop
 Inv-loop line first count angles₀ ratios₀ j₀ angles ratios j =

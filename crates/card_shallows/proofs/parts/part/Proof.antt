@@ -11,7 +11,7 @@ use Rattle.columns.specs.Columns.{columns}
 use Rattle.columns.specs.Names.{namesFrom}
 use Rattle.card.specs.Formats.{partColumn, partName}
 use Rattle.card.specs.Places.{mainNamed}
-use Rattle.card.specs.PlacesAnswers.{placeGives, placesIn}
+use Rattle.card.specs.inner.Places.{placeGives, placesIn}
 
 mul-at : tie.Need-mul-at
 mul-at c = search needs

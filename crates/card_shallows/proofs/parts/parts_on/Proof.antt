@@ -16,10 +16,10 @@ use mir.Val.{SFits}
 use mir.ValLaws.{toZ-ofZ}
 use mir.Facts.{sfits-widen}
 use Rattle.columns.specs.Names.{namesFrom}
-use Rattle.table.specs.View.{listed, partOf}
+use Rattle.table.specs.inner.View.{listed, partOf}
 use Rattle.card.specs.Formats.{partColumn}
 use Rattle.card_shallows.specs.Parts.{partsOn}
-use Rattle.card.specs.PlacesAnswers.{placesIn}
+use Rattle.card.specs.inner.Places.{placesIn}
 use Rattle.card_shallows.proofs.parts.PartLaws.{parts-more, parts-none, read-sizes, part-put}
 
 abbrev Inv-loop : tie.InvT-loop

@@ -8,7 +8,7 @@ use Rattle.table.proofs.Rows.{listed-length}
 use Rattle.card_shallows.specs.Shallow.{nextShallow}
 use mathlib.Core.Path.{_≡_}
 use Rattle.card.specs.Card.{opening}
-use Rattle.card.specs.LinesAnswers.{openingGives}
+use Rattle.card.specs.inner.Lines.{openingGives}
 
 begins-requires : tie.Need-begins-requires
 begins-requires c κs = search needs

@@ -7,7 +7,7 @@ use Rattle.card.proofs.places.Defined.{among-both}
 use mathlib.Core.Path.{_≡_}
 use Rattle.columns.specs.Columns.{columns}
 use Rattle.columns.specs.Names.{namesFrom}
-use Rattle.card.specs.PlacesAnswers.{placeGives, placesIn}
+use Rattle.card.specs.inner.Places.{placeGives, placesIn}
 
 place-named-requires : tie.Need-place-named-requires
 place-named-requires c κs = search needs

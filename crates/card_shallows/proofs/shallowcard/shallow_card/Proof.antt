@@ -7,7 +7,7 @@ use Rattle.card_shallows.specs.Shallow.{shallowCard}
 use mathlib.Core.Path.{_≡_}
 use Rattle.card.specs.Card.{number}
 use Rattle.card.specs.Formats.{partCountField}
-use Rattle.card.specs.Answers.{naturalGives}
+use Rattle.card.specs.inner.Answers.{naturalGives}
 
 own-place-requires : tie.Need-own-place-requires
 own-place-requires c κs = search needs

@@ -11,9 +11,9 @@ use lib.ListN.{length, drop}
 use lib.Seq.{sets, length-sets}
 use Rattle.columns.specs.Lines.{linesOf}
 use Rattle.columns.specs.Names.{namesFrom}
-use Rattle.table.specs.View.{listed, shallowOf}
+use Rattle.table.specs.inner.View.{listed, shallowOf}
 use Rattle.card_shallows.specs.Shallows.{shallowsFrom}
-use Rattle.card.specs.PlacesAnswers.{placesIn}
+use Rattle.card.specs.inner.Places.{placesIn}
 use Rattle.card_shallows.proofs.shallows.Rows.{shallow-room, shallow-put, shallows-step, shallows-end}
 
 abbrev Inv-loop : tie.InvT-loop

@@ -7,7 +7,7 @@ use Prim.Native.Nat.{_+_, _-_}
 use lib.ListN.{replicate}
 use Rattle.columns.specs.Columns.{columns}
 use Rattle.fields.specs.Numerals as spec
-use Rattle.fields.specs.NumeralsCapped.{cap}
+use Rattle.fields.specs.inner.Cap.{cap}
 use Rattle.fields.proofs.numerals.Digits.{capped-before}
 
 numeral-requires : tie.Need-numeral-requires

@@ -8,7 +8,7 @@ use Prim.Native.Nat.{min, _+_, _*_, _-_, _≤_}
 use native.Mathlib.Nat.{sub-zero}
 use lib.ListN.{replicate}
 use Rattle.fields.specs.Numerals as spec
-use Rattle.fields.specs.NumeralsCapped.{cap}
+use Rattle.fields.specs.inner.Cap.{cap}
 use Rattle.fields.proofs.numerals.Digits.{zeros-more, zeros-none, capped-before}
 
 abbrev Inv-loop : tie.InvT-loop

@@ -6,7 +6,7 @@ use mathlib.Core.Path.{_≡_, refl, _∙_}
 use lib.ListN.{length, getD, length-set}
 use borrow.Author.Count.{below-none}
 use Rattle.angles.specs.Ticks.{turn}
-use Rattle.heights.specs.Angles.{Advances}
+use Rattle.heights.specs.inner.Angles.{Advances}
 use Rattle.heights.proofs.series.Filling.{filled-more}
 use Rattle.heights.proofs.series.advances.Statement.{statement}
 use Rattle.heights.proofs.series.advances.Tie as tie

@@ -6,7 +6,7 @@ use borrow.Author.Needs.{needs}
 use borrow.Author.Count.{below-none}
 use lib.ListN.{length, getD, length-set}
 use Rattle.heights.specs.Angle.{angle}
-use Rattle.heights.specs.Angles.{Angles}
+use Rattle.heights.specs.inner.Angles.{Angles}
 use Rattle.heights.proofs.series.Filling.{filled-more}
 use Rattle.heights.proofs.series.angles_at.Statement.{statement}
 use Rattle.heights.proofs.series.angles_at.Tie as tie

@@ -7,7 +7,7 @@ use mathlib.Core.List.{List}
 use lib.ListN.{length, getD, length-set}
 use borrow.Author.Count.{below-none}
 use Rattle.angles.specs.Ticks.{turn}
-use Rattle.heights.specs.Angles.{MovedOn}
+use Rattle.heights.specs.inner.Angles.{MovedOn}
 use Rattle.heights.proofs.series.Filling.{filled-more, unreached}
 use Rattle.heights.proofs.series.move_on.Statement.{statement}
 use Rattle.heights.proofs.series.move_on.Tie as tie

@@ -13,9 +13,9 @@ use lib.Seq.{sets}
 use mir.Syntax.{w64}
 use mir.Val.{toZ, ofZ}
 use Rattle.angles.proofs.Known.{read}
-use Rattle.month_prepared.specs.View.{constituentsFrom}
+use Rattle.month_prepared.specs.inner.View.{constituentsFrom}
 use Rattle.heights.specs.Series.{seriesFrom, seriesOf}
-use Rattle.heights.specs.Angles.{Angles}
+use Rattle.heights.specs.inner.Angles.{Angles}
 use Rattle.heights.proofs.series.Advancing.{angles-later, angles-below, ticks-below}
 use Rattle.heights.proofs.series.Written.{written-more, written-none, written-all}
 use Rattle.heights.proofs.series.series.Statement.{statement}

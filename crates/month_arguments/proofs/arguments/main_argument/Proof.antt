@@ -6,9 +6,9 @@ use lib.IntN.{ℤ, natAbs, _+ℤ_}
 use Rattle.angles.specs.Floor.{modTurn}
 use Rattle.angles.proofs.Machine.{held}
 use Rattle.angles.proofs.Known.{Known, known, read, fits, kept, plus}
-use Rattle.table.specs.View.{rowOf, listed}
-use Rattle.month_arguments.specs.AstronomyView.{longitudesOf}
-use Rattle.month_arguments.specs.ArgumentsView.{rowArgument}
+use Rattle.table.specs.inner.View.{rowOf, listed}
+use Rattle.month_arguments.specs.inner.Longitudes.{longitudesOf}
+use Rattle.month_arguments.specs.inner.Rows.{rowArgument}
 use Rattle.month_arguments.proofs.arguments.Chain.{seven-terms}
 use borrow.Author.Needs.{needs}
 use Rattle.month_arguments.proofs.arguments.main_argument.Statement.{statement}

@@ -9,7 +9,7 @@ use mir.ValLaws.{toZ-ofZ}
 use Rattle.angles.specs.Ticks.{turn}
 use Rattle.angles.specs.Floor.{modTurn}
 use Rattle.angles.proofs.Angles.{below-turn}
-use Rattle.table.specs.View.{listed, partOf, naturals, integers, shallowOf}
+use Rattle.table.specs.inner.View.{listed, partOf, naturals, integers, shallowOf}
 use Rattle.month_arguments.specs.Arguments.{sumOfParts, fromParts}
 use Rattle.month_arguments.proofs.arguments.Chain.{parts-more, parts-none, parts-all}
 use borrow.Author.Needs.{needs}

@@ -10,7 +10,7 @@ use mir.Val.{SFits}
 use mir.ValLaws.{toZ-ofZ}
 use Rattle.table.proofs.entries.Beyond.{past-entries, entry-at}
 use Rattle.month_pairs.specs.Pairs.{checked, pair, one}
-use Rattle.month_pairs.specs.NodalView.{sumAt}
+use Rattle.month_pairs.specs.inner.Rows.{sumAt}
 use borrow.Author.Needs.{needs}
 use Rattle.month_pairs.proofs.nodal.pair_at.Statement.{statement}
 use Rattle.month_pairs.proofs.nodal.pair_at.Tie as tie

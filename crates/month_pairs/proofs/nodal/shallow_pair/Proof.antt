@@ -5,14 +5,14 @@ use Prim.Native.Nat.{_-_, _<_, _^_}
 use native.Mathlib.Omega.{arith}
 use native.Mathlib.Nat.{sub-zero}
 use lib.Dec.{lit≤}
-use Rattle.table.specs.View.{listed, naturals, integers, partOf, shallowOf}
-use Rattle.month_satellites.specs.SatellitesRanges.{Sized}
-use Rattle.month_satellites.specs.View.{pairOf}
+use Rattle.table.specs.inner.View.{listed, naturals, integers, partOf, shallowOf}
+use Rattle.month_satellites.specs.inner.Ranges.{Sized}
+use Rattle.month_satellites.specs.inner.View.{pairOf}
 use Rattle.month_pairs.specs.Pairs.{tooLarge, pair}
-use Rattle.month_pairs.specs.Ranges.{Small}
-use Rattle.month_pairs.specs.PairsView.{correctedOf}
+use Rattle.month_pairs.specs.inner.Ranges.{Small}
+use Rattle.month_pairs.specs.inner.Corrected.{correctedOf}
 use Rattle.month_pairs.specs.Shallow.{timesParts, fromParts}
-use Rattle.month_pairs.specs.NodalView.{pairsOf}
+use Rattle.month_pairs.specs.inner.Rows.{pairsOf}
 use Rattle.month_pairs.proofs.nodal.Multiplying.{parts-next, parts-none}
 use borrow.Author.Needs.{needs}
 use Rattle.month_pairs.proofs.nodal.shallow_pair.Statement.{statement}

@@ -8,12 +8,12 @@ use lib.ListN.{getD}
 use mir.Syntax.{w8}
 use mir.Val.{SFits}
 use mir.ValLaws.{toZ-ofZ}
-use Rattle.table.specs.View.{naturals, integers, partOf}
+use Rattle.table.specs.inner.View.{naturals, integers, partOf}
 use Rattle.month_satellites.specs.Satellites.{Pair}
-use Rattle.month_satellites.specs.View.{pairOf}
+use Rattle.month_satellites.specs.inner.View.{pairOf}
 use Rattle.month_pairs.specs.Pairs.{Corrected, pair, one, andThen, timesOften, turned}
 use Rattle.month_pairs.specs.Shallow.{timesPart}
-use Rattle.month_pairs.specs.NodalView.{pairsOf}
+use Rattle.month_pairs.specs.inner.Rows.{pairsOf}
 use borrow.Author.Needs.{needs}
 use Rattle.month_pairs.proofs.nodal.times_row_part.Statement.{statement}
 use Rattle.month_pairs.proofs.nodal.times_row_part.Tie as tie

@@ -4,10 +4,10 @@ use mathlib.Core.Path.{_≡_, refl, sym, _∙_, ap, subst}
 use Prim.Native.Nat.{_^_}
 use borrow.Author.Needs.{needs}
 use Rattle.month_pairs.specs.Pairs.{tooLarge, pair, checked, timesOften}
-use Rattle.month_satellites.specs.SatellitesRanges.{Sized}
-use Rattle.month_pairs.specs.Ranges.{Small}
-use Rattle.month_satellites.specs.View.{pairOf}
-use Rattle.month_pairs.specs.PairsView.{correctedOf}
+use Rattle.month_satellites.specs.inner.Ranges.{Sized}
+use Rattle.month_pairs.specs.inner.Ranges.{Small}
+use Rattle.month_satellites.specs.inner.View.{pairOf}
+use Rattle.month_pairs.specs.inner.Corrected.{correctedOf}
 use Rattle.month_pairs.proofs.pairs.Multiplying.{often-next, often-none}
 use Rattle.month_pairs.proofs.pairs.times_often.Statement.{statement}
 use Rattle.month_pairs.proofs.pairs.times_often.Tie as tie

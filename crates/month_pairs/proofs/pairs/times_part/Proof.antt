@@ -10,9 +10,9 @@ use mir.ValLaws.{toZ-ofZ}
 use Rattle.angles.proofs.Known.{fits}
 use Rattle.month_satellites.specs.Satellites.{Pair}
 use Rattle.month_pairs.specs.Pairs.{andThen, timesOften, turned}
-use Rattle.month_pairs.specs.Ranges.{Small}
-use Rattle.month_satellites.specs.View.{pairOf}
-use Rattle.month_pairs.specs.PairsView.{correctedOf}
+use Rattle.month_pairs.specs.inner.Ranges.{Small}
+use Rattle.month_satellites.specs.inner.View.{pairOf}
+use Rattle.month_pairs.specs.inner.Corrected.{correctedOf}
 use Rattle.month_satellites.proofs.latitude.Sizes.{size-through}
 use Rattle.month_pairs.proofs.pairs.times_part.Statement.{statement}
 use Rattle.month_pairs.proofs.pairs.times_part.Tie as tie

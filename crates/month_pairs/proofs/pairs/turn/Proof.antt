@@ -11,7 +11,7 @@ use Rattle.angles.proofs.Machine.{if-negative, if-not-negative}
 use Rattle.angles.proofs.Known.{read, fits, kept, says, negated}
 use Rattle.month_satellites.specs.Satellites.{Pair}
 use Rattle.month_pairs.specs.Pairs.{turned}
-use Rattle.month_satellites.specs.View.{pairOf}
+use Rattle.month_satellites.specs.inner.View.{pairOf}
 use Rattle.month_pairs.proofs.pairs.turn.Statement.{statement}
 use Rattle.month_pairs.proofs.pairs.turn.Tie as tie
 

@@ -11,7 +11,7 @@ use mir.Val.{toZ}
 use Rattle.angles.proofs.Machine.{held}
 use Rattle.angles.proofs.Known.{Known, plainly, cast, bounded, fits, kept, says, minus, times}
 use Rattle.month_satellites.specs.Latitude.{diurnalNorth}
-use Rattle.month_satellites.specs.LatitudeRanges.{IsS20}
+use Rattle.month_satellites.specs.inner.Factors.{IsS20}
 use Rattle.month_satellites.proofs.latitude.Sizes.{floored, apart-size, square}
 use Rattle.month_satellites.proofs.latitude.diurnal_north.Statement.{statement}
 use Rattle.month_satellites.proofs.latitude.diurnal_north.Tie as tie

@@ -17,7 +17,7 @@ use Rattle.angles.proofs.Known.{Known, read, fits, kept, says}
 use Rattle.cosine.specs.Fraction.{quarter}
 use Rattle.cosine.specs.Fixed.{step, fixedBase, fixedSine}
 use Rattle.month_satellites.specs.Latitude.{latitudeSize, s20}
-use Rattle.month_satellites.specs.LatitudeRanges.{IsS20}
+use Rattle.month_satellites.specs.inner.Factors.{IsS20}
 use Rattle.month_satellites.proofs.latitude.Sine.{sine-first, sine-above}
 use Rattle.month_satellites.proofs.latitude.Sizes.{floored}
 use Rattle.month_satellites.proofs.latitude.s20_of.Statement.{statement}

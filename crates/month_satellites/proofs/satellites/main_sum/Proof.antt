@@ -11,10 +11,10 @@ use lib.IntN.{ℤ, pos, _+ℤ_, +ℤ-idl}
 use mir.Syntax.{w64}
 use mir.Val.{toZ}
 use Rattle.cosine.specs.Fixed.{fixedCosine, fixedSine}
-use Rattle.table.specs.View.{satelliteOf, listed}
+use Rattle.table.specs.inner.View.{satelliteOf, listed}
 use Rattle.table.specs.Table.{Satellite}
-use Rattle.month_satellites.specs.LatitudeRanges.{factorsOf}
-use Rattle.month_satellites.specs.View.{longitudesOf}
+use Rattle.month_satellites.specs.inner.Factors.{factorsOf}
+use Rattle.month_satellites.specs.inner.View.{longitudesOf}
 use Rattle.month_satellites.specs.Satellites.{satelliteTerm, mainPair, Pair, sumOver}
 use Rattle.month_satellites.specs.Latitude.{Factors}
 use Rattle.month_satellites.proofs.satellites.Running.{Running, begin, done, room, added-fits, added-runs}

@@ -10,7 +10,7 @@ use lib.ListN.{getD}
 use mir.Syntax.{w8}
 use mir.Val.{SFits}
 use mir.ValLaws.{toZ-ofZ}
-use Rattle.table.specs.View.{listed, rowOf, satelliteOf}
+use Rattle.table.specs.inner.View.{listed, rowOf, satelliteOf}
 use Rattle.table.specs.Table.{markOf, Satellite}
 use Rattle.month_satellites.proofs.satellites.satellite_at.Statement.{statement}
 use Rattle.month_satellites.proofs.satellites.satellite_at.Tie as tie

@@ -11,8 +11,8 @@ use Rattle.angles.proofs.Known.{read, says}
 use Rattle.cosine.specs.Fixed.{fixedCosine, fixedSine}
 use Rattle.table.specs.Table.{Satellite}
 use Rattle.month_satellites.specs.Latitude.{Factors}
-use Rattle.month_satellites.specs.LatitudeRanges.{factorsOf}
-use Rattle.month_satellites.specs.View.{longitudesOf, theSatellite}
+use Rattle.month_satellites.specs.inner.Factors.{factorsOf}
+use Rattle.month_satellites.specs.inner.View.{longitudesOf, theSatellite}
 use Rattle.month_satellites.specs.Satellites.{satelliteAngle, plainTerm, markedTerm, satelliteTerm}
 use Rattle.month_satellites.proofs.latitude.Sizes.{named}
 use Rattle.month_satellites.proofs.satellites.terms_of.Statement.{statement}

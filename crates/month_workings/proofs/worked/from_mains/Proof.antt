@@ -1,7 +1,7 @@
 -- `month_workings::worked::from_mains` meets its contract: a case for each that can be found.
 use mathlib.Core.Path.{refl, sym, subst}
 use lib.Dec.{lit≤}
-use Rattle.month_workings.specs.View.{FromMains}
+use Rattle.month_workings.specs.inner.View.{FromMains}
 use borrow.Author.Needs.{needs}
 use Rattle.month_workings.proofs.worked.from_mains.Statement.{statement}
 use Rattle.month_workings.proofs.worked.from_mains.Tie as tie

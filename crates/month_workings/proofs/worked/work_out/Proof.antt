@@ -1,6 +1,6 @@
 -- `month_workings::worked::work_out` meets its contract: what is found, from the mains that it needs (`OfRows`).
-use Rattle.month_arguments.specs.AstronomyView.{longitudesOf}
-use Rattle.month_satellites.specs.LatitudeRanges.{factorsOf}
+use Rattle.month_arguments.specs.inner.Longitudes.{longitudesOf}
+use Rattle.month_satellites.specs.inner.Factors.{factorsOf}
 use Rattle.month_workings.proofs.worked.OfRows.{worked-out}
 use borrow.Author.Needs.{needs}
 use Rattle.month_workings.proofs.worked.work_out.Statement.{statement}

@@ -8,11 +8,11 @@ use lib.ListN.{getD, take}
 use Rattle.angles.specs.Ticks.{turn, centicycle}
 use Rattle.angles.proofs.Angles.{below-turn}
 use Rattle.table.proofs.entries.Beyond.{past-entries, entry-at}
-use Rattle.table.specs.View.{integers}
+use Rattle.table.specs.inner.View.{integers}
 use Rattle.month_arguments.specs.Longitudes.{Longitudes, times}
-use Rattle.month_arguments.specs.AstronomyView.{longitudesOf}
+use Rattle.month_arguments.specs.inner.Longitudes.{longitudesOf}
 use Rattle.month_arguments.specs.Arguments.{astronomical, argument}
-use Rattle.month_arguments.specs.ArgumentsView.{rowArgument}
+use Rattle.month_arguments.specs.inner.Rows.{rowArgument}
 use borrow.Author.Needs.{needs}
 use Rattle.month_workings.proofs.workings.argument_of.Statement.{statement}
 use Rattle.month_workings.proofs.workings.argument_of.Tie as tie

@@ -1,13 +1,13 @@
 -- `month_workings::workings::sum_of` meets its contract: the sum over the satellites that the main's row names, or (2^20, 0) past the mains.
 use mathlib.Core.Path.{ap, ap₂, _∙_}
 use Prim.Native.Nat.{ℕ}
-use Rattle.table.specs.View.{listed, satelliteOf}
+use Rattle.table.specs.inner.View.{listed, satelliteOf}
 use Rattle.table.proofs.entries.Beyond.{past-entries, entry-at}
-use Rattle.month_satellites.specs.LatitudeRanges.{factorsOf}
+use Rattle.month_satellites.specs.inner.Factors.{factorsOf}
 use Rattle.month_satellites.specs.Satellites.{mainPair}
-use Rattle.month_satellites.specs.View.{longitudesOf}
+use Rattle.month_satellites.specs.inner.View.{longitudesOf}
 use Rattle.month_pairs.specs.Pairs.{checked, pair, one}
-use Rattle.month_pairs.specs.NodalView.{rowSatellites, rowCorrected}
+use Rattle.month_pairs.specs.inner.Rows.{rowSatellites, rowCorrected}
 use borrow.Author.Needs.{needs}
 use Rattle.month_workings.proofs.workings.sum_of.Statement.{statement}
 use Rattle.month_workings.proofs.workings.sum_of.Tie as tie

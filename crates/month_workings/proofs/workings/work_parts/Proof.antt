@@ -4,11 +4,11 @@ use Prim.Native.Nat.{ℕ, _+_, _-_, _<_, _^_}
 use native.Mathlib.Nat.{not-suc-le-zero}
 use native.Mathlib.Omega.{arith}
 use lib.ListN.{getD}
-use Rattle.table.specs.View.{naturals}
+use Rattle.table.specs.inner.View.{naturals}
 use Rattle.month_arguments.specs.Longitudes.{nodal}
-use Rattle.month_arguments.specs.AstronomyView.{longitudesOf}
-use Rattle.month_satellites.specs.LatitudeRanges.{factorsOf}
-use Rattle.month_workings.specs.Kept.{argumentAt, correctedAt, Has, Kept}
+use Rattle.month_arguments.specs.inner.Longitudes.{longitudesOf}
+use Rattle.month_satellites.specs.inner.Factors.{factorsOf}
+use Rattle.month_workings.specs.inner.Kept.{argumentAt, correctedAt, Has, Kept}
 use Rattle.month_workings.proofs.workings.Storing.{one-part-more}
 use borrow.Author.Needs.{needs}
 use Rattle.month_workings.proofs.workings.work_parts.Statement.{statement}

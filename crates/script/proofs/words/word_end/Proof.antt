@@ -5,7 +5,7 @@ use native.Mathlib.Omega.{arith}
 use lib.ListN.{length, drop}
 use borrow.Author.Needs.{needs}
 use borrow.Author.Tests.{eq-eqb, ne-eqb}
-use Rattle.script.specs.Left.{wordLength}
+use Rattle.script.specs.inner.Left.{wordLength}
 use Rattle.script.proofs.words.Words.{drop-next, drop-none}
 use Rattle.script.proofs.words.word_end.Statement.{statement}
 use Rattle.script.proofs.words.word_end.Tie as tie

@@ -1,6 +1,6 @@
 use Rattle.station.proofs.recordarrays.Records.{rows-more}
 use Rattle.station.specs.Arrays.{recordsIn}
-use Rattle.station.specs.RecordsRows.{rowsUpto, putRow}
+use Rattle.station.specs.inner.Rows.{rowsUpto, putRow}
 use Rattle.station.specs.declared.records.Rows.{Rows}
 use borrow.Author.Needs.{needs}
 use lib.ListN.{length}

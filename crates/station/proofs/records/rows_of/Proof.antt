@@ -48,7 +48,7 @@ use denote.Triple.Table.{entered, cited}
 use denote.Triple.Walked.{says, Stays, stay-none-slice, walkOf, Walks, ends-at, walked, goes-none-slice, walk-meets}
 use Rattle.station.specs.declared.records.Record.{Record}
 use Rattle.station.specs.declared.records.Rows.{Rows}
-use Rattle.station.specs.RecordsRows.{blank, lentAt, putRow, putLent, noRows, rowsUpto}
+use Rattle.station.specs.inner.Rows.{blank, lentAt, putRow, putLent, noRows, rowsUpto}
 use Rattle.station.proofs.records.Record as T
 use Rattle.station.proofs.records.Record.Laws as T′
 use Rattle.station.proofs.records.Rows as R

@@ -13,8 +13,8 @@ use mir.ValLaws.{toZ-ofZ}
 use Rattle.columns.specs.Lines.{linesOf}
 use Rattle.columns.specs.Names.{namesFrom}
 use Rattle.station.specs.declared.records.Rows.{Rows}
-use Rattle.station.specs.RecordsRows.{recordsFrom}
-use Rattle.station.specs.RecordsRows.{recordsOf}
+use Rattle.station.specs.Records.{recordsFrom}
+use Rattle.station.specs.Records.{recordsOf}
 use Rattle.station_file.specs.Station.{recordsOn}
 use Rattle.station_file.proofs.stationfile.Records.{record-room, records-here, records-end, records-put}
 

@@ -3,7 +3,7 @@ use borrow.Author.Needs.{needs}
 use Rattle.station_file.proofs.stationfile.refused.Statement.{statement}
 use Rattle.station_file.proofs.stationfile.refused.Tie as tie
 use native.Mathlib.Omega.{arith}
-use Rattle.station.specs.RecordsRows.{recordsFrom}
+use Rattle.station.specs.Records.{recordsFrom}
 
 named-requires : tie.Need-named-requires
 named-requires c κs = search needs

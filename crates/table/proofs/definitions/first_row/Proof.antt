@@ -4,7 +4,7 @@ use Prim.Native.Nat.{_-_}
 use native.Mathlib.Nat.{sub-zero}
 use native.Mathlib.Omega.{arith}
 use borrow.Author.Tests.{eq-eqb, ne-eqb}
-use Rattle.table.specs.DefinitionsView.{firstRow, placeIn}
+use Rattle.table.specs.inner.Found.{firstRow, placeIn}
 use Rattle.table.proofs.definitions.Search.{first-more, first-none}
 use borrow.Author.Needs.{needs}
 use Rattle.table.proofs.definitions.first_row.Statement.{statement}

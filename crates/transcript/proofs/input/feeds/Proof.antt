@@ -3,7 +3,7 @@ use mathlib.Core.Path.{_≡_}
 use Prim.Native.Nat.{_+_, _-_, _≤_}
 use native.Mathlib.Omega.{arith}
 use borrow.Author.Needs.{needs}
-use Rattle.transcript.specs.Window.{feedsFrom}
+use Rattle.transcript.specs.inner.Window.{feedsFrom}
 use Rattle.transcript.proofs.input.Counting.{feeds-more, feeds-none}
 use Rattle.transcript.proofs.input.feeds.Statement.{statement}
 use Rattle.transcript.proofs.input.feeds.Tie as tie

@@ -2,7 +2,7 @@
 use mathlib.Core.Path.{_≡_}
 use lib.ListN.{length}
 use borrow.Author.Needs.{needs}
-use Rattle.transcript.specs.Window.{Within}
+use Rattle.transcript.specs.inner.Window.{Within}
 use Rattle.transcript.proofs.input.gather.Statement.{statement}
 use Rattle.transcript.proofs.input.gather.Tie as tie
 

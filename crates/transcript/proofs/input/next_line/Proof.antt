@@ -3,7 +3,7 @@ use Prim.Native.Nat.{_≤_}
 use mathlib.Core.Path.{_≡_}
 use lib.ListN.{length}
 use borrow.Author.Needs.{needs}
-use Rattle.transcript.specs.Window.{Within}
+use Rattle.transcript.specs.inner.Window.{Within}
 use Rattle.transcript.proofs.input.next_line.Statement.{statement}
 use Rattle.transcript.proofs.input.next_line.Tie as tie
 

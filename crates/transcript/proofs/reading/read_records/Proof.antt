@@ -3,7 +3,7 @@ use mathlib.Core.Path.{_≡_}
 use Prim.Native.Nat.{_-_}
 use lib.ListN.{length}
 use borrow.Author.Needs.{needs}
-use Rattle.transcript.specs.Window.{Within}
+use Rattle.transcript.specs.inner.Window.{Within}
 use Rattle.transcript.proofs.reading.read_records.Statement.{statement}
 use Rattle.transcript.proofs.reading.read_records.Tie as tie
 

@@ -14,7 +14,7 @@ use Rattle.turns.proofs.bisection.+bisect.Tie.{close}
 use borrow.Author.Needs.{needs}
 use native.Mathlib.Omega.{arith}
 use mathlib.Core.Path.{_∙_, ap}
-use Rattle.turns.specs.Slope.{slopeOf}
+use Rattle.turns.specs.inner.Lists.{slopeOf}
 use Rattle.turns.proofs.bisection.Halves.{kept, kept-result, sense-of, one-minute, early-half, late-half}
 
 abbrev μ-bisect : Measures 1 bisect-kinds.ps ℕ

@@ -7,8 +7,8 @@ use native.Mathlib.Omega.{arith}
 use lib.ListN.{length}
 use mir.Syntax.{w64}
 use mir.Val.{SFits}
-use Rattle.turns.specs.Slope.{slopeOf}
-use Rattle.turns.specs.SearchPosts.{onwards}
+use Rattle.turns.specs.inner.Lists.{slopeOf}
+use Rattle.turns.specs.inner.Search.{onwards}
 use Rattle.turns.proofs.bisection.Halves.{kept, kept-result}
 use Rattle.turns.proofs.search.Kept.{Left, left-first, left-room, left-fewer, left-more, left-none}
 

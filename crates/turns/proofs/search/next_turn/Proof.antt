@@ -10,7 +10,7 @@ use mir.Syntax.{w64}
 use mir.Val.{SFits, toZ}
 use mir.ValLaws.{toZ-ofZ}
 use Rattle.turns.specs.Sense.{rising}
-use Rattle.turns.specs.Slope.{slopeOf}
+use Rattle.turns.specs.inner.Lists.{slopeOf}
 use Rattle.turns.specs.Search.{turnsOf}
 use Rattle.turns.proofs.bisection.Halves.{kept, kept-result, sense-of}
 use Rattle.turns.proofs.search.Onward.{stride-passed, end-reached, turn-found}

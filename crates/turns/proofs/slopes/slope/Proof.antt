@@ -13,7 +13,7 @@ use mir.Syntax.{w32, w64}
 use mir.Val.{SFits, toZ}
 use mir.ValLaws.{toZ-ofZ}
 use Rattle.angles.proofs.Known.{plainly, fits, kept, says, negated}
-use Rattle.month_prepared.specs.View.{constituentsAfter, constituentsFrom}
+use Rattle.month_prepared.specs.inner.View.{constituentsAfter, constituentsFrom}
 use Rattle.turns.specs.Slope.{fall, fallsAt, slopeAt}
 use Rattle.turns.proofs.slopes.Falls.{most, one-term-more, falls-more, falls-none}
 

@@ -8,8 +8,8 @@ use mathlib.Core.Path.{_≡_, refl, sym, _∙_}
 use Prim.Native.Nat.{_-_, _≤_, min}
 use lib.ListN.{getD}
 use borrow.Author.Tests.{eq-eqb, ne-eqb}
-use Rattle.station.specs.RecordsRows.{recordsFrom}
-use Rattle.station.specs.Rows.{stationOf}
+use Rattle.station.specs.Records.{recordsFrom}
+use Rattle.station.specs.inner.Station.{stationOf}
 use Rattle.turns.specs.Strides.{amplitudeAt}
 use Rattle.turns.proofs.strides.Amplitudes.{amplitude-more, amplitude-none}
 

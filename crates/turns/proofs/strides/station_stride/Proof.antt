@@ -6,8 +6,8 @@ use Rattle.turns.specs.Strides.{stationStride}
 use mathlib.Core.Path.{_≡_, _∙_}
 use mathlib.Core.List.{[], _∷_}
 use Rattle.columns.specs.Columns.{padded}
-use Rattle.table.specs.View.{tableOf}
-use Rattle.station.specs.Rows.{stationOf}
+use Rattle.table.specs.inner.View.{tableOf}
+use Rattle.station.specs.inner.Station.{stationOf}
 use Rattle.turns.specs.Strides.{amplitudeOf}
 
 slice-aggregate-amplitude-of : tie.Need-slice-aggregate-amplitude-of

@@ -1,0 +1,68 @@
+-- Only inner contracts cite this: what the steps of the calls make of the code's struct.
+-- Assumes nothing.
+use Prim.Native.Nat.{ℕ, min}
+use mathlib.Core.Bool.{true, false}
+use Rattle.table.specs.declared.Table.{Table}
+use Rattle.station.specs.declared.Station.{Station}
+use Rattle.month_prepared.specs.declared.Month.{Month}
+use Rattle.refusals.specs.declared.Answer.the-variants.{Accepted}
+use Rattle.clock.specs.declared.Clock.{Clock}
+use Rattle.clock.specs.declared.After.{After}
+
+-- what an accepted call leaves
+abbrev pub accepts : Clock → After
+accepts c = record { answer = Accepted; clock = c }
+
+abbrev pub withTable : Clock → Table → Clock
+withTable c t =
+    record {
+      cosines = c .cosines;
+      tabled = true;
+      table = t;
+      stationed = false;
+      station = c .station;
+      dated = false;
+      last = c .last;
+      count = c .count;
+      arguments = c .arguments;
+      lags = c .lags;
+      frequencies = c .frequencies;
+      ps = c .ps;
+      qs = c .qs;
+    }
+
+abbrev pub withStation : Clock → Station → Clock
+withStation c s =
+    record {
+      cosines = c .cosines;
+      tabled = c .tabled;
+      table = c .table;
+      stationed = true;
+      station = s;
+      dated = false;
+      last = c .last;
+      count = c .count;
+      arguments = c .arguments;
+      lags = c .lags;
+      frequencies = c .frequencies;
+      ps = c .ps;
+      qs = c .qs;
+    }
+
+abbrev pub withMonth : Clock → ℕ → Month → Clock
+withMonth c last m =
+    record {
+      cosines = c .cosines;
+      tabled = c .tabled;
+      table = c .table;
+      stationed = c .stationed;
+      station = c .station;
+      dated = true;
+      last = last;
+      count = min (m .count) 146;
+      arguments = m .arguments;
+      lags = m .lags;
+      frequencies = m .frequencies;
+      ps = m .ps;
+      qs = m .qs;
+    }

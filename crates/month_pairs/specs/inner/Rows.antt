@@ -1,0 +1,30 @@
+-- Only inner contracts cite this: the pairs of the mains' sums, and of rows of the code's table.
+-- Assumes nothing.
+use Prim.Native.Nat.{ℕ}
+use mathlib.Core.List.{List}
+use lib.IntN.{ℤ, pos}
+use lib.ListN.{getD}
+use Rattle.table.specs.Table.{Satellite}
+use Rattle.table.specs.inner.View.{listed, naturals, satelliteOf}
+use Rattle.month_satellites.specs.Latitude.{Factors}
+use Rattle.month_satellites.specs.Satellites.{Pair, mainPair}
+use Rattle.month_pairs.specs.Pairs.{Corrected, checked}
+
+-- the sums X, Y of main k
+abbrev pub sumAt : List ℤ → List ℤ → ℕ → Pair
+sumAt xs ys k = record { x = getD xs k (pos 0); y = getD ys k (pos 0) }
+
+-- the pairs of 64 mains, by refusal 11
+abbrev pub pairsOf : List ℤ → List ℤ → List Corrected
+pairsOf xs ys = listed (λ k. checked (sumAt xs ys k)) 0 64
+
+-- the satellites of the main in row k: a row of its place, its first satellite and their count
+unfoldable pub rowSatellites : List ℕ → List ℤ → List ℕ → ℕ → List Satellite
+rowSatellites cards angles ratios k = listed (satelliteOf angles ratios) (getD (naturals 3 cards k) 1 0) (getD (naturals 3 cards k) 2 0)
+
+-- the sums of the main in row k, and its pair by refusal 11
+abbrev pub rowSum : Factors → List ℕ → List ℕ → List ℤ → List ℕ → ℕ → Pair
+rowSum g longitudes cards angles ratios k = mainPair g longitudes (rowSatellites cards angles ratios k)
+
+unfoldable pub rowCorrected : Factors → List ℕ → List ℕ → List ℤ → List ℕ → ℕ → Corrected
+rowCorrected g longitudes cards angles ratios k = checked (rowSum g longitudes cards angles ratios k)

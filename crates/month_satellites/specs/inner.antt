@@ -1,0 +1,4 @@
+-- What ties the code to the definitions beside this folder. Only inner contracts cite it.
+pub mod Factors
+pub mod Ranges
+pub mod View

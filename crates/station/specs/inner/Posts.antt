@@ -1,0 +1,21 @@
+-- Only inner contracts cite this: what the station's functions promise.
+-- Assumes nothing.
+use Prim.Native.Nat.{ℕ}
+use mathlib.Core.List.{[]}
+use mathlib.Core.Path.{_≡_}
+use lib.IntN.{ℤ}
+use Rattle.refusals.specs.Outcome.{accepted, outcomeOf}
+use Rattle.station.specs.declared.records.Rows.{Rows}
+use Rattle.station.specs.Records.{recordsOf}
+use Rattle.station.specs.declared.Station as code
+use Rattle.station.specs.declared.Taken.{Taken}
+use Rattle.station.specs.Station.{recordsOutcome, stationOutcome}
+use Rattle.station.specs.inner.Station.{stationOf, stationUpto}
+
+pub record RecordsPost (frequencies : ℕ) (empty : code.Station) (n : ℕ) (rows : Rows) (r : Taken) : Type 0 where
+  pub says : outcomeOf (r .answer) ≡ recordsOutcome frequencies [] 1 (recordsOf rows n)
+  pub keeps : outcomeOf (r .answer) ≡ accepted → r .station ≡ stationUpto empty rows n
+
+pub record StationPost (frequencies : ℕ) (latitude : ℤ) (n : ℕ) (rows : Rows) (r : Taken) : Type 0 where
+  pub says : outcomeOf (r .answer) ≡ stationOutcome frequencies latitude (recordsOf rows n)
+  pub keeps : outcomeOf (r .answer) ≡ accepted → stationOf (r .station) ≡ record { latitude = latitude; records = recordsOf rows n }

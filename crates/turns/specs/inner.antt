@@ -1,0 +1,5 @@
+-- What ties the code to the definitions beside this folder. Only inner contracts cite it.
+pub mod Bisection
+pub mod Search
+pub mod Lists
+pub mod Answers
