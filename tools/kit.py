@@ -24,6 +24,12 @@ def crates():
     return listed
 
 
+def documents():
+    """The documents of this repository."""
+    folders = (".", "docs", "docs/landings", "bench", "bindings", "data", "second")
+    return [path for folder in folders for path in sorted((ROOT / folder).glob("*.md"))]
+
+
 def check(name, folder):
     """The words of a check of crate `name` whose src/, specs/ and proofs/ stand in a folder, over the built crates below it."""
     kit, logic = home() / "on" / os.uname().machine, home() / "logic" / "antt-project.json"
