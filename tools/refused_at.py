@@ -1,8 +1,8 @@
 #!/usr/bin/env python3
 """Where the prover refused each wrong answer of the gate: reads what `rt ci` or `rt must-fail` left in target/must-fail.
 
-    tools/refused_at.py           a line for each wrong answer, then a count; fails where one was refused at no fact
-    tools/refused_at.py --facts   only the count, and those that were refused at no fact
+    tools/refused_at.py           a line for each wrong answer, then a count; fails where one was not refused first at a fact
+    tools/refused_at.py --facts   only the count, and those that were not refused first at a fact
 
 A fact is what a function's contract or a loop promises, or a law that a proof cites. A missing need (a call's `requires`, a number that may not fit) or an error that
 only follows from another is none.
@@ -47,24 +47,21 @@ def refusals(folder, log):
             yield of_note(note)
 
 
-def place(said):
-    """The first fact at which it was refused; else the first thing said."""
-    facts = [one for one in said if one[0] == "fact"]
-    return (facts or said or [("nothing", "-", "-", "-")])[0]
+def first(said):
+    """The first thing that the prover said of it."""
+    return (said or [("nothing", "-", "-", "-")])[0]
 
 
 def main():
     edits = [(crate, edit.stem) for crate in kit.crates() for edit in sorted((kit.ROOT / "crates" / crate / "must-fail").glob("*.edit"))]
-    at_facts = needs_first = 0
+    at_facts = 0
     for crate, label in edits:
         folder = kit.ROOT / "target/must-fail" / crate / label
-        said = list(refusals(folder, (folder / ".log").read_text(errors="replace")))
-        kind, name, line, declared = place(said)
+        kind, name, line, declared = first(list(refusals(folder, (folder / ".log").read_text(errors="replace"))))
         at_facts += kind == "fact"
-        needs_first += bool(said) and said[0][0] == "need"
         if kind != "fact" or "--facts" not in sys.argv:
             print(f"{crate}/{label}: {kind} at {name}:{line}, {declared}")
-    print(f"{at_facts} of {len(edits)} wrong answers break a fact; in {needs_first} of them a missing need is said before it")
+    print(f"{at_facts} of {len(edits)} wrong answers are refused first at a fact")
     sys.exit(at_facts != len(edits))
 
 

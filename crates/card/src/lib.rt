@@ -1,4 +1,4 @@
-// One card of the card file: its columns, what earns it a refusal, and its number fields, narrowed to the types that the table keeps.
+// One card of the card file: its number fields, narrowed to the types that the table keeps, how it opens, and the places of its names.
 ghost use mathlib.Core.Path.{_≡_};
 ghost use Prim.Native.Nat.{_+_, _*_, _^_, _≤_, _<_};
 ghost use lib.ListN.{length, take};
@@ -8,8 +8,8 @@ ghost use Rattle.card.specs.Formats.{field, within};
 ghost use Rattle.card.specs.Card.{number, numbers};
 ghost use Rattle.card.specs.inner.Answers.{smallGives, naturalGives, NaturalWithin, faultGives};
 
-pub mod lines; // Walking down the lines of the file, and how a card begins that may end its part
-pub mod places; // The places of constituents
+pub mod lines; // walking down the lines
+pub mod places; // the places of constituents
 
 // 01's refusals of a card file, in the order of its table.
 pub enum Refusal {

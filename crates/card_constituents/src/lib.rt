@@ -1,3 +1,3 @@
-// card_constituents: say here in a sentence what the crate is for.
-pub mod rows; // Part 3 of the card file
-pub mod constituents; // Part 3 of the card file
+// Part 3 of the card file: a constituent card leads to its satellite cards, and the last of these to the next constituent card.
+pub mod rows; // both cards, read into the table's rows
+pub mod constituents; // the two readers, which call each other

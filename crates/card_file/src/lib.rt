@@ -1,4 +1,4 @@
-// card_file: say here in a sentence what the crate is for.
-mod cards; // The whole card file's definition, and its last check
-pub mod cardfile; // The whole card file
-pub mod cardcounts; // What a card file comes to
+// The whole card file: its four parts in order, then that every frequency is defined; accepted whole, or refused with a number and a line.
+mod cards; // the last check: every frequency has its definition
+pub mod cardfile; // the reader
+pub mod cardcounts; // how many of each an accepted file has

@@ -1,3 +1,3 @@
-// card_frequencies: say here in a sentence what the crate is for.
-pub mod frequencies; // Part 1 of the card file
-pub mod longitudes; // Part 2 of the card file
+// Parts 1 and 2 of the card file: the frequencies with their names, and the two longitude cards.
+pub mod frequencies; // part 1
+pub mod longitudes; // part 2

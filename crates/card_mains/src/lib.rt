@@ -1,4 +1,4 @@
-// card_mains: say here in a sentence what the crate is for.
-pub mod mains; // Part 3 of the card file
-mod satellitefields; // Part 3 of the card file
-pub mod satellitecard; // Part 3 of the card file
+// The cards of part 3, each by itself: a constituent card, and a card of up to three satellites.
+pub mod mains; // a constituent card
+mod satellitefields; // one satellite's fields
+pub mod satellitecard; // a satellite card

@@ -1,5 +1,5 @@
-// card_shallows: say here in a sentence what the crate is for.
-mod coefficients; // The coefficients of a shallow-water card
-mod parts; // The parts of a shallow-water card
-mod shallowcard; // A shallow-water card
-pub mod shallows; // Part 4 of the card file
+// Part 4 of the card file: the shallow-water constituents, each of one to four parts.
+mod coefficients; // a coefficient
+mod parts; // a card's parts
+mod shallowcard; // a card
+pub mod shallows; // the reader

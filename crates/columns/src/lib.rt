@@ -1,4 +1,4 @@
-// The lines of a card file, and the columns of a line.
+// The lines of a card file, the columns of a line, padded with blanks, and names as parts of a lent line.
 ghost use mathlib.Core.Path.{_≡_};
 ghost use Prim.Native.Nat.{_+_, _-_, _<_};
 ghost use lib.ListN.{length, take, drop};
@@ -7,7 +7,7 @@ ghost use Rattle.columns.specs.Lines.{firstLine, restLines, lineGood, bl
 ghost use Rattle.columns.specs.Columns as columns;
 ghost use Rattle.columns.specs.Columns.{columns};
 
-pub mod names; // Names
+pub mod names; // names of five columns
 
 // How many bytes stand in front of the first LF.
 fn line_length(file: &[u8]) -> usize

@@ -6,7 +6,7 @@ ghost use Rattle.fields.specs.Number as number;
 ghost use Rattle.fields.specs.Number.{signed, numberOf, inRange};
 ghost use Rattle.fields.specs.inner.Kept.{keptOf};
 
-mod numerals; // The digits of a number field behind its sign
+mod numerals; // what stands behind the sign
 
 use crate::numerals::CAP;
 use crate::numerals::Size;

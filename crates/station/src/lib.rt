@@ -7,8 +7,8 @@ ghost use Rattle.station.specs.inner.Station.{placesBefore, noStation, p
 ghost use Rattle.station.specs.inner.Posts.{RecordsPost, StationPost};
 ghost use Rattle.station.specs.Records.{recordAt};
 
-pub mod records; // A station's records as they are lent, one for each constituent, taken apart into an array for each field
-pub mod recordarrays; // A station's records that lie in three arrays
+pub mod records; // the lent row of records, taken apart
+pub mod recordarrays; // records in three arrays
 
 use crate::records::Rows;
 use refusals::Answer;

@@ -1,4 +1,4 @@
-// The table that a card file gives, in flat arrays of rows. Types are so narrow that no sum over the table can overflow.
+// The table that a card file gives, in flat arrays of rows, and what stands at a place of it. Types are so narrow that no sum over the table can overflow.
 ghost use mathlib.Core.Path.{_≡_};
 ghost use Prim.Native.Nat.{_+_, _≤_};
 ghost use lib.ListN.{length, getD};
@@ -7,8 +7,8 @@ ghost use lib.IntN.{pos};
 ghost use Rattle.table.specs.Table.{noCards};
 ghost use Rattle.table.specs.inner.View.{tableOf};
 
-pub mod entries; // A number of a row of the table's arrays, by its column
-pub mod definitions; // What stands at a place of the table
+pub mod entries; // a number of a row
+pub mod definitions; // what stands at a place
 
 // 01's table; `specs/View.antt` says what each row holds.
 pub struct Table {

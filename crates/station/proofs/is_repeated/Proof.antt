@@ -1,3 +1,4 @@
+-- A place among those before it: the loop goes down from the last record, and what is left answers for the whole.
 use Rattle.station.proofs.is_repeated.Statement.{statement}
 use Rattle.station.proofs.is_repeated.Tie as tie
 use Rattle.station.proofs.is_repeated.Reads as reads
@@ -17,31 +18,24 @@ Inv-loop places k place left₀ left = (left ≤ k) × (repeated place (placesBe
 abbrev μ-loop : tie.MeasureT-loop
 μ-loop places k place left₀ left = left
 
--- src/lib.rt:61:5
 loop-holds : tie.Need-loop-holds Inv-loop μ-loop
 loop-holds c = (omega arith, refl)
 
--- src/lib.rt:62:9
 sub-left : tie.Need-sub-left Inv-loop μ-loop
 sub-left c = search needs
 
--- src/lib.rt:63:12
 element-copy-out-if1 : tie.Need-element-copy-out-if1 Inv-loop μ-loop
 element-copy-out-if1 c = search needs
 
--- src/lib.rt:64:13
 returns : tie.Need-returns Inv-loop μ-loop
 returns c = let s = c .before .before .before in let a = s .before .args in rw (repeated-more (a .place) (a .places .now) (s .loop .left) (c .before .before .loop-test .taken), eq-eqb _ _ (c .if1 .taken)) at (s .loop .inv .1)
 
--- src/lib.rt:61:5
 loop-less : tie.Need-loop-less Inv-loop μ-loop
 loop-less c = search needs
 
--- src/lib.rt:61:5
 loop-again : tie.Need-loop-again Inv-loop μ-loop
 loop-again c = let s = c .before .before .before in let a = s .before .args in (omega arith, rw (repeated-more (a .place) (a .places .now) (s .loop .left) (c .before .before .loop-test .taken), ne-eqb _ _ (c .if1 .left)) at (s .loop .inv .1))
 
--- src/lib.rt:56:1
 returns-2 : tie.Need-returns-2 Inv-loop μ-loop
 returns-2 c = cc (repeated-none (c .before .before .args .place) (c .before .before .args .places .now) (c .before .loop .left) (c .loop-test .left))
 

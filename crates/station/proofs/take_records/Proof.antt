@@ -1,3 +1,4 @@
+-- All records: the loop keeps that those passed were accepted and the station that they make; the first refusal is the answer.
 use Rattle.station.proofs.take_records.Statement.{statement}
 use Rattle.station.proofs.take_records.Tie as tie
 use Rattle.station.proofs.take_records.Reads as reads
@@ -29,60 +30,46 @@ Inv-loop frequencies n rows station₀ k₀ station k = (recordsOutcome frequenc
 abbrev μ-loop : tie.MeasureT-loop
 μ-loop frequencies n rows station₀ k₀ station k = n - k
 
--- src/lib.rt:149:5
 loop-holds : tie.Need-loop-holds Inv-loop μ-loop
 unfolding recordsFrom stationUpto placesBefore
 loop-holds c = (simp sub-zero, refl, omega arith)
 
--- src/lib.rt:150:13
 record-answer-requires : tie.Need-record-answer-requires Inv-loop μ-loop
 record-answer-requires c κs = search needs
 
--- src/lib.rt:153:29
 enum-told : tie.Need-enum-told Inv-loop μ-loop
 enum-told c = search needs
 
--- src/lib.rt:153:29
 element-copy-out-place : tie.Need-element-copy-out-place Inv-loop μ-loop
 element-copy-out-place c = search needs
 
--- src/lib.rt:154:40
 mul-narrow : tie.Need-mul-narrow Inv-loop μ-loop
 mul-narrow c = search needs
 
--- src/lib.rt:154:40
 element-copy-out-narrow : tie.Need-element-copy-out-narrow Inv-loop μ-loop
 element-copy-out-narrow c = search needs
 
--- src/lib.rt:154:21
 narrow-requires : tie.Need-narrow-requires Inv-loop μ-loop
 narrow-requires c κs = search needs
 
--- src/lib.rt:155:36
 mul-narrow-2 : tie.Need-mul-narrow-2 Inv-loop μ-loop
 mul-narrow-2 c = search needs
 
--- src/lib.rt:155:36
 element-copy-out-narrow-2 : tie.Need-element-copy-out-narrow-2 Inv-loop μ-loop
 element-copy-out-narrow-2 c = search needs
 
--- src/lib.rt:155:21
 narrow-requires-2 : tie.Need-narrow-requires-2 Inv-loop μ-loop
 narrow-requires-2 c κs = search needs
 
--- src/lib.rt:156:17
 with-record-requires : tie.Need-with-record-requires Inv-loop μ-loop
 with-record-requires c κs = search needs
 
--- src/lib.rt:157:17
 add-k : tie.Need-add-k Inv-loop μ-loop
 add-k c = search needs
 
--- src/lib.rt:149:5
 loop-less : tie.Need-loop-less Inv-loop μ-loop
 loop-less c = search needs
 
--- src/lib.rt:149:5
 loop-again : tie.Need-loop-again Inv-loop μ-loop
 loop-again c =
     let s = c .before .before .before .before .before .before .before .before .before .before in
@@ -95,11 +82,9 @@ loop-again c =
       omega arith,
     )
 
--- src/lib.rt:160:17
 enum-told-2 : tie.Need-enum-told-2 Inv-loop μ-loop
 enum-told-2 c = search needs
 
--- src/lib.rt:160:17
 returns : tie.Need-returns Inv-loop μ-loop
 returns c =
     let s = c .before .before .before .before in
@@ -110,7 +95,6 @@ returns c =
       keeps = not-accepted _ (g .0 .0) (g .0 .1 .0) (g .1);
     }
 
--- src/lib.rt:143:1
 returns-2 : tie.Need-returns-2 Inv-loop μ-loop
 returns-2 c =
     let s = c .before in

@@ -1,3 +1,4 @@
+-- A whole station: latitude, count, then the records, in the order of `stationOutcome`.
 use borrow.Author.Needs.{needs}
 use Rattle.station.proofs.take_station.Statement.{statement}
 use Rattle.station.proofs.take_station.Tie as tie
@@ -22,11 +23,9 @@ use mathlib.Core.Path.{refl}
 use mir.Syntax.{w32}
 use mir.ValLaws.{toZ-ofZ}
 
--- src/lib.rt:174:9
 no-station-requires : tie.Need-no-station-requires
 no-station-requires c κs = search needs
 
--- src/lib.rt:176:9
 returns : tie.Need-returns
 unfolding stationOutcome
 returns c =
@@ -34,7 +33,6 @@ returns c =
     let low : ltZ (a .args .latitude) (negsuc 5399) ≡ true = rw (toZ-ofZ w32 (a .args .latitude) (a .fits .latitude)) at (c .if1 .taken) in
     record { says = simp low; keeps = not-accepted _ OutOfRange 0 refl }
 
--- src/lib.rt:182:9
 returns-2 : tie.Need-returns-2
 unfolding stationOutcome
 returns-2 c =
@@ -43,7 +41,6 @@ returns-2 c =
     let high : ltZ (pos 5400) (a .args .latitude) ≡ true = rw (toZ-ofZ w32 (a .args .latitude) (a .fits .latitude)) at (c .if2 .taken) in
     record { says = simp (low, high); keeps = not-accepted _ OutOfRange 0 refl }
 
--- src/lib.rt:188:9
 returns-3 : tie.Need-returns-3
 unfolding stationOutcome
 returns-3 c =
@@ -53,11 +50,9 @@ returns-3 c =
     let long : ltb 146 (length (recordsOf (a .args .rows) (a .args .n))) ≡ true = rw (records-length (a .args .rows .places) (a .args .rows .amplitudes) (a .args .rows .phases) 0 (a .args .n)) (lt-ltb _ _ (c .if3 .taken)) in
     record { says = simp (low, high, long); keeps = not-accepted _ TooMany 147 refl }
 
--- src/lib.rt:193:5
 take-records-requires : tie.Need-take-records-requires
 take-records-requires c κs = search needs
 
--- src/lib.rt:171:1
 returns-4 : tie.Need-returns-4
 unfolding stationOutcome
 returns-4 c =

@@ -1,3 +1,4 @@
+-- What a card file counts equals `countsOf` of what reading it comes to: one case for an accepted file and one for a refused one, each a law of Counted.
 use Rattle.card_file.proofs.cardcounts.Counted.{counts-accepted, counts-refused}
 use borrow.Author.Needs.{needs}
 use Rattle.card_file.proofs.cardcounts.check_cards.Statement.{statement}
@@ -8,31 +9,24 @@ use Rattle.card_file.proofs.cardfile.read_cards.Reads as read-cards-rea
 use Rattle.card_file.proofs.cardcounts.satellites_of.Reads as satellites-of-reads
 use Rattle.refusals.proofs.number_of.Reads as number-of-reads
 
--- src/lib.rt:207:9
 read-cards-requires : tie.Need-read-cards-requires
 read-cards-requires c κs = search needs
 
--- src/lib.rt:216:25
 enum-told : tie.Need-enum-told
 enum-told c = search needs
 
--- src/lib.rt:216:25
 satellites-of-requires : tie.Need-satellites-of-requires
 satellites-of-requires c κs = search needs
 
--- src/lib.rt:219:25
 enum-known-answer : tie.Need-enum-known-answer
 enum-known-answer c = search needs
 
--- src/lib.rt:220:21
 number-of-requires : tie.Need-number-of-requires
 number-of-requires c κs = search needs
 
--- src/lib.rt:203:1
 returns : tie.Need-returns
 returns c = counts-accepted (c .before .before .before .before .before .before .args .file .now) (c .before .before .before .before .read-cards .result) (c .before .before .before .before .read-cards .ensures) _ (c .before .enum-told .given .1) (c .satellites-of .ensures)
 
--- src/lib.rt:203:1
 returns-2 : tie.Need-returns-2
 returns-2 c = counts-refused (c .before .before .before .before .before .before .before .args .file .now) (c .before .before .before .before .before .read-cards .result) (c .before .before .before .before .before .read-cards .ensures) _ (c .before .before .answer .given .0 .0) (c .before .before .answer .given .0 .1 .0) (c .before .before .answer .given .1) (c .number-of .ensures)
 

@@ -1,3 +1,4 @@
+-- The satellites of all mains: the loop keeps the sum over the rows passed, which is `satellitesIn` of their mains.
 use Rattle.card_file.proofs.cardcounts.Counting.{satellitesFrom, satellites-next, satellites-least, satellites-all}
 use Rattle.card_file.specs.Satellites.{satellitesIn}
 use Rattle.table.specs.inner.View.{tableOf}
@@ -18,54 +19,42 @@ Inv-loop table most total₀ k₀ total k = (total + satellitesFrom table k ≡ 
 abbrev μ-loop : tie.MeasureT-loop
 μ-loop table most total₀ k₀ total k = most - k
 
--- src/lib.rt:194:9
 shorter-requires : tie.Need-shorter-requires Inv-loop μ-loop
 shorter-requires c κs = search needs
 
--- src/lib.rt:197:5
 loop-holds : tie.Need-loop-holds Inv-loop μ-loop
 loop-holds c = (omega (arith, satellites-all (c .before .args .t1)), omega arith, omega arith, c .shorter .ensures)
 
--- src/lib.rt:198:39
 mul-wide : tie.Need-mul-wide Inv-loop μ-loop
 mul-wide c = omega arith
 
--- src/lib.rt:198:39
 add-wide : tie.Need-add-wide Inv-loop μ-loop
 add-wide c = omega arith
 
--- src/lib.rt:198:23
 mul-wide-2 : tie.Need-mul-wide-2 Inv-loop μ-loop
 mul-wide-2 c = omega arith
 
--- src/lib.rt:198:23
 element-copy-out-wide : tie.Need-element-copy-out-wide Inv-loop μ-loop
 element-copy-out-wide c = omega arith
 
--- src/lib.rt:198:18
 wide-requires : tie.Need-wide-requires Inv-loop μ-loop
 wide-requires c κs = search needs
 
--- src/lib.rt:198:9
 add-total : tie.Need-add-total Inv-loop μ-loop
 add-total c = omega arith
 
--- src/lib.rt:199:9
 add-k : tie.Need-add-k Inv-loop μ-loop
 add-k c = omega arith
 
--- src/lib.rt:197:5
 loop-less : tie.Need-loop-less Inv-loop μ-loop
 loop-less c = omega arith
 
--- src/lib.rt:197:5
 loop-again : tie.Need-loop-again Inv-loop μ-loop
 loop-again c =
     let s = c .before .before .before in
     let t = c .before .before .before .before .before .args .t1 in
     (omega (arith, s .loop .inv .0, satellites-next t (s .loop .k) (omega arith), c .wide .ensures .0), omega arith, omega arith, s .loop .inv .3)
 
--- src/lib.rt:191:1
 returns : tie.Need-returns Inv-loop μ-loop
 returns c =
     let t = c .before .before .before .args .t1 in

@@ -1,3 +1,4 @@
+-- From the second longitude card on: the card read, then the rest (`increasesAnd`), by the laws of a part that is refused or reached.
 use borrow.Author.Needs.{needs}
 use Rattle.card_file.proofs.cardfile.increases_and.Statement.{statement}
 use Rattle.card_file.proofs.cardfile.increases_and.Tie as tie
@@ -13,23 +14,18 @@ use Rattle.card_file.proofs.cardfile.Followed.{part-refused, part-reach
 use Rattle.table.specs.inner.View.{tableOf}
 use Rattle.card_file.proofs.cardfile.Followed.{part-refused, part-reached, reached-within}
 
--- src/lib.rt:129:9
 read-five-requires : tie.Need-read-five-requires
 read-five-requires c κs = search needs
 
--- src/lib.rt:132:27
 enum-known-progress : tie.Need-enum-known-progress
 enum-known-progress c = search needs
 
--- src/lib.rt:132:39
 refused-requires : tie.Need-refused-requires
 refused-requires c κs = search needs
 
--- src/lib.rt:133:27
 enum-known-progress-2 : tie.Need-enum-known-progress-2
 enum-known-progress-2 c = search needs
 
--- src/lib.rt:137:13
 mains-and-requires : tie.Need-mains-and-requires
 mains-and-requires c κs =
     let s = c .before .before .before .before .before .before in
@@ -37,7 +33,6 @@ mains-and-requires c κs =
     let w = reached-within (s .args .file .now) (c .before .before .before .before .read-five .result .progress) (g .0 .0) (g .0 .1 .0) (c .before .before .before .before .read-five .ensures .1) (g .1) in
     (w .0, w .1, s .pre .2)
 
--- src/lib.rt:125:1
 returns : tie.Need-returns
 unfolding increasesAnd
 returns c =
@@ -45,7 +40,6 @@ returns c =
     let g = c .before .before .progress .given in
     c .refused .ensures ∙ sym (part-refused (s .args .file .now) (c .before .before .before .before .read-five .result .progress) (c .before .before .before .before .read-five .result .values) _ (c .before .before .before .before .read-five .ensures .0) _ (g .0 .0) (g .0 .1 .0) (g .1))
 
--- src/lib.rt:125:1
 returns-2 : tie.Need-returns-2
 unfolding increasesAnd tableOf
 returns-2 c =

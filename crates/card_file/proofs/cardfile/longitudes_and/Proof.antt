@@ -1,3 +1,4 @@
+-- From the first longitude card on: the card read, then the rest (`longitudesAnd`), by the laws of a part that is refused or reached.
 use borrow.Author.Needs.{needs}
 use Rattle.card_file.proofs.cardfile.longitudes_and.Statement.{statement}
 use Rattle.card_file.proofs.cardfile.longitudes_and.Tie as tie
@@ -11,23 +12,18 @@ use Rattle.table.specs.inner.View.{tableOf}
 use Rattle.card_file.specs.inner.Rest.{longitudesAnd}
 use Rattle.card_file.proofs.cardfile.Followed.{part-refused, part-reached, reached-within}
 
--- src/lib.rt:147:9
 read-five-requires : tie.Need-read-five-requires
 read-five-requires c κs = search needs
 
--- src/lib.rt:150:27
 enum-known-progress : tie.Need-enum-known-progress
 enum-known-progress c = search needs
 
--- src/lib.rt:150:39
 refused-requires : tie.Need-refused-requires
 refused-requires c κs = search needs
 
--- src/lib.rt:151:27
 enum-known-progress-2 : tie.Need-enum-known-progress-2
 enum-known-progress-2 c = search needs
 
--- src/lib.rt:155:13
 increases-and-requires : tie.Need-increases-and-requires
 increases-and-requires c κs =
     let s = c .before .before .before .before .before .before in
@@ -35,7 +31,6 @@ increases-and-requires c κs =
     let w = reached-within (s .args .file .now) (c .before .before .before .before .read-five .result .progress) (g .0 .0) (g .0 .1 .0) (c .before .before .before .before .read-five .ensures .1) (g .1) in
     (w .0, w .1, s .pre .2)
 
--- src/lib.rt:143:1
 returns : tie.Need-returns
 unfolding longitudesAnd
 returns c =
@@ -43,7 +38,6 @@ returns c =
     let g = c .before .before .progress .given in
     c .refused .ensures ∙ sym (part-refused (s .args .file .now) (c .before .before .before .before .read-five .result .progress) (c .before .before .before .before .read-five .result .values) _ (c .before .before .before .before .read-five .ensures .0) _ (g .0 .0) (g .0 .1 .0) (g .1))
 
--- src/lib.rt:143:1
 returns-2 : tie.Need-returns-2
 unfolding longitudesAnd tableOf
 returns-2 c =

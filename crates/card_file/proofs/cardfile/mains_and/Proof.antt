@@ -1,3 +1,4 @@
+-- From part 3 on: the mains read, then the rest (`mainsAnd`), by the laws of a part that is refused or reached.
 use borrow.Author.Needs.{needs}
 use Rattle.card_file.proofs.cardfile.mains_and.Statement.{statement}
 use Rattle.card_file.proofs.cardfile.mains_and.Tie as tie
@@ -16,27 +17,21 @@ use Rattle.card_file.specs.inner.Rest.{mainsAnd}
 use Rattle.card_file.proofs.cardfile.Followed.{part-refused, part-reached, reached-within}
 use Rattle.card_file.proofs.cardfile.Parts.{part-3}
 
--- src/lib.rt:99:9
 slice-aggregate-constituent-reader : tie.Need-slice-aggregate-constituent-reader
 slice-aggregate-constituent-reader c = search needs
 
--- src/lib.rt:95:9
 constituent-reader-requires : tie.Need-constituent-reader-requires
 constituent-reader-requires c κs = search needs
 
--- src/lib.rt:110:27
 enum-known-progress : tie.Need-enum-known-progress
 enum-known-progress c = search needs
 
--- src/lib.rt:110:39
 refused-requires : tie.Need-refused-requires
 refused-requires c κs = search needs
 
--- src/lib.rt:111:27
 enum-known-progress-2 : tie.Need-enum-known-progress-2
 enum-known-progress-2 c = search needs
 
--- src/lib.rt:119:13
 shallows-and-requires : tie.Need-shallows-and-requires
 shallows-and-requires c κs =
     let s = c .before .before .before .before .before .before .before .before .before .before .before in
@@ -44,7 +39,6 @@ shallows-and-requires c κs =
     let w = reached-within (s .args .file .now) (c .before .before .before .constituent-reader .result .progress) (g .0 .0) (g .0 .1 .0) (c .before .before .before .constituent-reader .ensures .1 .0) (g .1) in
     (w .0, w .1, s .pre .2, c .before .before .before .constituent-reader .ensures .1 .1)
 
--- src/lib.rt:86:1
 returns : tie.Need-returns
 unfolding mainsAnd listed
 returns c =
@@ -52,7 +46,6 @@ returns c =
     let g = c .before .before .progress .given in
     c .refused .ensures ∙ sym (part-refused (s .args .file .now) (c .before .before .before .before .constituent-reader .result .progress) _ _ (c .before .before .before .before .constituent-reader .ensures .0 ∙ part-3 (s .args .table) (linesOf (drop (s .args .at) (s .args .file .now))) (s .args .n)) _ (g .0 .0) (g .0 .1 .0) (g .1))
 
--- src/lib.rt:86:1
 returns-2 : tie.Need-returns-2
 unfolding mainsAnd tableOf listed
 returns-2 c =

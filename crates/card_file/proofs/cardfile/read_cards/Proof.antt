@@ -1,3 +1,4 @@
+-- The whole file: part 1 read into an empty table, then the rest; unfolded, that is `readCards`.
 use borrow.Author.Needs.{needs}
 use Rattle.card_file.proofs.cardfile.read_cards.Statement.{statement}
 use Rattle.card_file.proofs.cardfile.read_cards.Tie as tie
@@ -16,27 +17,21 @@ use Rattle.card_file.specs.Cards.{readCards, Outcome}
 use Rattle.card_file.specs.inner.Rest.{longitudesAnd, increasesAnd, mainsAnd, shallowsAnd}
 use Rattle.card_file.proofs.cardfile.Followed.{part-refused, part-reached, reached-within}
 
--- src/lib.rt:164:9
 read-frequencies-requires : tie.Need-read-frequencies-requires
 read-frequencies-requires c κs = search needs
 
--- src/lib.rt:167:27
 enum-known-progress : tie.Need-enum-known-progress
 enum-known-progress c = search needs
 
--- src/lib.rt:167:39
 refused-requires : tie.Need-refused-requires
 refused-requires c κs = search needs
 
--- src/lib.rt:168:27
 enum-known-progress-2 : tie.Need-enum-known-progress-2
 enum-known-progress-2 c = search needs
 
--- src/lib.rt:171:17
 no-cards-requires : tie.Need-no-cards-requires
 no-cards-requires c κs = search needs
 
--- src/lib.rt:175:13
 longitudes-and-requires : tie.Need-longitudes-and-requires
 longitudes-and-requires c κs =
     let s = c .before .before .before .before .before .before .before .before in
@@ -44,7 +39,6 @@ longitudes-and-requires c κs =
     let w = reached-within (s .args .file .now) (c .before .before .before .before .before .before .read-frequencies .result .progress) (g .0 .0) (g .0 .1 .0) (c .before .before .before .before .before .before .read-frequencies .ensures .1 .0) (g .1) in
     (w .0, w .1, c .before .before .before .before .before .before .read-frequencies .ensures .1 .1)
 
--- src/lib.rt:161:1
 returns : tie.Need-returns
 unfolding readCards
 returns c =
@@ -52,7 +46,6 @@ returns c =
     let g = c .before .before .progress .given in
     c .refused .ensures ∙ sym (part-refused (s .args .file .now) (c .before .before .before .before .read-frequencies .result .progress) _ _ (c .before .before .before .before .read-frequencies .ensures .0) _ (g .0 .0) (g .0 .1 .0) (g .1))
 
--- src/lib.rt:161:1
 returns-2 : tie.Need-returns-2
 unfolding readCards longitudesAnd increasesAnd mainsAnd shallowsAnd tableOf
 returns-2 c =

@@ -1,3 +1,4 @@
+-- From part 4 on: the shallow constituents read, then that every frequency is defined (`shallowsAnd`).
 use borrow.Author.Needs.{needs}
 use Rattle.card_file.proofs.cardfile.shallows_and.Statement.{statement}
 use Rattle.card_file.proofs.cardfile.shallows_and.Tie as tie
@@ -19,39 +20,30 @@ use Rattle.card_file.specs.inner.Rest.{shallowsAnd, withShallows}
 use Rattle.card_file.proofs.cardfile.Followed.{part-refused, part-reached}
 use Rattle.card_file.proofs.cardfile.Parts.{part-4, last-check}
 
--- src/lib.rt:62:9
 read-shallows-requires : tie.Need-read-shallows-requires
 read-shallows-requires c κs = search needs
 
--- src/lib.rt:65:27
 enum-known-progress : tie.Need-enum-known-progress
 enum-known-progress c = search needs
 
--- src/lib.rt:65:39
 refused-requires : tie.Need-refused-requires
 refused-requires c κs = search needs
 
--- src/lib.rt:67:17
 enum-told : tie.Need-enum-told
 enum-told c = search needs
 
--- src/lib.rt:69:17
 undefined-requires : tie.Need-undefined-requires
 undefined-requires c κs = search needs
 
--- src/lib.rt:76:29
 enum-told-2 : tie.Need-enum-told-2
 enum-told-2 c = search needs
 
--- src/lib.rt:79:30
 enum-known-defined : tie.Need-enum-known-defined
 enum-known-defined c = search needs
 
--- src/lib.rt:79:39
 refused-requires-2 : tie.Need-refused-requires-2
 refused-requires-2 c κs = search needs
 
--- src/lib.rt:56:1
 returns : tie.Need-returns
 unfolding shallowsAnd
 returns c =
@@ -59,7 +51,6 @@ returns c =
     let g = c .before .before .progress .given in
     c .refused .ensures ∙ sym (part-refused (s .args .file .now) (c .before .before .before .before .read-shallows .result .progress) _ _ (c .before .before .before .before .read-shallows .ensures .0 ∙ part-4 (s .args .table) (linesOf (drop (s .args .at) (s .args .file .now))) (s .args .n)) _ (g .0 .0) (g .0 .1 .0) (g .1))
 
--- src/lib.rt:56:1
 returns-2 : tie.Need-returns-2
 unfolding shallowsAnd tableOf
 returns-2 c =
@@ -71,7 +62,6 @@ returns-2 c =
     ∙ sym (last-check t (r .cards) (r .coefficients) (r .count) (c .before .before .undefined .result) (c .before .before .undefined .ensures))
     ∙ ap (λ (d : Defined). definedGives d (withShallows (tableOf t) (listed (shallowOf (r .cards) (r .coefficients)) 0 (r .count)))) (c .enum-told2 .given .1))
 
--- src/lib.rt:56:1
 returns-3 : tie.Need-returns-3
 unfolding shallowsAnd tableOf
 returns-3 c =

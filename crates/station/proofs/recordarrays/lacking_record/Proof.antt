@@ -1,3 +1,4 @@
+-- The first record that one of three arrays lacks: the least of their lengths, and one.
 use Rattle.station.proofs.recordarrays.Lengths.{lacking-fits}
 use borrow.Author.Needs.{needs}
 use Rattle.station.proofs.recordarrays.lacking_record.Statement.{statement}
@@ -6,19 +7,15 @@ use Rattle.station.proofs.recordarrays.lacking_record.Reads as reads
 use Rattle.station.proofs.recordarrays.lacking_record.Lts as lts
 use Rattle.station.proofs.recordarrays.shorter.Reads as shorter-reads
 
--- src/lib.rt:152:21
 shorter-requires : tie.Need-shorter-requires
 shorter-requires c κs = search needs
 
--- src/lib.rt:152:5
 shorter-requires-2 : tie.Need-shorter-requires-2
 shorter-requires-2 c κs = search needs
 
--- src/lib.rt:152:5
 add-result : tie.Need-add-result
 add-result c = let s = c .before .before in rw (c .shorter2 .ensures, c .before .shorter .ensures) (record { fits = lacking-fits _ (s .args .places) (s .args .amplitudes) (s .args .phases) (s .fits .places .fits) (s .fits .amplitudes .fits) (s .fits .phases .fits) (s .pre) })
 
--- src/lib.rt:148:1
 returns : tie.Need-returns
 returns c = search needs
 

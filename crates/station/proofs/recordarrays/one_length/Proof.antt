@@ -1,14 +1,13 @@
+-- Three arrays of one length: two tests of equality, as `oneLength` has them.
 use borrow.Author.Tests.{eq-eqb, ne-eqb}
 use Rattle.station.proofs.recordarrays.one_length.Statement.{statement}
 use Rattle.station.proofs.recordarrays.one_length.Tie as tie
 use Rattle.station.proofs.recordarrays.one_length.Reads as reads
 use Rattle.station.proofs.recordarrays.one_length.Lts as lts
 
--- src/lib.rt:135:1
 returns : tie.Need-returns
 returns c = simp (eq-eqb _ _ (c .if1 .taken))
 
--- src/lib.rt:135:1
 returns-2 : tie.Need-returns-2
 returns-2 c = simp (ne-eqb _ _ (c .if1 .left))
 

@@ -1,3 +1,4 @@
+-- The rows of three arrays: the loop keeps the rows of the records passed (`rowsUpto`), at most 146.
 use Rattle.station.proofs.recordarrays.Records.{rows-more}
 use Rattle.station.specs.Arrays.{recordsIn}
 use Rattle.station.specs.inner.Rows.{rowsUpto, putRow}
@@ -21,52 +22,40 @@ Inv-loop places amplitudes phases most rows₀ k₀ rows k = (rows ≡ rowsUpto 
 abbrev μ-loop : tie.MeasureT-loop
 μ-loop places amplitudes phases most rows₀ k₀ rows k = most - k
 
--- src/lib.rt:131:9
 shorter-requires : tie.Need-shorter-requires Inv-loop μ-loop
 shorter-requires c κs = search needs
 
--- src/lib.rt:132:9
 no-rows-requires : tie.Need-no-rows-requires Inv-loop μ-loop
 no-rows-requires c κs = search needs
 
--- src/lib.rt:134:5
 loop-holds : tie.Need-loop-holds Inv-loop μ-loop
 unfolding rowsUpto
 loop-holds c = (c .no-rows .ensures, omega arith, c .before .shorter .ensures)
 
--- src/lib.rt:135:37
 shared-slice-read-with-record : tie.Need-shared-slice-read-with-record Inv-loop μ-loop
 shared-slice-read-with-record c = omega arith
 
--- src/lib.rt:135:48
 mul-with-record : tie.Need-mul-with-record Inv-loop μ-loop
 mul-with-record c = omega arith
 
--- src/lib.rt:135:48
 shared-slice-read-with-record-2 : tie.Need-shared-slice-read-with-record-2 Inv-loop μ-loop
 shared-slice-read-with-record-2 c = omega arith
 
--- src/lib.rt:135:63
 mul-with-record-2 : tie.Need-mul-with-record-2 Inv-loop μ-loop
 mul-with-record-2 c = omega arith
 
--- src/lib.rt:135:63
 shared-slice-read-with-record-3 : tie.Need-shared-slice-read-with-record-3 Inv-loop μ-loop
 shared-slice-read-with-record-3 c = omega arith
 
--- src/lib.rt:135:9
 with-record-requires : tie.Need-with-record-requires Inv-loop μ-loop
 with-record-requires c κs = omega arith
 
--- src/lib.rt:136:9
 add-k : tie.Need-add-k Inv-loop μ-loop
 add-k c = omega arith
 
--- src/lib.rt:134:5
 loop-less : tie.Need-loop-less Inv-loop μ-loop
 loop-less c = omega arith
 
--- src/lib.rt:134:5
 loop-again : tie.Need-loop-again Inv-loop μ-loop
 loop-again c =
     let s = c .before .before .before .before .before in
@@ -74,7 +63,6 @@ loop-again c =
     let below : s .loop .k < length (a .places .now) = omega arith in
     (rows-more (a .places .now) (a .amplitudes .now) (a .phases .now) (s .loop .k) (s .loop .rows) (c .with-record .result) below (s .loop .inv .0) (c .with-record .ensures), omega arith, s .loop .inv .2)
 
--- src/lib.rt:126:1
 returns : tie.Need-returns Inv-loop μ-loop
 returns c =
     let s = c .before in
