@@ -8,7 +8,7 @@ It looks for
 - paths in a crate, `claim/specs/Document.antt`, `turns/specs`;
 - paths of code, `crate::module::name`: the crate, its module, and the name where one is given;
 - in the tables of docs/TRACE.md and docs/DECISIONS.md, names behind a crate's: turns Search `turnsFrom`; heights `share_at`.
-A word in capitals stands for any name (`crates/CRATE/specs/`).
+A word in capitals stands for any name (`crates/CRATE/specs/`). And the floors of docs/ARCHITECTURE.md must have the crates that those of crates.txt have.
 """
 
 import functools
@@ -81,8 +81,30 @@ def missing(paper, line):
                 yield from missing_behind(crate, file, names)
 
 
+def floors_listed():
+    """Each crate of crates.txt with its floor, a heading `# Floor: ..`."""
+    floor = ""
+    for line in (kit.ROOT / "crates.txt").read_text().split("\n"):
+        floor = line[2:].split(":")[0] if line.startswith("# ") else floor
+        if re.match(r"\w+:", line):
+            yield line.split(":")[0], floor
+
+
+def floors_drawn():
+    """Each crate of the first table of docs/ARCHITECTURE.md with its floor."""
+    floor = ""
+    for line in (kit.ROOT / "docs" / "ARCHITECTURE.md").read_text().split("\n## ")[0].split("\n"):
+        cells = [cell.strip() for cell in line.split("|")]
+        floor = cells[1] if len(cells) > 2 and cells[1] else floor
+        for crate in re.findall(r"`(\w+)`", cells[2]) if len(cells) > 2 else ():
+            yield crate, floor
+
+
 def main():
     count = 0
+    for crate, floor in sorted(set(floors_listed()) ^ set(floors_drawn())):
+        count += 1
+        print(f"docs/ARCHITECTURE.md and crates.txt: {crate} on the floor {floor} is in one of them only")
     for paper in kit.documents():
         for number, line in enumerate(paper.read_text().split("\n"), 1):
             for name in missing(paper, line):
