@@ -1,5 +1,4 @@
 -- Only inner contracts cite this: the pairs of the mains' sums, and of rows of the code's table.
--- Assumes nothing.
 use Prim.Native.Nat.{ℕ}
 use mathlib.Core.List.{List}
 use lib.IntN.{ℤ, pos}

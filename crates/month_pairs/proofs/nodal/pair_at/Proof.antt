@@ -1,5 +1,4 @@
 -- `month_pairs::nodal::pair_at` meets its contract: an entry of the list of pairs, or the default past its end.
--- Assumes nothing.
 use mathlib.Core.Path.{_≡_, ap₂, _∙_}
 use Prim.Native.Nat.{ℕ}
 use lib.Dec.{lit≤}

@@ -1,5 +1,4 @@
 -- `month_pairs::nodal::shallow_pair` meets its contract. The invariant: the parts that are left, from the pair so far, give what all give from (2^20, 0) (`Multiplying`).
--- Assumes nothing.
 use mathlib.Core.Path.{_≡_, sym, _∙_, ap, subst}
 use Prim.Native.Nat.{_-_, _<_, _^_}
 use native.Mathlib.Omega.{arith}

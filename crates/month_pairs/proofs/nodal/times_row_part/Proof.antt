@@ -1,5 +1,4 @@
 -- `month_pairs::nodal::times_row_part` meets its contract: the main and the coefficient that part j's columns name.
--- Assumes nothing.
 use mathlib.Core.Path.{_≡_, _∙_}
 use mathlib.Core.List.{List}
 use Prim.Native.Nat.{ℕ, _+_}
