@@ -1,6 +1,6 @@
 -- `month_pairs::nodal::pair_at` meets its contract: an entry of the list of pairs, or the default past its end.
 use mathlib.Core.Path.{_≡_, ap₂, _∙_}
-use Prim.Native.Nat.{ℕ}
+use Prim.Native.Nat.{ℕ, _+_, _*_}
 use lib.Dec.{lit≤}
 use lib.IntN.{ℤ, pos}
 use lib.ListN.{getD}
@@ -17,7 +17,7 @@ use Rattle.month_pairs.proofs.nodal.pair_at.Tie as tie
 returns : tie.Need-returns
 returns c =
     let a = c .before .args in
-    (past-entries (pair one) (λ k. checked (sumAt (a .xs .now) (a .ys .now) k)) 64 (a .k) (c .if1 .taken), record { x = lit≤ tt; y = lit≤ tt })
+    (past-entries (pair one) (λ k. checked (sumAt (a .kept .now) k)) 64 (a .k) (c .if1 .taken), record { x = lit≤ tt; y = lit≤ tt })
 
 mul-t6 : tie.Need-mul-t6
 mul-t6 c = search needs
@@ -37,9 +37,9 @@ check-requires c κs = search needs
 returns-2 : tie.Need-returns-2
 returns-2 c =
     let a = c .before .before .before .before .args in
-    let x : SFits w64 (getD (a .xs .now) (a .k) (pos 0)) = search needs in
-    let y : SFits w64 (getD (a .ys .now) (a .k) (pos 0)) = search needs in
-    (rw (toZ-ofZ w64 (getD (a .xs .now) (a .k) (pos 0)) x, toZ-ofZ w64 (getD (a .ys .now) (a .k) (pos 0)) y) at (c .check .ensures .0) ∙ entry-at (pair one) (λ k. checked (sumAt (a .xs .now) (a .ys .now) k)) 64 (a .k) (c .before .before .before .if1 .left), c .check .ensures .1)
+    let x : SFits w64 (getD (a .kept .now) (3 * a .k + 1) (pos 0)) = search needs in
+    let y : SFits w64 (getD (a .kept .now) (3 * a .k + 2) (pos 0)) = search needs in
+    (rw (toZ-ofZ w64 (getD (a .kept .now) (3 * a .k + 1) (pos 0)) x, toZ-ofZ w64 (getD (a .kept .now) (3 * a .k + 2) (pos 0)) y) at (c .check .ensures .0) ∙ entry-at (pair one) (λ k. checked (sumAt (a .kept .now) k)) 64 (a .k) (c .before .before .before .if1 .left), c .check .ensures .1)
 
 pub pair-at-spec : {M : Type 1} → statement M
 pair-at-spec =
