@@ -26,10 +26,9 @@ pub fn pair_at(kept: &[i64; 192], k: usize) -> Corrected
     if 64 <= k {
         return Corrected::Within(Pair { x: 1_048_576, y: 0 });
     }
-    check(Pair {
-        x: kept[3 * k + 1],
-        y: kept[3 * k + 2],
-    })
+    let x = kept[3 * k + 1];
+    let y = kept[3 * k + 2];
+    check(Pair { x, y })
 }
 
 // A pair multiplied by part j of the shallow constituent in row k.

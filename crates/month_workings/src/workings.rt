@@ -10,7 +10,7 @@ ghost use Rattle.month_satellites.specs.inner.View as nodalView;
 ghost use Rattle.month_satellites.specs.inner.View.{pairOf};
 ghost use Rattle.month_pairs.specs.Pairs.{checked};
 ghost use Rattle.table.specs.inner.View.{naturals};
-ghost use Rattle.month_workings.specs.inner.Kept.{argumentAt, WithMain, WithParts};
+ghost use Rattle.month_workings.specs.inner.Kept.{argumentAt, noneKept, WithMain, WithParts};
 ghost use Rattle.month_workings.specs.inner.Given.{IsGiven, argumentBy, correctedBy, KeptBy};
 use angles::TURN;
 use month_arguments::arguments::argument_at;
@@ -28,6 +28,16 @@ pub struct Given {
     pub factors: Factors,
     pub longitudes: Longitudes,
     pub mains: usize,
+}
+
+// V of a main that is not worked out yet: T.
+const NOT_YET: i64 = 788_400_000_000_000;
+
+// Room for 64 mains, none of them worked out yet.
+pub fn none_kept() -> [i64; 192]
+    ensures { λ r. ⌜ r ≡ noneKept ⌝ }
+{
+    [NOT_YET; 192]
 }
 
 // The longitudes that satellites go by.

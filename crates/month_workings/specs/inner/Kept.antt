@@ -2,8 +2,8 @@
 use Prim.Native.Nat.{ℕ, _+_, _<_}
 use mathlib.Core.Path.{_≡_}
 use mathlib.Core.List.{List}
-use lib.IntN.{ℤ}
-use lib.ListN.{length, getD}
+use lib.IntN.{ℤ, pos}
+use lib.ListN.{length, getD, replicate}
 use Rattle.angles.specs.Ticks.{turn}
 use Rattle.table.specs.inner.View.{listed}
 use Rattle.month_arguments.specs.Longitudes.{Longitudes}
@@ -23,6 +23,10 @@ correctedAt g longitudes cards angles ratios mains k = getD (listed (rowCorrecte
 -- main k is worked out
 abbrev pub Has : List ℤ → ℕ → Type 0
 Has kept k = getD (argumentsIn kept) k 0 < turn
+
+-- no main is: every number is T
+abbrev pub noneKept : List ℤ
+noneKept = replicate 192 (pos turn)
 
 -- V and the pair of every main that is worked out are its own
 pub record Kept (argument : ℕ → ℕ) (corrected : ℕ → Corrected) (kept : List ℤ) : Type 0 where

@@ -19,17 +19,29 @@ returns c =
     let a = c .before .args in
     (past-entries (pair one) (λ k. checked (sumAt (a .kept .now) k)) 64 (a .k) (c .if1 .taken), record { x = lit≤ tt; y = lit≤ tt })
 
-mul-t6 : tie.Need-mul-t6
-mul-t6 c = search needs
+mul-x : tie.Need-mul-x
+mul-x c = search needs
 
-element-copy-out-t9 : tie.Need-element-copy-out-t9
-element-copy-out-t9 c = search needs
+add-x : tie.Need-add-x
+add-x c = search needs
 
-mul-t10 : tie.Need-mul-t10
-mul-t10 c = search needs
+mul-x-2 : tie.Need-mul-x-2
+mul-x-2 c = search needs
 
-element-copy-out-t13 : tie.Need-element-copy-out-t13
-element-copy-out-t13 c = search needs
+element-copy-out-x : tie.Need-element-copy-out-x
+element-copy-out-x c = search needs
+
+mul-y : tie.Need-mul-y
+mul-y c = search needs
+
+add-y : tie.Need-add-y
+add-y c = search needs
+
+mul-y-2 : tie.Need-mul-y-2
+mul-y-2 c = search needs
+
+element-copy-out-y : tie.Need-element-copy-out-y
+element-copy-out-y c = search needs
 
 check-requires : tie.Need-check-requires
 check-requires c κs = search needs
@@ -46,9 +58,13 @@ pair-at-spec =
     tie.close
     (tie.spec
     returns
-    mul-t6
-    element-copy-out-t9
-    mul-t10
-    element-copy-out-t13
+    mul-x
+    add-x
+    mul-x-2
+    element-copy-out-x
+    mul-y
+    add-y
+    mul-y-2
+    element-copy-out-y
     check-requires
     returns-2)
