@@ -37,7 +37,7 @@ index-requires-2 : tie.Need-index-requires-2 Inv-loop μ-loop
 index-requires-2 c κs = search needs
 
 work-main-requires : tie.Need-work-main-requires Inv-loop μ-loop
-work-main-requires c κs = (c .before .before .before .before .before .before .before .before .before .pre .0, c .before .before .before .before .before .before .before .before .before .pre .1 .0, c .before .before .before .before .before .loop .inv .0)
+work-main-requires c κs = (c .before .before .before .before .before .before .before .before .before .pre .0, (c .before .before .before .before .before .before .before .before .before .pre .1 .0, c .before .before .before .before .before .loop .inv .0))
 
 add-j : tie.Need-add-j Inv-loop μ-loop
 add-j c = search needs
