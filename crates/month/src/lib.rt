@@ -62,12 +62,7 @@ fn frequency_at(speeds: &[u64; 160], frequencies: usize, place: u8) -> u64
 }
 
 // The month of a station's records: each in its turn, until one is refused by 11.
-fn prepare_records(
-    cosines: &[u32; 1025],
-    table: Table,
-    station: Station,
-    given: Given,
-) -> Prepared
+fn prepare_records(cosines: &[u32; 1025], table: Table, station: Station, given: Given) -> Prepared
     requires { ⌜ IsTable (now cosines) ⌝ }
     requires { ⌜ IsGiven given ⌝ }
     requires { ⌜ given .mains ≡ table .mains ⌝ }
@@ -79,7 +74,13 @@ fn prepare_records(
     let mut k = 0;
     while k < n {
         let place = station.places[k];
-        let found = find(&table.maincards, table.mains, &table.shallowcards, table.shallows, place);
+        let found = find(
+            &table.maincards,
+            table.mains,
+            &table.shallowcards,
+            table.shallows,
+            place,
+        );
         work_mains(
             found,
             cosines,

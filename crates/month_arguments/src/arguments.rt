@@ -92,7 +92,11 @@ pub fn shallow_argument<'a>(
     let mut part = 0;
     while part < parts {
         let main = natural_at(cards, 6, row, 2 + part) as usize;
-        v = advanced(v, integer_at(coefficients, 4, row, part), argument_at(kept, main));
+        v = advanced(
+            v,
+            integer_at(coefficients, 4, row, part),
+            argument_at(kept, main),
+        );
         part += 1;
     }
     v
