@@ -1,4 +1,5 @@
 pub mod Put
 pub mod Records
+pub mod Structs
 pub mod Whole
 pub mod Ranges

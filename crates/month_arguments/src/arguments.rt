@@ -3,7 +3,7 @@ use crate::astronomy::Longitudes;
 use angles::CENTICYCLE;
 use angles::TURN;
 use angles::mod_turn;
-use table::at_u64;
+use angles::size;
 use table::entries::integer_at;
 use table::entries::natural_at;
 ghost use mathlib.Core.Path.{_≡_};
@@ -15,7 +15,7 @@ ghost use Rattle.angles.specs.Floor.{modTurn};
 ghost use Rattle.table.specs.inner.View.{integers, shallowOf};
 ghost use Rattle.month_arguments.specs.inner.Longitudes.{longitudesOf};
 ghost use Rattle.month_arguments.specs.Arguments.{lunarTime, fromParts};
-ghost use Rattle.month_arguments.specs.inner.Rows.{rowArgument};
+ghost use Rattle.month_arguments.specs.inner.Rows.{rowArgument, argumentsIn};
 
 // An angle, below a turn.
 fn below(angle: u64) -> u64
@@ -68,21 +68,35 @@ fn advanced(angle: u64, number: i8, by: u64) -> u64
     mod_turn(multiple(1, angle) + multiple(number, by))
 }
 
+// V of main k, from what is kept of the mains in rows of V, X and Y, or 0 past the last.
+pub fn argument_at(kept: &[i64; 192], k: usize) -> u64
+    ensures { λ r. ⌜ r ≡ getD (argumentsIn (now (kept .entry))) k 0 ⌝ }
+{
+    if 64 <= k {
+        return 0;
+    }
+    size(kept[3 * k])
+}
+
 // V of the shallow constituent in a row of the table, from the mains' V: the sum over its parts of coefficient times V.
 pub fn shallow_argument<'a>(
-    vs: &'a [u64; 64],
+    kept: &'a [i64; 192],
     cards: &'a [u16; 768],
     coefficients: &'a [i8; 512],
     row: usize,
 ) -> u64
-    ensures { λ r. ⌜ r ≡ fromParts (now (vs .entry)) (shallowOf (now (cards .entry)) (now (coefficients .entry)) row) ⌝ }
+    ensures { λ r. ⌜ r ≡ fromParts (argumentsIn (now (kept .entry))) (shallowOf (now (cards .entry)) (now (coefficients .entry)) row) ⌝ }
 {
     let parts = natural_at(cards, 6, row, 1) as usize;
     let mut v = 0;
     let mut part = 0;
     while part < parts {
         let main = natural_at(cards, 6, row, 2 + part) as usize;
-        v = advanced(v, integer_at(coefficients, 4, row, part), at_u64(vs, main));
+        v = advanced(
+            v,
+            integer_at(coefficients, 4, row, part),
+            argument_at(kept, main),
+        );
         part += 1;
     }
     v

@@ -1,3 +1,3 @@
-// month_arguments: say here in a sentence what the crate is for.
-pub mod astronomy; // The five longitudes on a day
-pub mod arguments; // The argument V of a main and of a shallow-water constituent, in ticks
+// The month's angles: the five longitudes on a day, and the argument V of a constituent.
+pub mod astronomy; // longitudes on a day
+pub mod arguments; // V of a main and of a shallow-water constituent

@@ -1,5 +1,4 @@
 -- 01, "Satellites and weights": the multiplications of pairs, and refusal 11's size.
--- Assumes nothing.
 use Prim.Native.Nat.{ℕ, zero, suc, _^_}
 use mathlib.Core.Bool.{cond}
 use lib.Dec.{ltb}

@@ -1,5 +1,4 @@
 -- 01, "Satellites and weights": the pair of a main and of a shallow-water constituent, by refusal 11.
--- Assumes nothing.
 use Prim.Native.Nat.{ℕ}
 use mathlib.Core.List.{List, [], _∷_, map}
 use lib.IntN.{natAbs}

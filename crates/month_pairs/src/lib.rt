@@ -1,3 +1,3 @@
-// month_pairs: say here in a sentence what the crate is for.
-pub mod pairs; // Pairs X, Y multiplied, with refusal 11's size asked after each multiplication
-pub mod nodal; // The nodal correction of a shallow-water constituent, its pair X, Y, from the sums of the mains, with refusal 11
+// Nodal corrections, the pairs X and Y: multiplied for shallow-water constituents, with the sizes that refusal 11 asks for.
+pub mod pairs; // one pair by another
+pub mod nodal; // a shallow-water constituent's pair

@@ -18,21 +18,22 @@ use month_satellites::satellites::index;
 use table::entries::integer_at;
 use table::entries::natural_at;
 
-// The pair of a main by its sums X and Y, if they are not too large, or (2^20, 0) past the last.
-pub fn pair_at<'a>(xs: &'a [i64; 64], ys: &'a [i64; 64], k: usize) -> Corrected
-    ensures { λ r. ⌜ correctedOf r ≡ getD (pairsOf (now (xs .entry)) (now (ys .entry))) k (pair one) ⌝ }
+// The pair of main k by its sums X and Y, from what is kept of the mains in rows of V, X and Y: unless it is too large, or (2^20, 0) past the last.
+pub fn pair_at(kept: &[i64; 192], k: usize) -> Corrected
+    ensures { λ r. ⌜ correctedOf r ≡ getD (pairsOf (now (kept .entry))) k (pair one) ⌝ }
     ensures { λ r. ⌜ Small r ⌝ }
 {
     if 64 <= k {
         return Corrected::Within(Pair { x: 1_048_576, y: 0 });
     }
-    check(Pair { x: xs[k], y: ys[k] })
+    let x = kept[3 * k + 1];
+    let y = kept[3 * k + 2];
+    check(Pair { x, y })
 }
 
 // A pair multiplied by part j of the shallow constituent in row k.
 fn times_row_part<'a>(
-    xs: &'a [i64; 64],
-    ys: &'a [i64; 64],
+    kept: &'a [i64; 192],
     cards: &'a [u16; 768],
     coefficients: &'a [i8; 512],
     k: usize,
@@ -40,29 +41,28 @@ fn times_row_part<'a>(
     p: Pair,
 ) -> Corrected
     requires { ⌜ (j < 2 ^ 32) × Sized pairMost p ⌝ }
-    ensures { λ r. ⌜ correctedOf r ≡ timesPart (pairsOf (now (xs .entry)) (now (ys .entry))) (pairOf p) (partOf (naturals 6 (now (cards .entry)) k) (integers 4 (now (coefficients .entry)) k) j) ⌝ }
+    ensures { λ r. ⌜ correctedOf r ≡ timesPart (pairsOf (now (kept .entry))) (pairOf p) (partOf (naturals 6 (now (cards .entry)) k) (integers 4 (now (coefficients .entry)) k) j) ⌝ }
     ensures { λ r. ⌜ Small r ⌝ }
 {
     let main = index(natural_at(cards, 6, k, 2 + j));
-    times_part(p, pair_at(xs, ys, main), integer_at(coefficients, 4, k, j))
+    times_part(p, pair_at(kept, main), integer_at(coefficients, 4, k, j))
 }
 
 // The pair of the shallow constituent in row k.
 pub fn shallow_pair<'a>(
-    xs: &'a [i64; 64],
-    ys: &'a [i64; 64],
+    kept: &'a [i64; 192],
     cards: &'a [u16; 768],
     coefficients: &'a [i8; 512],
     k: usize,
 ) -> Corrected
-    ensures { λ r. ⌜ correctedOf r ≡ fromParts (pairsOf (now (xs .entry)) (now (ys .entry))) (shallowOf (now (cards .entry)) (now (coefficients .entry)) k) ⌝ }
+    ensures { λ r. ⌜ correctedOf r ≡ fromParts (pairsOf (now (kept .entry))) (shallowOf (now (cards .entry)) (now (coefficients .entry)) k) ⌝ }
     ensures { λ r. ⌜ Small r ⌝ }
 {
     let count = index(natural_at(cards, 6, k, 1));
     let mut p = Pair { x: 1_048_576, y: 0 };
     let mut j = 0;
     while j < count {
-        let c = times_row_part(xs, ys, cards, coefficients, k, j, p);
+        let c = times_row_part(kept, cards, coefficients, k, j, p);
         match c {
             Corrected::TooLarge => {
                 return Corrected::TooLarge;

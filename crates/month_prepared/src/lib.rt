@@ -1,3 +1,4 @@
+// What preparing a month hands to the heights: the weights, V, lag and frequency of each constituent.
 ghost use mathlib.Core.Path.{_≡_};
 ghost use mathlib.Core.List.{[]};
 ghost use Prim.Native.Nat.{min};

@@ -1,5 +1,4 @@
 -- 01, "Satellites and weights": the latitude factors G, in units of 2^-20.
--- Assumes nothing.
 use Prim.Native.Nat.{ℕ, _*_, _^_, min, max}
 use lib.IntN.{ℤ, pos, negsuc, negℤ, natAbs, _-ℤ_, _*ℤ_}
 use Rattle.angles.specs.Ticks.{arcMinute}

@@ -1,6 +1,5 @@
 -- 01, "Satellites and weights": a main constituent's pair X, Y from its satellites, in units of 2^-20.
 -- `longitudes` are the three that satellites go by, (p, N', p') in ticks: N' is the negative of the node already, and stands as it is.
--- Assumes nothing.
 use Prim.Native.Nat.{ℕ, _^_}
 use mathlib.Core.List.{List, [], _∷_, map}
 use lib.IntN.{ℤ, pos, _+ℤ_, _*ℤ_}

@@ -1,3 +1,3 @@
-// month_satellites: say here in a sentence what the crate is for.
-pub mod latitude; // The latitude factors G
-pub mod satellites; // A main constituent's pair, from its satellites
+// A main constituent's nodal sums X and Y, from its satellites and the latitude.
+pub mod latitude; // the latitude factors G
+pub mod satellites; // a main's sums

@@ -1,3 +1,3 @@
-// month_workings: say here in a sentence what the crate is for.
-pub mod workings; // The mains that a month needs, each worked out once
-pub mod worked; // What stands at a place of the table, worked out from the mains that it needs
+// V and the nodal correction of what stands at a place of the table, each main worked out only once.
+pub mod workings; // the mains
+pub mod worked; // what stands at a place

@@ -1,18 +1,19 @@
-// The mains that a month needs, each worked out once: its V, and its sums X and Y. A V of T or more stands for one that is not worked out yet.
+// The mains that a month needs, each worked out once: its V, and its sums X and Y, kept in a row of three. A V of T or more stands for one that is not worked out yet.
 ghost use mathlib.Core.Path.{_≡_};
 ghost use Prim.Native.Nat.{_<_};
 ghost use Rattle.angles.specs.Ticks.{turn};
 ghost use Rattle.cosine.specs.Fixed.{IsTable};
 ghost use Rattle.month_arguments.specs.Longitudes.{nodal};
 ghost use Rattle.month_arguments.specs.inner.Longitudes.{longitudesOf, Reduced};
-ghost use Rattle.month_satellites.specs.inner.Factors.{AreFactors, factorsOf};
 ghost use Rattle.month_satellites.specs.inner.Ranges.{AreAngles};
 ghost use Rattle.month_satellites.specs.inner.View as nodalView;
 ghost use Rattle.month_satellites.specs.inner.View.{pairOf};
 ghost use Rattle.month_pairs.specs.Pairs.{checked};
 ghost use Rattle.table.specs.inner.View.{naturals};
-ghost use Rattle.month_workings.specs.inner.Kept.{argumentAt, correctedAt, Kept, WithMain, WithParts};
+ghost use Rattle.month_workings.specs.inner.Kept.{argumentAt, noneKept, WithMain, WithParts};
+ghost use Rattle.month_workings.specs.inner.Given.{IsGiven, argumentBy, correctedBy, KeptBy};
 use angles::TURN;
+use month_arguments::arguments::argument_at;
 use month_arguments::arguments::main_argument;
 use month_arguments::astronomy::Longitudes;
 use month_satellites::latitude::Factors;
@@ -21,6 +22,23 @@ use month_satellites::satellites::Pair;
 use month_satellites::satellites::index;
 use month_satellites::satellites::main_sum;
 use table::entries::natural_at;
+
+// What every main is worked out from, besides its rows of the table: the latitude factors, the longitudes, and how many mains there are.
+pub struct Given {
+    pub factors: Factors,
+    pub longitudes: Longitudes,
+    pub mains: usize,
+}
+
+// V of a main that is not worked out yet: T.
+const NOT_YET: i64 = 788_400_000_000_000;
+
+// Room for 64 mains, none of them worked out yet.
+pub fn none_kept() -> [i64; 192]
+    ensures { λ r. ⌜ r ≡ noneKept ⌝ }
+{
+    [NOT_YET; 192]
+}
 
 // The longitudes that satellites go by.
 fn nodal_of(l: Longitudes) -> Nodal
@@ -46,28 +64,26 @@ fn argument_of(angles: &[i8; 448], mains: usize, k: usize, l: Longitudes) -> u64
     main_argument(angles, k, l)
 }
 
-// The sums of the main in row k of so many, or (2^20, 0) past the last.
+// The sums of the main in row k, or (2^20, 0) past the last.
 fn sum_of<'a>(
     cosines: &'a [u32; 1025],
     cards: &'a [u16; 192],
     angles: &'a [i8; 1024],
     ratios: &'a [u32; 512],
-    mains: usize,
     k: usize,
-    g: Factors,
-    l: Nodal,
+    given: Given,
 ) -> Pair
     requires { ⌜ IsTable (now cosines) ⌝ }
-    requires { ⌜ AreFactors g ⌝ }
-    requires { ⌜ AreAngles l ⌝ }
-    ensures { λ r. ⌜ checked (pairOf r) ≡ correctedAt (factorsOf g) (nodalView.longitudesOf l) (now (cards .entry)) (now (angles .entry)) (now (ratios .entry)) mains k ⌝ }
+    requires { ⌜ IsGiven given ⌝ }
+    ensures { λ r. ⌜ checked (pairOf r) ≡ correctedBy given (now (cards .entry)) (now (angles .entry)) (now (ratios .entry)) k ⌝ }
 {
-    if mains <= k {
+    if given.mains <= k {
         return Pair { x: 1_048_576, y: 0 };
     }
+    let l = nodal_of(given.longitudes);
     let first = natural_at(cards, 3, k, 1);
     let count = natural_at(cards, 3, k, 2);
-    main_sum(cosines, angles, ratios, first, count, g, l)
+    main_sum(cosines, angles, ratios, first, count, given.factors, l)
 }
 
 // Works out the main in row k, if it is not yet.
@@ -77,41 +93,28 @@ pub fn work_main<'a>(
     angles: &'a [i8; 448],
     satelliteangles: &'a [i8; 1024],
     ratios: &'a [u32; 512],
-    mains: usize,
     k: usize,
-    g: Factors,
-    l: Longitudes,
-    vs: &mut [u64; 64],
-    xs: &mut [i64; 64],
-    ys: &mut [i64; 64],
+    given: Given,
+    kept: &mut [i64; 192],
 )
     requires { ⌜ IsTable (now cosines) ⌝ }
-    requires { ⌜ AreFactors g ⌝ }
-    requires { ⌜ Reduced l ⌝ }
-    requires { ⌜ Kept (argumentAt (longitudesOf l) (now angles) mains) (correctedAt (factorsOf g) (nodal (longitudesOf l)) (now cards) (now satelliteangles) (now ratios) mains) (now vs) (now xs) (now ys) ⌝ }
-    ensures { λ _. ⌜ WithMain (argumentAt (longitudesOf l) (now (angles .entry)) mains) (correctedAt (factorsOf g) (nodal (longitudesOf l)) (now (cards .entry)) (now (satelliteangles .entry)) (now (ratios .entry)) mains) k (now (vs .entry)) (now (vs .exit)) (now (xs .exit)) (now (ys .exit)) ⌝ }
+    requires { ⌜ IsGiven given ⌝ }
+    requires { ⌜ KeptBy given (now cards) (now angles) (now satelliteangles) (now ratios) (now kept) ⌝ }
+    ensures { λ _. ⌜ WithMain (argumentBy given (now (angles .entry))) (correctedBy given (now (cards .entry)) (now (satelliteangles .entry)) (now (ratios .entry))) k (now (kept .entry)) (now (kept .exit)) ⌝ }
 {
     if 64 <= k {
         return;
     }
-    if vs[k] < TURN {
+    if argument_at(kept, k) < TURN {
         return;
     }
-    let p = sum_of(
-        cosines,
-        cards,
-        satelliteangles,
-        ratios,
-        mains,
-        k,
-        g,
-        nodal_of(l),
-    );
+    let p = sum_of(cosines, cards, satelliteangles, ratios, k, given);
+    let v = argument_of(angles, given.mains, k, given.longitudes) as i64;
     let x = p.x;
     let y = p.y;
-    vs[k] = argument_of(angles, mains, k, l);
-    xs[k] = x;
-    ys[k] = y;
+    kept[3 * k] = v;
+    kept[3 * k + 1] = x;
+    kept[3 * k + 2] = y;
 }
 
 // Works out the mains of the parts of the shallow constituent in a row, those that are not yet.
@@ -121,20 +124,15 @@ pub fn work_parts<'a>(
     angles: &'a [i8; 448],
     satelliteangles: &'a [i8; 1024],
     ratios: &'a [u32; 512],
-    mains: usize,
     shallowcards: &'a [u16; 768],
     row: usize,
-    g: Factors,
-    l: Longitudes,
-    vs: &mut [u64; 64],
-    xs: &mut [i64; 64],
-    ys: &mut [i64; 64],
+    given: Given,
+    kept: &mut [i64; 192],
 )
     requires { ⌜ IsTable (now cosines) ⌝ }
-    requires { ⌜ AreFactors g ⌝ }
-    requires { ⌜ Reduced l ⌝ }
-    requires { ⌜ Kept (argumentAt (longitudesOf l) (now angles) mains) (correctedAt (factorsOf g) (nodal (longitudesOf l)) (now cards) (now satelliteangles) (now ratios) mains) (now vs) (now xs) (now ys) ⌝ }
-    ensures { λ _. ⌜ WithParts (argumentAt (longitudesOf l) (now (angles .entry)) mains) (correctedAt (factorsOf g) (nodal (longitudesOf l)) (now (cards .entry)) (now (satelliteangles .entry)) (now (ratios .entry)) mains) (naturals 6 (now (shallowcards .entry)) row) (now (vs .exit)) (now (xs .exit)) (now (ys .exit)) ⌝ }
+    requires { ⌜ IsGiven given ⌝ }
+    requires { ⌜ KeptBy given (now cards) (now angles) (now satelliteangles) (now ratios) (now kept) ⌝ }
+    ensures { λ _. ⌜ WithParts (argumentBy given (now (angles .entry))) (correctedBy given (now (cards .entry)) (now (satelliteangles .entry)) (now (ratios .entry))) (naturals 6 (now (shallowcards .entry)) row) (now (kept .exit)) ⌝ }
 {
     let count = index(natural_at(shallowcards, 6, row, 1));
     let mut j = 0;
@@ -146,13 +144,9 @@ pub fn work_parts<'a>(
             angles,
             satelliteangles,
             ratios,
-            mains,
             main,
-            g,
-            l,
-            vs,
-            xs,
-            ys,
+            given,
+            kept,
         );
         j = j + 1;
     }

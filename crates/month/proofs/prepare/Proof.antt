@@ -1,11 +1,10 @@
 -- `month::prepare` meets its contract: a date in range is within 2^15 days of 1976, and the month of the rows is that of the table.
-use borrow.Author.Needs.{needs, length-unmapped}
+use borrow.Author.Needs.{needs}
 use Rattle.month.proofs.prepare.Statement.{statement}
 use Rattle.month.proofs.prepare.Tie as tie
-use mathlib.Core.Path.{_≡_, _∙_}
+use mathlib.Core.Path.{_≡_, refl, _∙_}
 use native.Mathlib.Omega.{arith}
 use lib.Dec.{lit≤}
-use lib.ListN.{length}
 use mir.Syntax.{w32, w64}
 use mir.Val.{SFits}
 use mir.ValLaws.{toZ-ofZ}
@@ -32,27 +31,26 @@ longitudes-on-requires c κs =
 latitude-factors-requires : tie.Need-latitude-factors-requires
 latitude-factors-requires c κs = search needs
 
-held-requires : tie.Need-held-requires
-held-requires c κs = search needs
-
 prepare-records-requires : tie.Need-prepare-records-requires
 prepare-records-requires c κs =
-    let a = c .before .before .before .before .before .before .before .before .before .before .before .before .before .before .before .before .before .before .before .before .args in
-    let table = c .before .before .before .before .before .before .before .before .before .before .before .before .before .before .before .before .before .before .before .before .good .1 .0 in
-    let angles : length (a .t2 .mainangles) ≡ 448 = length-unmapped _ (a .t2 .mainangles) 448 (table .1 .1 .1 .1 .1 .1 .1 .1 .1 .0 .1 .0 .1) in
-    let cards : length (a .t2 .maincards) ≡ 192 = length-unmapped _ (a .t2 .maincards) 192 (table .1 .1 .1 .1 .1 .1 .1 .1 .0 .1 .0 .1) in
-    (c .before .before .before .before .before .before .before .before .before .before .before .before .before .before .before .before .before .before .before .before .pre .0, (c .before .before .before .before .before .before .before .before .before .before .before .before .before .latitude-factors .ensures .1, (are-reduced (c .before .before .before .before .before .before .before .before .before .before .before .before .before .before .before .longitudes-on .result) _ (a .t2 .longitudes) (a .t2 .increases) (c .before .before .before .before .before .before .before .before .before .before .before .before .before .before .before .longitudes-on .ensures), (omega (arith, c .before .before .before .before .before .before .before .before .before .before .before .before .held .ensures), angles, cards))))
+    let a = c .before .before .before .before .before .before .before .args in
+    let l = c .before .before .longitudes-on in (
+      c .before .before .before .before .before .before .before .pre .0,
+      (record { factors = c .latitude-factors .ensures .1; longitudes = are-reduced (l .result) _ (a .t2 .longitudes) (a .t2 .increases) (l .ensures) }, refl),
+    )
 
 returns : tie.Need-returns
 unfolding monthDay stationOf
 returns c =
-    let a = c .before .before .before .before .before .before .before .before .before .before .before .before .before .before .before .before .before .before .before .before .before .args in
-    let f : SFits w64 (c .before .before .before .before .before .before .before .before .before .before .before .before .before .before .before .before .before .before .before .before .day-count .result) = fits-below (c .before .before .before .before .before .before .before .before .before .before .before .before .before .before .before .before .before .before .before .before .day-count .result) (rw (c .before .before .before .before .before .before .before .before .before .before .before .before .before .before .before .before .before .before .before .before .day-count .ensures) (omega (arith, count-small (a .year) (a .month) 16 (c .before .before .before .before .before .before .before .before .before .before .before .before .before .before .before .before .before .before .before .before .before .pre .1) (lit≤ tt)))) in
-    let h : SFits w32 (a .t3 .latitude) = record { sfits = c .before .before .before .before .before .before .before .before .before .before .before .before .before .before .before .struct-told .given .0 .1 } in
-    let e : longitudesOf (c .before .before .before .before .before .before .before .before .before .before .before .before .before .before .before .before .longitudes-on .result) ≡ longitudesOn (monthDay (a .year) (a .month)) (a .t2 .longitudes) (a .t2 .increases) =
-    rw (toZ-ofZ w64 (c .before .before .before .before .before .before .before .before .before .before .before .before .before .before .before .before .before .before .before .before .day-count .result) f, c .before .before .before .before .before .before .before .before .before .before .before .before .before .before .before .before .before .before .before .before .day-count .ensures) at (c .before .before .before .before .before .before .before .before .before .before .before .before .before .before .before .before .longitudes-on .ensures) in
-    let g : factorsOf (c .before .before .before .before .before .before .before .before .before .before .before .before .before .before .latitude-factors .result) ≡ factorsAt (a .t3 .latitude) = rw (toZ-ofZ w32 (a .t3 .latitude) h) at (c .before .before .before .before .before .before .before .before .before .before .before .before .before .before .latitude-factors .ensures .0) in
-    rw (g, e, c .before .before .before .before .before .before .before .before .before .before .before .before .before .held .ensures) at (c .prepare-records .ensures) ∙ rows-are-month (a .t2) (stationOf (a .t3)) (a .year) (a .month)
+    let a = c .before .before .before .before .before .before .before .before .args in
+    let d = c .before .before .before .before .before .before .before .day-count in
+    let l = c .before .before .before .longitudes-on in
+    let g = c .before .latitude-factors in
+    let f : SFits w64 (d .result) = fits-below (d .result) (rw (d .ensures) (omega (arith, count-small (a .year) (a .month) 16 (c .before .before .before .before .before .before .before .before .pre .1) (lit≤ tt)))) in
+    let h : SFits w32 (a .station .latitude) = record { sfits = c .before .before .struct-told .given .0 .1 } in
+    let el : longitudesOf (l .result) ≡ longitudesOn (monthDay (a .year) (a .month)) (a .t2 .longitudes) (a .t2 .increases) = rw (toZ-ofZ w64 (d .result) f, d .ensures) at (l .ensures) in
+    let eg : factorsOf (g .result) ≡ factorsAt (a .station .latitude) = rw (toZ-ofZ w32 (a .station .latitude) h) at (g .ensures .0) in
+    rw (eg, el) at (c .prepare-records .ensures) ∙ rows-are-month (a .t2) (stationOf (a .station)) (a .year) (a .month)
 
 pub prepare-spec : {M : Type 1} → statement M
 prepare-spec =
@@ -61,6 +59,5 @@ prepare-spec =
     day-count-requires
     longitudes-on-requires
     latitude-factors-requires
-    held-requires
     prepare-records-requires
     returns)

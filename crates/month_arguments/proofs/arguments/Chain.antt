@@ -1,4 +1,4 @@
--- V as the code adds it up. From the laws of angles modulo a turn. Assumes nothing.
+-- V as the code adds it up. From the laws of angles modulo a turn.
 use mathlib.Core.Path.{_≡_, sym, ap, _∙_}
 use mathlib.Core.List.{List, [], _∷_}
 use Prim.Native.Nat.{ℕ, _+_, _-_, _≤_, _<_, _%_}

@@ -1,4 +1,4 @@
--- Angles that the code reduces before it adds. From the laws of angles modulo a turn. Assumes nothing.
+-- Angles that the code reduces before it adds. From the laws of angles modulo a turn.
 use mathlib.Core.Path.{_≡_, refl, sym, ap, _∙_}
 use mathlib.Core.List.{List, [], _∷_, map}
 use Prim.Native.Nat.{ℕ, _%_}

@@ -1,4 +1,4 @@
--- A longitude, from cards that the code reduces before it multiplies; and longitudes are below a turn. From the laws of angles modulo a turn. Assumes nothing.
+-- A longitude, from cards that the code reduces before it multiplies; and longitudes are below a turn. From the laws of angles modulo a turn.
 use mathlib.Core.Path.{_≡_, refl, sym, ap, subst, _∙_}
 use Prim.Native.Nat.{ℕ, suc, _*_, _/_, _%_, _≤_, _<_}
 use native.Mathlib.Nat.{mod-lt, mod-add-div', div-le-self}

@@ -1,4 +1,4 @@
--- The multiplications by part after part: what is left of them after each. By the definition's own clauses. Assumes nothing.
+-- The multiplications by part after part: what is left of them after each. By the definition's own clauses.
 use mathlib.Core.Path.{_≡_}
 use mathlib.Core.List.{List}
 use Prim.Native.Nat.{ℕ, _+_, _-_, _≤_, _<_}

@@ -1,4 +1,4 @@
--- The pairs by rows of the code's arrays are those of 01's table. By the definitions, and entry by entry. Assumes nothing.
+-- The pairs by rows of the code's arrays are those of 01's table. By the definitions, and entry by entry.
 use mathlib.Core.Path.{_≡_, refl}
 use mathlib.Core.List.{List, map}
 use Prim.Native.Nat.{ℕ}

@@ -1,4 +1,4 @@
--- The multiplications by one pair, one by one: what is left of them after each. By the definition's own clauses. Assumes nothing.
+-- The multiplications by one pair, one by one: what is left of them after each. By the definition's own clauses.
 use mathlib.Core.Path.{_≡_}
 use Prim.Native.Nat.{ℕ, zero, suc, _-_, _≤_, _<_}
 use native.Mathlib.Nat.{not-suc-le-zero}

@@ -1,5 +1,4 @@
 -- Only inner contracts cite this: what the code's answer stands for.
--- Assumes nothing.
 use Rattle.month_satellites.specs.inner.View.{pairOf}
 use Rattle.month_pairs.specs.Pairs.{Corrected, tooLarge, pair}
 use Rattle.month_pairs.specs.declared.pairs.Corrected as answer

@@ -1,5 +1,4 @@
 -- Only inner contracts cite this: the range of a pair that refusal 11 leaves.
--- Assumes nothing.
 use Prim.Native.Nat.{ℕ, _^_}
 use Rattle.month_satellites.specs.inner.Ranges.{Sized}
 use Rattle.month_pairs.specs.declared.pairs.Corrected.{Corrected}

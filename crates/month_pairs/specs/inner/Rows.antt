@@ -1,6 +1,5 @@
 -- Only inner contracts cite this: the pairs of the mains' sums, and of rows of the code's table.
--- Assumes nothing.
-use Prim.Native.Nat.{ℕ}
+use Prim.Native.Nat.{ℕ, _+_, _*_}
 use mathlib.Core.List.{List}
 use lib.IntN.{ℤ, pos}
 use lib.ListN.{getD}
@@ -10,13 +9,13 @@ use Rattle.month_satellites.specs.Latitude.{Factors}
 use Rattle.month_satellites.specs.Satellites.{Pair, mainPair}
 use Rattle.month_pairs.specs.Pairs.{Corrected, checked}
 
--- the sums X, Y of main k
-abbrev pub sumAt : List ℤ → List ℤ → ℕ → Pair
-sumAt xs ys k = record { x = getD xs k (pos 0); y = getD ys k (pos 0) }
+-- the sums X, Y of main k, of mains that are kept each in a row of its V, X and Y
+abbrev pub sumAt : List ℤ → ℕ → Pair
+sumAt kept k = record { x = getD kept (3 * k + 1) (pos 0); y = getD kept (3 * k + 2) (pos 0) }
 
 -- the pairs of 64 mains, by refusal 11
-abbrev pub pairsOf : List ℤ → List ℤ → List Corrected
-pairsOf xs ys = listed (λ k. checked (sumAt xs ys k)) 0 64
+abbrev pub pairsOf : List ℤ → List Corrected
+pairsOf kept = listed (λ k. checked (sumAt kept k)) 0 64
 
 -- the satellites of the main in row k: a row of its place, its first satellite and their count
 unfoldable pub rowSatellites : List ℕ → List ℤ → List ℕ → ℕ → List Satellite

@@ -1,4 +1,4 @@
--- `month_prepared::no_constituents` meets its contract: by computing. Assumes nothing.
+-- `month_prepared::no_constituents` meets its contract: by computing.
 use mathlib.Core.Path.{refl}
 use Rattle.month_prepared.specs.inner.View.{constituentsAfter}
 use Rattle.month_prepared.proofs.no_constituents.Statement.{statement}
@@ -6,7 +6,6 @@ use Rattle.month_prepared.proofs.no_constituents.Tie as tie
 use Rattle.month_prepared.proofs.no_constituents.Reads as reads
 use Rattle.month_prepared.proofs.no_constituents.Lts as lts
 
--- src/lib.rt:18:1
 returns : tie.Need-returns
 unfolding constituentsAfter
 returns c = refl

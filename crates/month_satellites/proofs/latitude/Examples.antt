@@ -1,5 +1,4 @@
 -- 01, "Checked against": "Latitude 4°59' acts as 5°", and so does any smaller one, with its sign. By the definition of the size.
--- Assumes nothing.
 use mathlib.Core.Path.{_≡_}
 use Prim.Native.Nat.{ℕ, _≤_, _<_}
 use native.Mathlib.Omega.{arith}

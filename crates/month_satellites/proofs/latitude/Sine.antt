@@ -1,6 +1,6 @@
 -- The fixed sine of 5 to 90 degrees is from 2^26 to 2^30. The table falls, so a line between two entries stays above the lower
 -- one, and the sine of an angle is the cosine of what is left of the quarter: it is above the one entry that is computed here.
--- Rests on the entries' fall (`cosine`). Assumes nothing.
+-- Rests on the entries' fall (`cosine`).
 use mathlib.Core.Path.{_≡_}
 use mathlib.Core.Logic.{⊎-elim}
 use mathlib.Core.Bool.{Bool, true, false, cond}

@@ -1,5 +1,4 @@
 -- Sizes that `angles` does not state: of a difference of naturals, of a pair's products, and of what `floor_div` gives, carried on as `Known`.
--- Assumes nothing.
 use mathlib.Core.Path.{_≡_, _∙_, ap}
 use Prim.Native.Nat.{ℕ, zero, suc, _*_, _^_, _≤_, _<_}
 use native.Mathlib.Nat.{le-trans, pow-suc, pow-zero, one-mul}

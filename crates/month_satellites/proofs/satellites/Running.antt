@@ -1,5 +1,5 @@
 -- A running sum over satellites: what was added so far, with what is left, gives the whole, and grows by at most 2^42 a satellite.
--- The loop over a main's satellites keeps one for X and one for Y. Assumes nothing.
+-- The loop over a main's satellites keeps one for X and one for Y.
 use mathlib.Core.Path.{_≡_, refl, sym, _∙_}
 use Prim.Native.Nat.{ℕ, _+_, _-_, _*_, _^_, _≤_, _<_}
 use native.Mathlib.Omega.{arith}

@@ -1,5 +1,4 @@
 -- Only inner contracts cite this: the ranges of the latitude factors: stated once, kept by every function, so that no product or sum leaves 64 bits. And what the code's struct stands for.
--- Assumes nothing.
 use Prim.Native.Nat.{ℕ, _^_, _≤_}
 use lib.IntN.{natAbs}
 use Rattle.month_satellites.specs.Latitude as document

@@ -1,5 +1,4 @@
 -- Only inner contracts cite this: the ranges of what a main constituent's pair is made of: stated once, kept by every function, so that no product or sum leaves 64 bits.
--- Assumes nothing.
 use Prim.Native.Nat.{ℕ, _^_, _≤_, _<_}
 use lib.IntN.{natAbs}
 use Rattle.angles.specs.Ticks.{turn}

@@ -1,5 +1,4 @@
 -- Only inner contracts cite this: what the code's structs stand for.
--- Assumes nothing.
 use Prim.Native.Nat.{ℕ}
 use mathlib.Core.List.{List, [], _∷_}
 use Rattle.table.specs.Table.{markOf, Satellite}

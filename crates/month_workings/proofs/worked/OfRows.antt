@@ -13,7 +13,7 @@ use Rattle.table.specs.declared.definitions.Found.{Found}
 use Rattle.table.specs.declared.definitions.Found.the-variants as found
 use Rattle.month_arguments.specs.Longitudes.{Longitudes, nodal}
 use Rattle.month_arguments.specs.Arguments as arguments
-use Rattle.month_arguments.specs.inner.Rows.{rowArgument}
+use Rattle.month_arguments.specs.inner.Rows.{rowArgument, argumentsIn}
 use Rattle.month_arguments.proofs.arguments.Views.{main-row, mains-rows}
 use Rattle.month_satellites.specs.Latitude.{Factors}
 use Rattle.month_pairs.specs.Pairs.{Corrected, pair, one}
@@ -26,35 +26,35 @@ use Rattle.month_workings.specs.Worked.{argumentOf, correctionOf}
 use Rattle.month_workings.specs.inner.View.{mainsOf, shallowsOf, Ready, argumentFrom, pairFrom, FromMains, IsWorked}
 use Rattle.month_workings.specs.declared.worked.Worked.{Worked}
 
-module _ (g : Factors) (l : Longitudes) (maincards : List ℕ) (mainangles satelliteangles : List ℤ) (satelliteratios : List ℕ) (mains : ℕ) (shallowcards : List ℕ) (coefficients : List ℤ) (vs : List ℕ) (xs ys : List ℤ) where
+module _ (g : Factors) (l : Longitudes) (maincards : List ℕ) (mainangles satelliteangles : List ℤ) (satelliteratios : List ℕ) (mains : ℕ) (shallowcards : List ℕ) (coefficients : List ℤ) (kept : List ℤ) where
   -- V and the pair of what a row stands for
   abbrev meant : Found → Definition
   meant = definitionOf (mainOf maincards mainangles satelliteangles satelliteratios) (shallowOf shallowcards coefficients)
 
   abbrev IsReady : Found → Type 0
-  IsReady r = Ready (argumentAt l mainangles mains) (correctedAt g (nodal l) maincards satelliteangles satelliteratios mains) shallowcards r vs xs ys
+  IsReady r = Ready (argumentAt l mainangles mains) (correctedAt g (nodal l) maincards satelliteangles satelliteratios mains) shallowcards r kept
 
-  argument-is : (r : Found) → Within mains r → IsReady r → argumentFrom vs shallowcards coefficients r ≡ argumentOf l (mainsOf maincards mainangles satelliteangles satelliteratios mains) (meant r)
+  argument-is : (r : Found) → Within mains r → IsReady r → argumentFrom (argumentsIn kept) shallowcards coefficients r ≡ argumentOf l (mainsOf maincards mainangles satelliteangles satelliteratios mains) (meant r)
   unfolding argumentOf
   argument-is (found.Main k) h w =
       w .kept .arguments k (w .has) ∙ sym (entry-at 0 (rowArgument l mainangles) mains k h) ∙ main-row l maincards mainangles satelliteangles satelliteratios k
   argument-is (found.Shallow k) h w =
-      shallow-argument-is (listed (rowArgument l mainangles) 0 mains) (listed (rowCorrected g (nodal l) maincards satelliteangles satelliteratios) 0 mains) shallowcards coefficients k vs xs ys (record { kept = w .kept; has = w .has })
+      shallow-argument-is (listed (rowArgument l mainangles) 0 mains) (listed (rowCorrected g (nodal l) maincards satelliteangles satelliteratios) 0 mains) shallowcards coefficients k kept (record { kept = w .kept; has = w .has })
       ∙ ap (λ all. arguments.fromParts all (shallowOf shallowcards coefficients k)) (sym (mains-rows l maincards mainangles satelliteangles satelliteratios mains))
   argument-is found.Nothing h w = refl
 
-  correction-is : (r : Found) → Within mains r → IsReady r → pairFrom (pairsOf xs ys) shallowcards coefficients r ≡ correctionOf g l (mainsOf maincards mainangles satelliteangles satelliteratios mains) (meant r)
+  correction-is : (r : Found) → Within mains r → IsReady r → pairFrom (pairsOf kept) shallowcards coefficients r ≡ correctionOf g l (mainsOf maincards mainangles satelliteangles satelliteratios mains) (meant r)
   unfolding correctionOf
   correction-is (found.Main k) h w =
       w .kept .pairs k (w .has) ∙ sym (entry-at (pair one) (rowCorrected g (nodal l) maincards satelliteangles satelliteratios) mains k h)
       ∙ sym (main-of-row g (nodal l) maincards mainangles satelliteangles satelliteratios k)
   correction-is (found.Shallow k) h w =
-      shallow-pair-is (listed (rowArgument l mainangles) 0 mains) (listed (rowCorrected g (nodal l) maincards satelliteangles satelliteratios) 0 mains) shallowcards coefficients k vs xs ys (record { kept = w .kept; has = w .has })
+      shallow-pair-is (listed (rowArgument l mainangles) 0 mains) (listed (rowCorrected g (nodal l) maincards satelliteangles satelliteratios) 0 mains) shallowcards coefficients k kept (record { kept = w .kept; has = w .has })
       ∙ ap (λ all. pairs.fromParts all (shallowOf shallowcards coefficients k)) (sym (mains-of-rows g (nodal l) maincards mainangles satelliteangles satelliteratios mains))
   correction-is found.Nothing h w = refl
 
   -- and so of what is found at a place
-  pub worked-out : (shallows place : ℕ) (r : Found) (w : Worked) → Finds maincards mains shallowcards shallows place r → IsReady r → FromMains vs xs ys shallowcards coefficients r w
+  pub worked-out : (shallows place : ℕ) (r : Found) (w : Worked) → Finds maincards mains shallowcards shallows place r → IsReady r → FromMains kept shallowcards coefficients r w
       → IsWorked g l (mainsOf maincards mainangles satelliteangles satelliteratios mains) (shallowsOf shallowcards coefficients shallows) place w
   worked-out shallows place r w f ready is =
       let d = f .definition mainangles satelliteangles satelliteratios coefficients in
@@ -65,12 +65,12 @@ module _ (g : Factors) (l : Longitudes) (maincards : List ℕ) (mainangles satel
       }
 
 -- the mains of what is found are worked out, in each case
-module _ (argument : ℕ → ℕ) (corrected : ℕ → Corrected) (shallowcards : List ℕ) (r : Found) (before vs : List ℕ) (xs ys : List ℤ) where
-  pub ready-main : (k : ℕ) → r ≡ found.Main k → WithMain argument corrected k before vs xs ys → Ready argument corrected shallowcards r vs xs ys
-  ready-main k e w = subst (λ f. Ready argument corrected shallowcards f vs xs ys) (sym e) (record { kept = w .kept; has = w .has })
+module _ (argument : ℕ → ℕ) (corrected : ℕ → Corrected) (shallowcards : List ℕ) (r : Found) (before kept : List ℤ) where
+  pub ready-main : (k : ℕ) → r ≡ found.Main k → WithMain argument corrected k before kept → Ready argument corrected shallowcards r kept
+  ready-main k e w = subst (λ f. Ready argument corrected shallowcards f kept) (sym e) (record { kept = w .kept; has = w .has })
 
-  pub ready-shallow : (k : ℕ) → r ≡ found.Shallow k → WithParts argument corrected (naturals 6 shallowcards k) vs xs ys → Ready argument corrected shallowcards r vs xs ys
-  ready-shallow k e w = subst (λ f. Ready argument corrected shallowcards f vs xs ys) (sym e) (record { kept = w .kept; has = w .has })
+  pub ready-shallow : (k : ℕ) → r ≡ found.Shallow k → WithParts argument corrected (naturals 6 shallowcards k) kept → Ready argument corrected shallowcards r kept
+  ready-shallow k e w = subst (λ f. Ready argument corrected shallowcards f kept) (sym e) (record { kept = w .kept; has = w .has })
 
-  pub ready-nothing : r ≡ found.Nothing → Kept argument corrected vs xs ys → Ready argument corrected shallowcards r vs xs ys
-  ready-nothing e w = subst (λ f. Ready argument corrected shallowcards f vs xs ys) (sym e) (record { kept = w; has = tt })
+  pub ready-nothing : r ≡ found.Nothing → Kept argument corrected kept → Ready argument corrected shallowcards r kept
+  ready-nothing e w = subst (λ f. Ready argument corrected shallowcards f kept) (sym e) (record { kept = w; has = tt })

@@ -9,6 +9,7 @@ use Rattle.angles.specs.Floor.{modTurn}
 use Rattle.table.specs.inner.View.{listed, partOf, naturals, integers, shallowOf}
 use Rattle.month_arguments.specs.Arguments as arguments
 use Rattle.month_arguments.specs.Arguments.{sumOfParts}
+use Rattle.month_arguments.specs.inner.Rows.{argumentsIn}
 use Rattle.month_satellites.specs.Satellites.{Pair}
 use Rattle.month_pairs.specs.Pairs.{Corrected, tooLarge, pair, one, andThen}
 use Rattle.month_pairs.specs.Shallow as nodal
@@ -43,16 +44,16 @@ module _ (card : List ℕ) (coefficients : List ℤ) where
 
 -- ---- a shallow constituent
 
-module _ (all : List ℕ) (pairs : List Corrected) (cards : List ℕ) (coefficients : List ℤ) (row : ℕ) (vs : List ℕ) (xs ys : List ℤ)
-    (w : WithParts (λ k. getD all k 0) (λ k. getD pairs k (pair one)) (naturals 6 cards row) vs xs ys) where
-  pub shallow-argument-is : arguments.fromParts vs (shallowOf cards coefficients row) ≡ arguments.fromParts all (shallowOf cards coefficients row)
+module _ (all : List ℕ) (pairs : List Corrected) (cards : List ℕ) (coefficients : List ℤ) (row : ℕ) (kept : List ℤ)
+    (w : WithParts (λ k. getD all k 0) (λ k. getD pairs k (pair one)) (naturals 6 cards row) kept) where
+  pub shallow-argument-is : arguments.fromParts (argumentsIn kept) (shallowOf cards coefficients row) ≡ arguments.fromParts all (shallowOf cards coefficients row)
   unfolding arguments.fromParts shallowOf
   shallow-argument-is =
-      ap modTurn (sums-alike (naturals 6 cards row) (integers 4 coefficients row) vs all 0 (getD (naturals 6 cards row) 1 0)
+      ap modTurn (sums-alike (naturals 6 cards row) (integers 4 coefficients row) (argumentsIn kept) all 0 (getD (naturals 6 cards row) 1 0)
       (λ i a b. w .kept .arguments (getD (naturals 6 cards row) (2 + i) 0) (w .has i (omega arith))))
 
-  pub shallow-pair-is : nodal.fromParts (pairsOf xs ys) (shallowOf cards coefficients row) ≡ nodal.fromParts pairs (shallowOf cards coefficients row)
+  pub shallow-pair-is : nodal.fromParts (pairsOf kept) (shallowOf cards coefficients row) ≡ nodal.fromParts pairs (shallowOf cards coefficients row)
   unfolding nodal.fromParts shallowOf
   shallow-pair-is =
-      products-alike (naturals 6 cards row) (integers 4 coefficients row) (pairsOf xs ys) pairs 0 (getD (naturals 6 cards row) 1 0)
+      products-alike (naturals 6 cards row) (integers 4 coefficients row) (pairsOf kept) pairs 0 (getD (naturals 6 cards row) 1 0)
       (λ i a b. w .kept .pairs (getD (naturals 6 cards row) (2 + i) 0) (w .has i (omega arith))) one

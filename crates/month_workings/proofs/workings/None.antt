@@ -7,7 +7,7 @@ use native.Mathlib.Omega.{arith}
 use native.Mathlib.Nat.{lt-irrefl, zero-mul}
 use borrow.Author.Tests.{ltb-true, ltb-false}
 use lib.Dec.{ltb}
-use lib.IntN.{ℤ, pos, zero-*ℤ}
+use lib.IntN.{ℤ, pos, natAbs, zero-*ℤ}
 use lib.ListN.{length, getD, replicate, getD-replicate, length-replicate, List·getD-eq-default}
 use Rattle.angles.specs.Ticks.{turn, centicycle}
 use Rattle.angles.specs.Floor.{modTurn}
@@ -15,12 +15,12 @@ use Rattle.table.specs.inner.View.{listed, rowOf, naturals, integers}
 use Rattle.table.proofs.entries.Beyond.{past-rows, past-entries, entry-at}
 use Rattle.month_arguments.specs.Longitudes.{Longitudes, times}
 use Rattle.month_arguments.specs.Arguments.{astronomical, argument}
-use Rattle.month_arguments.specs.inner.Rows.{rowArgument}
+use Rattle.month_arguments.specs.inner.Rows.{rowArgument, argumentsIn}
 use Rattle.month_satellites.specs.Latitude.{Factors}
 use Rattle.month_satellites.specs.Satellites.{sumOver, mainPair}
 use Rattle.month_pairs.specs.Pairs.{Corrected, checked, pair, one}
 use Rattle.month_pairs.specs.inner.Rows.{pairsOf, rowSatellites, rowCorrected}
-use Rattle.month_workings.specs.inner.Kept.{argumentAt, correctedAt, Has, Kept}
+use Rattle.month_workings.specs.inner.Kept.{argumentAt, correctedAt, Has, noneKept, Kept}
 
 -- V of a row past the array
 row-past : (l : Longitudes) (angles : List ℤ) (k : ℕ) → length angles ≤ 7 * k → rowArgument l angles k ≡ 0
@@ -47,19 +47,22 @@ from-64 none f n h k far = by (ltb k n) refl
     by false e = sym (past-entries none f n k (ltb-false k n e))
 
 module _ (l : Longitudes) (angles : List ℤ) (g : Factors) (longitudes cards : List ℕ) (satelliteangles : List ℤ) (ratios : List ℕ) (mains : ℕ) (a : length angles ≡ 448) (b : length cards ≡ 192) where
-  far-only : (k : ℕ) → Has (replicate 64 turn) k → 64 ≤ k
+  far-only : (k : ℕ) → Has noneKept k → 64 ≤ k
   far-only k h = by (ltb k 64) refl
     where
       by : (t : Bool) → ltb k 64 ≡ t → 64 ≤ k
-      by true e = absurd (lt-irrefl turn (subst (λ (n : ℕ). n < turn) (getD-replicate 64 k turn 0 (ltb-true k 64 e)) h))
+      by true e =
+          let inside : k < 64 = ltb-true k 64 e in
+          let v : getD (argumentsIn noneKept) k 0 ≡ turn = sym (entry-at 0 (λ j. natAbs (getD noneKept (3 * j) (pos 0))) 64 k inside) ∙ ap natAbs (getD-replicate 192 (3 * k) (pos turn) (pos 0) (omega (arith, inside))) in
+          absurd (lt-irrefl turn (subst (λ (n : ℕ). n < turn) v h))
       by false e = ltb-false k 64 e
 
-  pub none-kept : Kept (argumentAt l angles mains) (correctedAt g longitudes cards satelliteangles ratios mains) (replicate 64 turn) (replicate 64 (pos 0)) (replicate 64 (pos 0))
+  pub none-kept : Kept (argumentAt l angles mains) (correctedAt g longitudes cards satelliteangles ratios mains) noneKept
   none-kept =
       record {
-        room = (refl, refl, refl);
+        room = length-replicate 192 (pos turn);
         arguments = λ k h.
-            List·getD-eq-default (replicate 64 turn) 0 (far-only k h)
+            sym (past-entries 0 (λ j. natAbs (getD noneKept (3 * j) (pos 0))) 64 k (far-only k h))
             ∙ sym (from-64 0 (rowArgument l angles) mains (λ i f. row-past l angles i (omega arith)) k (far-only k h));
         pairs = λ k h.
             sym (past-entries (pair one) _ 64 k (far-only k h))

@@ -1,13 +1,13 @@
--- Only inner contracts cite this: what is kept of the mains that are worked out: their V, and their sums X and Y. A V of T or more stands for a main that is not yet.
+-- Only inner contracts cite this: what is kept of the mains that are worked out, each in a row of its V and its sums X and Y. A V of T or more stands for a main that is not yet.
 use Prim.Native.Nat.{ℕ, _+_, _<_}
 use mathlib.Core.Path.{_≡_}
 use mathlib.Core.List.{List}
-use lib.IntN.{ℤ}
-use lib.ListN.{length, getD}
+use lib.IntN.{ℤ, pos}
+use lib.ListN.{length, getD, replicate}
 use Rattle.angles.specs.Ticks.{turn}
 use Rattle.table.specs.inner.View.{listed}
 use Rattle.month_arguments.specs.Longitudes.{Longitudes}
-use Rattle.month_arguments.specs.inner.Rows.{rowArgument}
+use Rattle.month_arguments.specs.inner.Rows.{rowArgument, argumentsIn}
 use Rattle.month_satellites.specs.Latitude.{Factors}
 use Rattle.month_pairs.specs.Pairs.{Corrected, pair, one}
 use Rattle.month_pairs.specs.inner.Rows.{pairsOf, rowCorrected}
@@ -21,22 +21,26 @@ abbrev pub correctedAt : Factors → List ℕ → List ℕ → List ℤ → List
 correctedAt g longitudes cards angles ratios mains k = getD (listed (rowCorrected g longitudes cards angles ratios) 0 mains) k (pair one)
 
 -- main k is worked out
-abbrev pub Has : List ℕ → ℕ → Type 0
-Has vs k = getD vs k 0 < turn
+abbrev pub Has : List ℤ → ℕ → Type 0
+Has kept k = getD (argumentsIn kept) k 0 < turn
+
+-- no main is: every number is T
+abbrev pub noneKept : List ℤ
+noneKept = replicate 192 (pos turn)
 
 -- V and the pair of every main that is worked out are its own
-pub record Kept (argument : ℕ → ℕ) (corrected : ℕ → Corrected) (vs : List ℕ) (xs ys : List ℤ) : Type 0 where
-  pub room : (length vs ≡ 64) × (length xs ≡ 64) × (length ys ≡ 64)
-  pub arguments : (k : ℕ) → Has vs k → getD vs k 0 ≡ argument k
-  pub pairs : (k : ℕ) → Has vs k → getD (pairsOf xs ys) k (pair one) ≡ corrected k
+pub record Kept (argument : ℕ → ℕ) (corrected : ℕ → Corrected) (kept : List ℤ) : Type 0 where
+  pub room : length kept ≡ 192
+  pub arguments : (k : ℕ) → Has kept k → getD (argumentsIn kept) k 0 ≡ argument k
+  pub pairs : (k : ℕ) → Has kept k → getD (pairsOf kept) k (pair one) ≡ corrected k
 
 -- main k is worked out too, and those before still are
-pub record WithMain (argument : ℕ → ℕ) (corrected : ℕ → Corrected) (k : ℕ) (before vs : List ℕ) (xs ys : List ℤ) : Type 0 where
-  pub kept : Kept argument corrected vs xs ys
-  pub has : Has vs k
-  pub still : (j : ℕ) → Has before j → Has vs j
+pub record WithMain (argument : ℕ → ℕ) (corrected : ℕ → Corrected) (k : ℕ) (before after : List ℤ) : Type 0 where
+  pub kept : Kept argument corrected after
+  pub has : Has after k
+  pub still : (j : ℕ) → Has before j → Has after j
 
 -- the mains of a shallow constituent's parts are worked out, from its row of cards
-pub record WithParts (argument : ℕ → ℕ) (corrected : ℕ → Corrected) (card vs : List ℕ) (xs ys : List ℤ) : Type 0 where
-  pub kept : Kept argument corrected vs xs ys
-  pub has : (j : ℕ) → j < getD card 1 0 → Has vs (getD card (2 + j) 0)
+pub record WithParts (argument : ℕ → ℕ) (corrected : ℕ → Corrected) (card : List ℕ) (after : List ℤ) : Type 0 where
+  pub kept : Kept argument corrected after
+  pub has : (j : ℕ) → j < getD card 1 0 → Has after (getD card (2 + j) 0)

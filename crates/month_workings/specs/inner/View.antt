@@ -11,6 +11,7 @@ use Rattle.table.specs.declared.definitions.Found.{Found}
 use Rattle.table.specs.declared.definitions.Found.the-variants as found
 use Rattle.month_arguments.specs.Longitudes.{Longitudes}
 use Rattle.month_arguments.specs.Arguments as arguments
+use Rattle.month_arguments.specs.inner.Rows.{argumentsIn}
 use Rattle.month_satellites.specs.Latitude.{Factors}
 use Rattle.month_pairs.specs.Pairs.{Corrected, pair, one}
 use Rattle.month_pairs.specs.inner.Ranges.{Small}
@@ -28,14 +29,14 @@ abbrev pub shallowsOf : List ℕ → List ℤ → ℕ → List Shallow
 shallowsOf cards coefficients n = listed (shallowOf cards coefficients) 0 n
 
 -- the mains that a constituent needs are worked out
-abbrev pub HasMains : List ℕ → Found → List ℕ → Type 0
-HasMains shallowcards (found.Main k) vs = Has vs k
-HasMains shallowcards (found.Shallow k) vs = (j : ℕ) → j < getD (naturals 6 shallowcards k) 1 0 → Has vs (getD (naturals 6 shallowcards k) (2 + j) 0)
-HasMains shallowcards found.Nothing vs = Unit
+abbrev pub HasMains : List ℕ → Found → List ℤ → Type 0
+HasMains shallowcards (found.Main k) kept = Has kept k
+HasMains shallowcards (found.Shallow k) kept = (j : ℕ) → j < getD (naturals 6 shallowcards k) 1 0 → Has kept (getD (naturals 6 shallowcards k) (2 + j) 0)
+HasMains shallowcards found.Nothing kept = Unit
 
-pub record Ready (argument : ℕ → ℕ) (corrected : ℕ → Corrected) (shallowcards : List ℕ) (r : Found) (vs : List ℕ) (xs ys : List ℤ) : Type 0 where
-  pub kept : Kept argument corrected vs xs ys
-  pub has : HasMains shallowcards r vs
+pub record Ready (argument : ℕ → ℕ) (corrected : ℕ → Corrected) (shallowcards : List ℕ) (r : Found) (all : List ℤ) : Type 0 where
+  pub kept : Kept argument corrected all
+  pub has : HasMains shallowcards r all
 
 -- V of a constituent, from the mains' V
 abbrev pub argumentFrom : List ℕ → List ℕ → List ℤ → Found → ℕ
@@ -49,9 +50,9 @@ pairFrom pairs shallowcards coefficients (found.Main k) = getD pairs k (pair one
 pairFrom pairs shallowcards coefficients (found.Shallow k) = shallow.fromParts pairs (shallowOf shallowcards coefficients k)
 pairFrom pairs shallowcards coefficients found.Nothing = pair (record { x = pos 0; y = pos 0 })
 
-pub record FromMains (vs : List ℕ) (xs ys : List ℤ) (shallowcards : List ℕ) (coefficients : List ℤ) (r : Found) (w : Worked) : Type 0 where
-  pub argument : w .argument ≡ argumentFrom vs shallowcards coefficients r
-  pub correction : correctedOf (w .corrected) ≡ pairFrom (pairsOf xs ys) shallowcards coefficients r
+pub record FromMains (kept : List ℤ) (shallowcards : List ℕ) (coefficients : List ℤ) (r : Found) (w : Worked) : Type 0 where
+  pub argument : w .argument ≡ argumentFrom (argumentsIn kept) shallowcards coefficients r
+  pub correction : correctedOf (w .corrected) ≡ pairFrom (pairsOf kept) shallowcards coefficients r
   pub small : Small (w .corrected)
 
 -- what a record's constituent needs of the table: V, and the pair or refusal 11, of what stands at its place

@@ -11,16 +11,17 @@ use Rattle.angles.specs.Floor.{modTurn}
 use Rattle.angles.proofs.Angles.{below-turn}
 use Rattle.table.specs.inner.View.{listed, partOf, naturals, integers, shallowOf}
 use Rattle.month_arguments.specs.Arguments.{sumOfParts, fromParts}
+use Rattle.month_arguments.specs.inner.Rows.{argumentsIn}
 use Rattle.month_arguments.proofs.arguments.Chain.{parts-more, parts-none, parts-all}
 use borrow.Author.Needs.{needs}
 use Rattle.month_arguments.proofs.arguments.shallow_argument.Statement.{statement}
 use Rattle.month_arguments.proofs.arguments.shallow_argument.Tie as tie
 
 abbrev Inv-loop : tie.InvT-loop
-Inv-loop vs cards coefficients row parts v₀ part₀ v part = (modTurn (pos v +ℤ sumOfParts vs (listed (partOf (naturals 6 cards row) (integers 4 coefficients row)) part (parts - part))) ≡ fromParts vs (shallowOf cards coefficients row)) × (v < turn) × (parts < 65536)
+Inv-loop kept cards coefficients row parts v₀ part₀ v part = (modTurn (pos v +ℤ sumOfParts (argumentsIn kept) (listed (partOf (naturals 6 cards row) (integers 4 coefficients row)) part (parts - part))) ≡ fromParts (argumentsIn kept) (shallowOf cards coefficients row)) × (v < turn) × (parts < 65536)
 
 abbrev μ-loop : tie.MeasureT-loop
-μ-loop vs cards coefficients row parts v₀ part₀ v part = parts - part
+μ-loop kept cards coefficients row parts v₀ part₀ v part = parts - part
 
 natural-at-requires : tie.Need-natural-at-requires Inv-loop μ-loop
 natural-at-requires c κs = search needs
@@ -31,7 +32,7 @@ cast-parts c = search needs
 loop-holds : tie.Need-loop-holds Inv-loop μ-loop
 loop-holds c =
     let a = c .before .before .args in
-    (parts-all (a .vs .now) (a .cards .now) (a .coefficients .now) (a .row) (c .natural-at .result) (c .natural-at .ensures), search needs, search needs)
+    (parts-all (argumentsIn (a .kept .now)) (a .cards .now) (a .coefficients .now) (a .row) (c .natural-at .result) (c .natural-at .ensures), search needs, search needs)
 
 add-natural-at : tie.Need-add-natural-at Inv-loop μ-loop
 add-natural-at c = search needs
@@ -45,8 +46,8 @@ cast-main c = search needs
 integer-at-requires : tie.Need-integer-at-requires Inv-loop μ-loop
 integer-at-requires c κs = search needs
 
-at-u64-requires : tie.Need-at-u64-requires Inv-loop μ-loop
-at-u64-requires c κs = search needs
+argument-at-requires : tie.Need-argument-at-requires Inv-loop μ-loop
+argument-at-requires c κs = search needs
 
 advanced-requires : tie.Need-advanced-requires Inv-loop μ-loop
 advanced-requires c κs = search needs
@@ -59,20 +60,20 @@ loop-less c = search needs
 
 loop-again : tie.Need-loop-again Inv-loop μ-loop
 loop-again c =
-    let a = c .before .before .before .before .before .before .before .before .before .before .before .args in
-    let s = c .before .before .before .before .before .before .before .before .loop in
+    let a = c .before .before .before .before .before .before .before .before .before .before .args in
+    let s = c .before .before .before .before .before .before .before .loop in
     let card = naturals 6 (a .cards .now) (a .row) in
     let coefficients = integers 4 (a .coefficients .now) (a .row) in
-    let f : SFits w8 (c .before .before .before .integer-at .result) = search needs in
-    let e : c .advanced .result ≡ modTurn (pos (s .v) +ℤ getD coefficients (s .part) (pos 0) *ℤ pos (getD (a .vs .now) (getD card (2 + s .part) 0) 0)) =
-    rw (toZ-ofZ w8 (c .before .before .before .integer-at .result) f, c .before .before .before .integer-at .ensures .0, c .before .at-u64 .ensures, c .before .before .before .before .before .natural-at2 .ensures) at (c .advanced .ensures) in
-    (ap (λ (n : ℕ). modTurn (pos n +ℤ sumOfParts (a .vs .now) (listed (partOf card coefficients) (s .part + 1) (c .before .before .before .before .before .before .before .before .before .natural-at .result - (s .part + 1))))) e ∙ sym (parts-more (a .vs .now) card coefficients (s .v) (s .part) (c .before .before .before .before .before .before .before .before .before .natural-at .result) (c .before .before .before .before .before .before .before .loop-test .taken)) ∙ s .inv .0, subst (λ (n : ℕ). n < turn) (sym e) (below-turn (pos (s .v) +ℤ getD coefficients (s .part) (pos 0) *ℤ pos (getD (a .vs .now) (getD card (2 + s .part) 0) 0))), s .inv .2)
+    let f : SFits w8 (c .before .before .integer-at .result) = search needs in
+    let e : c .advanced .result ≡ modTurn (pos (s .v) +ℤ getD coefficients (s .part) (pos 0) *ℤ pos (getD (argumentsIn (a .kept .now)) (getD card (2 + s .part) 0) 0)) =
+    rw (toZ-ofZ w8 (c .before .before .integer-at .result) f, c .before .before .integer-at .ensures .0, c .before .argument-at .ensures, c .before .before .before .before .natural-at2 .ensures) at (c .advanced .ensures) in
+    (ap (λ (n : ℕ). modTurn (pos n +ℤ sumOfParts (argumentsIn (a .kept .now)) (listed (partOf card coefficients) (s .part + 1) (c .before .before .before .before .before .before .before .before .natural-at .result - (s .part + 1))))) e ∙ sym (parts-more (argumentsIn (a .kept .now)) card coefficients (s .v) (s .part) (c .before .before .before .before .before .before .before .before .natural-at .result) (c .before .before .before .before .before .before .loop-test .taken)) ∙ s .inv .0, subst (λ (n : ℕ). n < turn) (sym e) (below-turn (pos (s .v) +ℤ getD coefficients (s .part) (pos 0) *ℤ pos (getD (argumentsIn (a .kept .now)) (getD card (2 + s .part) 0) 0))), s .inv .2)
 
 returns : tie.Need-returns Inv-loop μ-loop
 returns c =
     let a = c .before .before .before .before .args in
     let s = c .before .loop in
-    sym (parts-none (a .vs .now) (naturals 6 (a .cards .now) (a .row)) (integers 4 (a .coefficients .now) (a .row)) (s .v) (s .part) (c .before .before .natural-at .result) (c .loop-test .left) (s .inv .1)) ∙ s .inv .0
+    sym (parts-none (argumentsIn (a .kept .now)) (naturals 6 (a .cards .now) (a .row)) (integers 4 (a .coefficients .now) (a .row)) (s .v) (s .part) (c .before .before .natural-at .result) (c .loop-test .left) (s .inv .1)) ∙ s .inv .0
 
 pub shallow-argument-spec : {M : Type 1} → statement M
 shallow-argument-spec =
@@ -87,7 +88,7 @@ shallow-argument-spec =
     natural-at-requires-2
     cast-main
     integer-at-requires
-    at-u64-requires
+    argument-at-requires
     advanced-requires
     add-part
     loop-less

@@ -1,7 +1,6 @@
 -- `month_pairs::nodal::pair_at` meets its contract: an entry of the list of pairs, or the default past its end.
--- Assumes nothing.
 use mathlib.Core.Path.{_≡_, ap₂, _∙_}
-use Prim.Native.Nat.{ℕ}
+use Prim.Native.Nat.{ℕ, _+_, _*_}
 use lib.Dec.{lit≤}
 use lib.IntN.{ℤ, pos}
 use lib.ListN.{getD}
@@ -18,19 +17,31 @@ use Rattle.month_pairs.proofs.nodal.pair_at.Tie as tie
 returns : tie.Need-returns
 returns c =
     let a = c .before .args in
-    (past-entries (pair one) (λ k. checked (sumAt (a .xs .now) (a .ys .now) k)) 64 (a .k) (c .if1 .taken), record { x = lit≤ tt; y = lit≤ tt })
+    (past-entries (pair one) (λ k. checked (sumAt (a .kept .now) k)) 64 (a .k) (c .if1 .taken), record { x = lit≤ tt; y = lit≤ tt })
 
-mul-t6 : tie.Need-mul-t6
-mul-t6 c = search needs
+mul-x : tie.Need-mul-x
+mul-x c = search needs
 
-element-copy-out-t9 : tie.Need-element-copy-out-t9
-element-copy-out-t9 c = search needs
+add-x : tie.Need-add-x
+add-x c = search needs
 
-mul-t10 : tie.Need-mul-t10
-mul-t10 c = search needs
+mul-x-2 : tie.Need-mul-x-2
+mul-x-2 c = search needs
 
-element-copy-out-t13 : tie.Need-element-copy-out-t13
-element-copy-out-t13 c = search needs
+element-copy-out-x : tie.Need-element-copy-out-x
+element-copy-out-x c = search needs
+
+mul-y : tie.Need-mul-y
+mul-y c = search needs
+
+add-y : tie.Need-add-y
+add-y c = search needs
+
+mul-y-2 : tie.Need-mul-y-2
+mul-y-2 c = search needs
+
+element-copy-out-y : tie.Need-element-copy-out-y
+element-copy-out-y c = search needs
 
 check-requires : tie.Need-check-requires
 check-requires c κs = search needs
@@ -38,18 +49,22 @@ check-requires c κs = search needs
 returns-2 : tie.Need-returns-2
 returns-2 c =
     let a = c .before .before .before .before .args in
-    let x : SFits w64 (getD (a .xs .now) (a .k) (pos 0)) = search needs in
-    let y : SFits w64 (getD (a .ys .now) (a .k) (pos 0)) = search needs in
-    (rw (toZ-ofZ w64 (getD (a .xs .now) (a .k) (pos 0)) x, toZ-ofZ w64 (getD (a .ys .now) (a .k) (pos 0)) y) at (c .check .ensures .0) ∙ entry-at (pair one) (λ k. checked (sumAt (a .xs .now) (a .ys .now) k)) 64 (a .k) (c .before .before .before .if1 .left), c .check .ensures .1)
+    let x : SFits w64 (getD (a .kept .now) (3 * a .k + 1) (pos 0)) = search needs in
+    let y : SFits w64 (getD (a .kept .now) (3 * a .k + 2) (pos 0)) = search needs in
+    (rw (toZ-ofZ w64 (getD (a .kept .now) (3 * a .k + 1) (pos 0)) x, toZ-ofZ w64 (getD (a .kept .now) (3 * a .k + 2) (pos 0)) y) at (c .check .ensures .0) ∙ entry-at (pair one) (λ k. checked (sumAt (a .kept .now) k)) 64 (a .k) (c .before .before .before .if1 .left), c .check .ensures .1)
 
 pub pair-at-spec : {M : Type 1} → statement M
 pair-at-spec =
     tie.close
     (tie.spec
     returns
-    mul-t6
-    element-copy-out-t9
-    mul-t10
-    element-copy-out-t13
+    mul-x
+    add-x
+    mul-x-2
+    element-copy-out-x
+    mul-y
+    add-y
+    mul-y-2
+    element-copy-out-y
     check-requires
     returns-2)

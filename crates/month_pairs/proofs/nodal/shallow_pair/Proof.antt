@@ -1,5 +1,4 @@
 -- `month_pairs::nodal::shallow_pair` meets its contract. The invariant: the parts that are left, from the pair so far, give what all give from (2^20, 0) (`Multiplying`).
--- Assumes nothing.
 use mathlib.Core.Path.{_≡_, sym, _∙_, ap, subst}
 use Prim.Native.Nat.{_-_, _<_, _^_}
 use native.Mathlib.Omega.{arith}
@@ -19,10 +18,10 @@ use Rattle.month_pairs.proofs.nodal.shallow_pair.Statement.{statement}
 use Rattle.month_pairs.proofs.nodal.shallow_pair.Tie as tie
 
 abbrev Inv-loop : tie.InvT-loop
-Inv-loop xs ys cards coefficients k count p₀ j₀ p j = (timesParts (pairsOf xs ys) (pairOf p) (listed (partOf (naturals 6 cards k) (integers 4 coefficients k)) j (count - j)) ≡ fromParts (pairsOf xs ys) (shallowOf cards coefficients k)) × Sized (2 ^ 22) p × (count < 2 ^ 16)
+Inv-loop kept cards coefficients k count p₀ j₀ p j = (timesParts (pairsOf kept) (pairOf p) (listed (partOf (naturals 6 cards k) (integers 4 coefficients k)) j (count - j)) ≡ fromParts (pairsOf kept) (shallowOf cards coefficients k)) × Sized (2 ^ 22) p × (count < 2 ^ 16)
 
 abbrev μ-loop : tie.MeasureT-loop
-μ-loop xs ys cards coefficients k count p₀ j₀ p j = count - j
+μ-loop kept cards coefficients k count p₀ j₀ p j = count - j
 
 natural-at-requires : tie.Need-natural-at-requires Inv-loop μ-loop
 natural-at-requires c κs = search needs
@@ -44,7 +43,7 @@ returns : tie.Need-returns Inv-loop μ-loop
 returns c =
     let s = c .before .before .before .before .loop in
     let a = c .before .before .before .before .before .before .before .before .args in (
-      parts-next (pairsOf (a .xs .now) (a .ys .now)) (partOf (naturals 6 (a .cards .now) (a .k)) (integers 4 (a .coefficients .now) (a .k)))
+      parts-next (pairsOf (a .kept .now)) (partOf (naturals 6 (a .cards .now) (a .k)) (integers 4 (a .coefficients .now) (a .k)))
           (s .j) (c .before .before .before .before .before .index .result) (pairOf (s .p)) tooLarge (c .before .before .before .loop-test .taken)
           (sym (ap correctedOf (c .enum-told .given .1)) ∙ c .before .before .times-row-part .ensures .0) ∙ s .inv .0,
       tt,
@@ -64,7 +63,7 @@ loop-again c =
     let s = c .before .before .before .before .before .loop in
     let a = c .before .before .before .before .before .before .before .before .before .args in
     let q = c .before .c .given .0 .0 in (
-      parts-next (pairsOf (a .xs .now) (a .ys .now)) (partOf (naturals 6 (a .cards .now) (a .k)) (integers 4 (a .coefficients .now) (a .k)))
+      parts-next (pairsOf (a .kept .now)) (partOf (naturals 6 (a .cards .now) (a .k)) (integers 4 (a .coefficients .now) (a .k)))
           (s .j) (c .before .before .before .before .before .before .index .result) (pairOf (s .p)) (pair (pairOf q)) (c .before .before .before .before .loop-test .taken)
           (sym (ap correctedOf (c .before .c .given .1)) ∙ c .before .before .before .times-row-part .ensures .0) ∙ s .inv .0,
       subst Small (c .before .c .given .1) (c .before .before .before .times-row-part .ensures .1),
@@ -75,7 +74,7 @@ returns-2 : tie.Need-returns-2 Inv-loop μ-loop
 returns-2 c =
     let s = c .before .loop in
     let a = c .before .before .before .before .before .args in (
-      parts-none (pairsOf (a .xs .now) (a .ys .now)) (partOf (naturals 6 (a .cards .now) (a .k)) (integers 4 (a .coefficients .now) (a .k))) (s .j) (c .before .before .index .result) (pairOf (s .p)) (c .loop-test .left) ∙ s .inv .0,
+      parts-none (pairsOf (a .kept .now)) (partOf (naturals 6 (a .cards .now) (a .k)) (integers 4 (a .coefficients .now) (a .k))) (s .j) (c .before .before .index .result) (pairOf (s .p)) (c .loop-test .left) ∙ s .inv .0,
       s .inv .1,
     )
 

@@ -1,5 +1,4 @@
 -- `month_pairs::nodal::times_row_part` meets its contract: the main and the coefficient that part j's columns name.
--- Assumes nothing.
 use mathlib.Core.Path.{_≡_, _∙_}
 use mathlib.Core.List.{List}
 use Prim.Native.Nat.{ℕ, _+_}
@@ -48,7 +47,7 @@ returns c =
     let a = c .before .before .before .before .before .before .before .args in
     let n = c .before .integer-at in
     let f : SFits w8 (n .result) = search needs in (
-      part-is (pairsOf (a .xs .now) (a .ys .now)) (pairOf (a .p)) _ _ _ (c .before .before .before .before .index .result) (naturals 6 (a .cards .now) (a .k)) (integers 4 (a .coefficients .now) (a .k)) (a .j)
+      part-is (pairsOf (a .kept .now)) (pairOf (a .p)) _ _ _ (c .before .before .before .before .index .result) (naturals 6 (a .cards .now) (a .k)) (integers 4 (a .coefficients .now) (a .k)) (a .j)
           (c .times-part .ensures .0) (c .before .before .before .pair-at .ensures .0) (c .before .before .before .before .index .ensures .0 ∙ c .before .before .before .before .before .natural-at .ensures) (toZ-ofZ w8 (n .result) f ∙ n .ensures .0),
       c .times-part .ensures .1,
     )

@@ -1,5 +1,4 @@
 -- `month_pairs::pairs::check` meets its contract: each return is one case of refusal 11's two tests.
--- Assumes nothing.
 use mathlib.Core.Path.{_≡_, refl, _∙_, ap}
 use Prim.Native.Nat.{ℕ, _≤_, _<_, _^_}
 use native.Mathlib.Omega.{arith}

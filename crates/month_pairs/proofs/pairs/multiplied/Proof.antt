@@ -1,5 +1,4 @@
 -- `month_pairs::pairs::multiplied` meets its contract: X and Y by `new_x` and `new_y`, each from the old pair.
--- Assumes nothing.
 use mathlib.Core.Path.{_≡_, _∙_, ap₂}
 use Prim.Native.Nat.{_^_, _≤_}
 use borrow.Author.Needs.{needs}

@@ -1,5 +1,4 @@
 -- `month_pairs::pairs::times_often` meets its contract. The invariant: the multiplications that are left, from the pair so far, give what all give from the first (`Multiplying`).
--- Assumes nothing.
 use mathlib.Core.Path.{_≡_, refl, sym, _∙_, ap, subst}
 use Prim.Native.Nat.{_^_}
 use borrow.Author.Needs.{needs}

@@ -1,5 +1,4 @@
 -- `month_pairs::pairs::times_part` meets its contract: the part's pair, turned, as often as the coefficient's size.
--- Assumes nothing.
 use mathlib.Core.Path.{sym, _∙_, ap, ap₂, subst}
 use Prim.Native.Nat.{ℕ}
 use borrow.Author.Needs.{needs}

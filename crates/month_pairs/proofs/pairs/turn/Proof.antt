@@ -1,5 +1,4 @@
 -- `month_pairs::pairs::turn` meets its contract: by the coefficient's sign.
--- Assumes nothing.
 use mathlib.Core.Path.{_≡_, refl, _∙_, ap₂}
 use mathlib.Core.Bool.{true, false}
 use lib.IntN.{ℤ, pos, negℤ}

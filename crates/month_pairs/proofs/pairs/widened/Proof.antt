@@ -1,5 +1,4 @@
 -- `month_pairs::pairs::widened` meets its contract: 8 bits fit 64.
--- Assumes nothing.
 use lib.Dec.{lit<}
 use mir.Syntax.{w8}
 use Rattle.angles.proofs.Known.{read-narrow, fits, kept, says}

@@ -1,5 +1,4 @@
 -- `month_satellites::latitude::by_side` meets its contract: below zero the factor is taken from 0.
--- Assumes nothing.
 use mathlib.Core.Path.{_≡_, refl}
 use mathlib.Core.Bool.{true, false}
 use lib.IntN.{ℤ, pos, negℤ}

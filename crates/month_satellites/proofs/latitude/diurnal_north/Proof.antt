@@ -1,5 +1,4 @@
 -- `month_satellites::latitude::diurnal_north` meets its contract. What is multiplied by 36,309 does not pass 2^24 S20, so all fits, and G is within 2^23.
--- Assumes nothing.
 use Prim.Native.Nat.{ℕ, _*_, _^_, _≤_}
 use native.Mathlib.Nat.{le-refl, le-trans, mul-le-mul, mul-le-mul-right}
 use native.Mathlib.Omega.{arith}

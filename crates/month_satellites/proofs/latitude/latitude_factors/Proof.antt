@@ -1,5 +1,4 @@
 -- `month_satellites::latitude::latitude_factors` meets its contract: both factors are what `by_side` makes of the factors in the north.
--- Assumes nothing.
 use mathlib.Core.Path.{_≡_, _∙_, ap, ap₂}
 use Prim.Native.Nat.{ℕ, _^_, _≤_}
 use borrow.Author.Needs.{needs}

@@ -1,5 +1,4 @@
 -- `month_satellites::latitude::minutes` meets its contract: each return is one case of the size's `min` and `max`.
--- Assumes nothing.
 use native.Mathlib.Omega.{arith}
 use borrow.Author.Needs.{needs}
 use lib.Dec.{lit<}

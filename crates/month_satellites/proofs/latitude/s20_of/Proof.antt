@@ -1,5 +1,4 @@
 -- `month_satellites::latitude::s20_of` meets its contract. From 5 to 90 degrees the fixed sine is from 2^26 to 2^30 (`Sine`).
--- Assumes nothing.
 use mathlib.Core.Path.{_≡_, _∙_, ap}
 use Prim.Native.Nat.{ℕ, _-_, _*_, _/_, _^_, _≤_}
 use native.Mathlib.Omega.{arith}

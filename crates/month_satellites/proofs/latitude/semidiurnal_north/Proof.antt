@@ -1,5 +1,4 @@
 -- `month_satellites::latitude::semidiurnal_north` meets its contract: S20 is at most 2^20.
--- Assumes nothing.
 use Prim.Native.Nat.{_*_, _^_, _≤_}
 use native.Mathlib.Omega.{arith}
 use borrow.Author.Needs.{needs}

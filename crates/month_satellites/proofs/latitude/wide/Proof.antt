@@ -1,5 +1,4 @@
 -- `month_satellites::latitude::wide` meets its contract: 32 bits fit 64.
--- Assumes nothing.
 use lib.Dec.{lit<}
 use mir.Syntax.{w32}
 use Rattle.angles.proofs.Known.{read-narrow, fits, kept, says}

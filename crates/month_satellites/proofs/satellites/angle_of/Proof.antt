@@ -1,5 +1,4 @@
 -- `month_satellites::satellites::angle_of` meets its contract: four products, added step by step in registers, modulo T.
--- Assumes nothing.
 use mathlib.Core.Path.{_≡_, sym, _∙_, ap, ap₂}
 use Prim.Native.Nat.{ℕ, _^_, _≤_, _+_}
 use borrow.Author.Needs.{needs}

@@ -1,5 +1,4 @@
 -- `month_satellites::satellites::main_sum` meets its contract. The invariant is a running sum for X and one for Y (`Running`); what is left of the satellites falls.
--- Assumes nothing.
 use mathlib.Core.Path.{_≡_, _∙_, ap}
 use mathlib.Core.List.{List}
 use Prim.Native.Nat.{ℕ, _+_, _-_, _^_, _≤_, _<_}

@@ -1,5 +1,4 @@
 -- `month_satellites::satellites::marked_term` meets its contract: by the byte of the mark.
--- Assumes nothing.
 use mathlib.Core.Path.{_≡_, _∙_, ap₂}
 use Prim.Native.Nat.{_^_, _≤_}
 use native.Mathlib.Nat.{le-trans}

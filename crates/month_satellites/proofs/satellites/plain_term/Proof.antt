@@ -1,5 +1,4 @@
 -- `month_satellites::satellites::plain_term` meets its contract: a ratio of 32 bits times a wave within 2^30.
--- Assumes nothing.
 use Prim.Native.Nat.{_^_, ℕ, _≤_, _<_}
 use native.Mathlib.Omega.{arith}
 use native.Mathlib.Nat.{le-of-lt}

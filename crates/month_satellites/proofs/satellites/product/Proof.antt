@@ -1,5 +1,4 @@
 -- `month_satellites::satellites::product` meets its contract: 8 bits times 50 bits.
--- Assumes nothing.
 use Prim.Native.Nat.{_^_, ℕ, _<_}
 use native.Mathlib.Nat.{le-of-lt}
 use borrow.Author.Needs.{needs}

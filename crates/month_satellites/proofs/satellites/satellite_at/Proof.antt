@@ -1,5 +1,4 @@
 -- `month_satellites::satellites::satellite_at` meets its contract: row k's four angles and two ratios, number by number.
--- Assumes nothing.
 use mathlib.Core.Path.{_≡_, _∙_}
 use mathlib.Core.List.{List, [], _∷_}
 use Prim.Native.Nat.{ℕ, _+_, _*_}

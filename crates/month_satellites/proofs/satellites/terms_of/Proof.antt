@@ -1,5 +1,4 @@
 -- `month_satellites::satellites::terms_of` meets its contract: each term is the marked term of the plain term of the wave at the satellite's angle.
--- Assumes nothing.
 use mathlib.Core.Path.{_≡_, _∙_, ap}
 use mathlib.Core.List.{List}
 use Prim.Native.Nat.{ℕ, _≤_, _^_}

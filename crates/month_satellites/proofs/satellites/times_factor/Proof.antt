@@ -1,5 +1,4 @@
 -- `month_satellites::satellites::times_factor` meets its contract: a term within 2^39 times a factor within 2^23.
--- Assumes nothing.
 use Prim.Native.Nat.{_^_, _≤_}
 use borrow.Author.Needs.{needs}
 use lib.Dec.{lit≤, lit<}
