@@ -19,7 +19,7 @@ ghost use Rattle.month.specs.inner.View.{preparedOf};
 ghost use Rattle.turns.specs.inner.Answers.{returnedOf};
 ghost use Rattle.calls.specs.Calls.{searchReturns};
 ghost use Rattle.clock.specs.Returned.{turnsReturned};
-ghost use Rattle.clock.specs.inner.Parts.{accepts, withTable, withStation, withMonth};
+ghost use Rattle.clock.specs.inner.Parts.{accepts, withTable, withStation, withMonth, keptMonth};
 use calls::asked;
 use calls::settings;
 use card_file::cardfile;
@@ -304,6 +304,25 @@ pub fn series(clock: Clock, start: u32, step: u32, heights: &mut [i64]) -> Answe
     }
 }
 
+// The prepared month that the clock keeps.
+fn month_in(clock: Clock) -> Month
+    ensures { λ r. ⌜ r ≡ keptMonth clock ⌝ }
+{
+    let arguments = clock.arguments;
+    let lags = clock.lags;
+    let frequencies = clock.frequencies;
+    let ps = clock.ps;
+    let qs = clock.qs;
+    Month {
+        count: clock.count,
+        arguments: arguments,
+        lags: lags,
+        frequencies: frequencies,
+        ps: ps,
+        qs: qs,
+    }
+}
+
 // What a search says: how many turns, and whether the first is high; or 10.
 fn found_turns(found: Searched) -> TurnsAnswer
     ensures { λ r. ⌜ turnsReturned r ≡ searchReturns (returnedOf found) ⌝ }
@@ -336,14 +355,10 @@ pub fn turns(
     match asked {
         Answer::Accepted => {
             let stride = strides::station_stride(clock.table, clock.station);
+            let month = month_in(clock);
             let found = turns::turns(
                 &clock.cosines,
-                &clock.arguments,
-                &clock.lags,
-                &clock.frequencies,
-                &clock.ps,
-                &clock.qs,
-                clock.count,
+                month,
                 stride,
                 first as u64,
                 last as u64,

@@ -1,4 +1,4 @@
-// Bisection: a bracket in which the slope changes sense is halved to the turn in it. The table of cosines and the arrays are lent.
+// Bisection: a bracket in which the slope changes sense is halved to the turn in it.
 ghost use mathlib.Core.Path.{_≡_};
 ghost use mathlib.Core.Bool.{cond};
 ghost use Prim.Native.Nat.{_+_, _≤_, _<_};

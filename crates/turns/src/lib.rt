@@ -1,4 +1,5 @@
-// Turns of the water: where its slope changes sense, in a prepared month. The table of cosines and the arrays are lent.
+// Turns of the water in a prepared month: the stride of a station's tides, the search for where the slope changes sense, and what is
+// written of the turns. The table of cosines and the arrays of the constituents are lent.
 ghost use mathlib.Core.Path.{_≡_};
 ghost use mathlib.Core.List.{map};
 ghost use Prim.Native.Nat.{_≤_, _<_};
@@ -11,12 +12,12 @@ ghost use Rattle.turns.specs.Written.{inFront, given};
 ghost use Rattle.turns.specs.inner.Lists.{heightOf};
 ghost use Rattle.turns.specs.inner.Answers.{givenOf};
 
-mod slopes; // The slope of the water at a minute of a prepared month
-mod sense; // The sense of a slope
-mod bisection; // Bisection
-mod search; // The search for turns of the water
-mod tides; // The kind of a station's tides, by its daily and half-daily amplitudes, as the stride that it gives the search
-pub mod strides; // The stride of a station's own tides, by the amplitudes of K1, O1, M2 and S2
+mod slopes; // the slope at a minute
+mod sense; // rising or falling
+mod bisection; // a bracket halved
+mod search; // strides and turns
+mod tides; // the kind of tides
+pub mod strides; // a station's stride
 
 use crate::search::Reach;
 use crate::search::Summary;

@@ -1,4 +1,4 @@
-// The search for turns of the water: strides in a prepared month, and the turn in each in which the slope changes sense. The table of cosines and the arrays are lent.
+// The search for turns: strides in a prepared month, and the turn in each in which the slope changes sense.
 ghost use mathlib.Core.Path.{_≡_};
 ghost use Prim.Native.Nat.{_≤_, _<_};
 ghost use lib.ListN.{length};

@@ -14,7 +14,7 @@ returns c = rw (c .before .if1 .taken) (c .names-of .ensures)
 
 returns-2 : tie.Need-returns-2
 unfolding namesFrom view
-returns-2 c = search needs
+returns-2 c = rw (c .if1 .left)
 
 pub names-spec : {M : Type 1} → statement M
 names-spec = tie.close (tie.spec names-of-requires returns returns-2)

@@ -58,13 +58,18 @@ bisect-bisect-requires t c κs =
     let s = c .before .before .before .before .before .before in
     let b = s .args .bracket in
     let p = s .pre .1 .1 in
-    let fe : SFits w64 (b .early) = search needs in
-    (search needs, (s .pre .1 .0, record {
-      some = omega arith;
-      within = omega (arith, p .within);
-      early = kept fe (p .early);
-      late = kept-result (c .before .before .slope .ok) (c .before .before .slope .ensures);
-    }))
+    let fe : SFits w64 (b .early) = search needs in (
+      search needs,
+      (
+        s .pre .1 .0,
+        record {
+          some = omega arith;
+          within = omega (arith, p .within);
+          early = kept fe (p .early);
+          late = kept-result (c .before .before .slope .ok) (c .before .before .slope .ensures);
+        },
+      ),
+    )
 
 bisect-returns-2 : (t : ℕ) → bisect-lts.Need-returns-2 (bisect-claims t) (bisect-at t) bisect.Post
 bisect-returns-2 t c =
@@ -82,13 +87,18 @@ bisect-bisect-requires-2 t c κs =
     let s = c .before .before .before .before .before .before in
     let b = s .args .bracket in
     let p = s .pre .1 .1 in
-    let fl : SFits w64 (b .late) = search needs in
-    (search needs, (s .pre .1 .0, record {
-      some = omega arith;
-      within = omega (arith, p .within);
-      early = kept-result (c .before .before .slope .ok) (c .before .before .slope .ensures);
-      late = kept fl (p .late ∙ ap (λ (m : ℕ). slopeOf (s .args .arguments .now) (s .args .lags .now) (s .args .frequencies .now) (s .args .ps .now) (s .args .qs .now) (s .args .count) m) (omega arith));
-    }))
+    let fl : SFits w64 (b .late) = search needs in (
+      search needs,
+      (
+        s .pre .1 .0,
+        record {
+          some = omega arith;
+          within = omega (arith, p .within);
+          early = kept-result (c .before .before .slope .ok) (c .before .before .slope .ensures);
+          late = kept fl (p .late ∙ ap (λ (m : ℕ). slopeOf (s .args .arguments .now) (s .args .lags .now) (s .args .frequencies .now) (s .args .ps .now) (s .args .qs .now) (s .args .count) m) (omega arith));
+        },
+      ),
+    )
 
 bisect-returns-3 : (t : ℕ) → bisect-lts.Need-returns-3 (bisect-claims t) (bisect-at t) bisect.Post
 bisect-returns-3 t c =

@@ -42,13 +42,15 @@ differs-requires c κs = search needs
 bisect-requires : tie.Need-bisect-requires Inv-loop μ-loop
 bisect-requires c κs =
     let l = c .before .before .before .before .loop in
-    let s = c .before .before .before .before .before in
-    (s .pre .0, record {
-      some = s .pre .1 .0 .0 .some;
-      within = omega (arith, s .pre .1 .0 .0 .within);
-      early = l .inv .1 .0;
-      late = kept-result (c .before .before .slope .ok) (c .before .before .slope .ensures);
-    })
+    let s = c .before .before .before .before .before in (
+      s .pre .0,
+      record {
+        some = s .pre .1 .0 .0 .some;
+        within = omega (arith, s .pre .1 .0 .0 .within);
+        early = l .inv .1 .0;
+        late = kept-result (c .before .before .slope .ok) (c .before .before .slope .ensures);
+      },
+    )
 
 rises-requires : tie.Need-rises-requires Inv-loop μ-loop
 rises-requires c κs = search needs
