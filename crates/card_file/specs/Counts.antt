@@ -3,7 +3,7 @@
 use lib.ListN.{length}
 use Rattle.card_file.specs.Cards as cards
 use Rattle.card_file.specs.Satellites.{satellitesIn}
-use Rattle.card_file.specs.declared.cardcounts.Counts.{Counts}
+use Rattle.card_file.specs.declared.counts.Counts.{Counts}
 
 -- "At most 160 frequencies [..], 64 mains, 256 satellites, 128 shallow": how many of each an accepted card file has; else the refusal's number and line
 abbrev pub countsOf : cards.Outcome → Counts

@@ -1,7 +1,7 @@
 // Reads a card file of up to 65,536 bytes from standard input and says in one line what it comes to: the counts of an accepted file's
 // frequencies, mains, satellites and shallow constituents, or the refusal's number and line.
-use card_file::cardcounts;
-use card_file::cardcounts::Counts;
+use card_file::counts;
+use card_file::counts::Counts;
 use libc::STDOUT_FILENO;
 
 // A number, with a blank before it.
@@ -28,5 +28,5 @@ fn report(counts: Counts) {
 fn main() {
     let mut file = io::large_buffer();
     let n = io::read_full(0, &mut file);
-    report(cardcounts::check_cards(&file[..n]));
+    report(counts::check_cards(&file[..n]));
 }

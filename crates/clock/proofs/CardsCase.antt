@@ -9,8 +9,8 @@ use Rattle.table.specs.inner.View.{tableOf}
 use Rattle.station.specs.inner.Station.{stationOf}
 use Rattle.card_file.specs.Cards.{readCards, accepted, refused}
 use Rattle.card_file.specs.inner.Read.{outcomeOf}
-use Rattle.card_file.specs.declared.cardfile.Read.{Read}
-use Rattle.card_file.proofs.cardfile.Ranges.{accepted-in-range}
+use Rattle.card_file.specs.declared.reader.Read.{Read}
+use Rattle.card_file.proofs.reader.Ranges.{accepted-in-range}
 use Rattle.calls.proofs.Files.{file-accepted, file-refused}
 use Rattle.clock.specs.declared.Clock.{Clock}
 use Rattle.clock.specs.View.{view, monthIn, Made}

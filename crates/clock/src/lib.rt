@@ -22,7 +22,7 @@ ghost use Rattle.clock.specs.Returned.{turnsReturned};
 ghost use Rattle.clock.specs.inner.Parts.{accepts, withTable, withStation, withMonth, keptMonth};
 use calls::asked;
 use calls::settings;
-use card_file::cardfile;
+use card_file::reader;
 use month::Prepared;
 use month_prepared::Month;
 use refusals::Answer;
@@ -155,7 +155,7 @@ pub fn load_cards(clock: Clock, file: &[u8]) -> After
     requires { ⌜ Made clock ⌝ }
     ensures { λ r. ⌜ CardsPost clock (now (file .entry)) (r .answer) (r .clock) ⌝ }
 {
-    let read = cardfile::read_cards(file);
+    let read = reader::read_cards(file);
     let answer = read.answer;
     match answer {
         Answer::Accepted => {

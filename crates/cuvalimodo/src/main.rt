@@ -4,7 +4,7 @@
 mod help;
 
 ghost use Rattle.clock.specs.View.{Made};
-use card_file::cardfile;
+use card_file::reader;
 use clock::After;
 use clock::Clock;
 use commandline::Asked;
@@ -183,7 +183,7 @@ fn with_station<'a>(
 )
     requires { ⌜ Made clock ⌝ }
 {
-    let table = cardfile::read_cards(cards).table;
+    let table = reader::read_cards(cards).table;
     let names = table.names;
     let read = stationfile::read_station(station, &names, table.frequencies);
     let answer = read.answer;

@@ -16,8 +16,8 @@ ghost use Rattle.cuvalimodo_c.specs.Setting.{settingReturned};
 mod onecall; // a clock set at once
 
 use crate::onecall::Setting;
-use card_file::cardcounts;
-use card_file::cardcounts::Counts;
+use card_file::counts;
+use card_file::counts::Counts;
 use clock::TurnsAnswer;
 use refusals::Answer;
 
@@ -107,7 +107,7 @@ fn no_turns(verdict: Verdict) -> Turnings
 pub extern "C" fn cuvalimodo_check_cards(file: &[u8]) -> Counts
     ensures { λ r. ⌜ r ≡ countsOf (readCards (now (file .entry))) ⌝ }
 {
-    cardcounts::check_cards(file)
+    counts::check_cards(file)
 }
 
 // One height for each lent place, at start, start + step and so on, of a card file, a station and a month; or a refusal.

@@ -6,7 +6,7 @@ ghost use mathlib.Core.Bool.{true};
 ghost use lib.ListN.{length};
 ghost use Rattle.calendar.specs.Calendar.{inRange};
 ghost use Rattle.transcript.specs.inner.Window.{Within};
-use card_file::cardfile;
+use card_file::reader;
 use month::Preparation;
 use month_prepared::Month;
 use refusals::Answer;
@@ -54,7 +54,7 @@ fn nothing() -> Kept {
 
 // A card file: its table takes the place of the old one, with no station; or it is refused.
 fn load_cards(kept: Kept, file: &[u8]) -> After {
-    let read = cardfile::read_cards(file);
+    let read = reader::read_cards(file);
     let answer = read.answer;
     match answer {
         Answer::Accepted => {

@@ -9,7 +9,7 @@ use Rattle.table.specs.inner.View.{tableOf}
 use Rattle.card.specs.inner.Answers as parts
 use Rattle.card_file.specs.Cards.{Outcome, accepted, refused}
 use Rattle.card.specs.declared.Refusal.{Refusal}
-use Rattle.card_file.specs.declared.cardfile.Read.{Read}
+use Rattle.card_file.specs.declared.reader.Read.{Read}
 
 -- "accepted whole or refused", with the table where it is accepted
 abbrev pub gives : Answer → Table → Outcome

@@ -1,11 +1,11 @@
 -- From part 3 on: the mains read, then the rest (`mainsAnd`), by the laws of a part that is refused or reached.
 use borrow.Author.Needs.{needs}
-use Rattle.card_file.proofs.cardfile.mains_and.Statement.{statement}
-use Rattle.card_file.proofs.cardfile.mains_and.Tie as tie
-use Rattle.card_file.proofs.cardfile.mains_and.Reads as reads
-use Rattle.card_file.proofs.cardfile.mains_and.Lts as lts
-use Rattle.card_file.proofs.cardfile.refused.Reads as refused-reads
-use Rattle.card_file.proofs.cardfile.shallows_and.Reads as shallows-and-reads
+use Rattle.card_file.proofs.reader.mains_and.Statement.{statement}
+use Rattle.card_file.proofs.reader.mains_and.Tie as tie
+use Rattle.card_file.proofs.reader.mains_and.Reads as reads
+use Rattle.card_file.proofs.reader.mains_and.Lts as lts
+use Rattle.card_file.proofs.reader.refused.Reads as refused-reads
+use Rattle.card_file.proofs.reader.shallows_and.Reads as shallows-and-reads
 use Rattle.card_constituents.proofs.constituents.constituent_reader.Reads as constituent-reader-reads
 use mathlib.Core.Path.{_≡_, refl, sym, ap, _∙_}
 use mathlib.Core.List.{List, []}
@@ -14,8 +14,8 @@ use lib.ListN.{drop}
 use Rattle.columns.specs.Lines.{linesOf}
 use Rattle.table.specs.inner.View.{tableOf, listed}
 use Rattle.card_file.specs.inner.Rest.{mainsAnd}
-use Rattle.card_file.proofs.cardfile.Followed.{part-refused, part-reached, reached-within}
-use Rattle.card_file.proofs.cardfile.Parts.{part-3}
+use Rattle.card_file.proofs.reader.Followed.{part-refused, part-reached, reached-within}
+use Rattle.card_file.proofs.reader.Parts.{part-3}
 
 slice-aggregate-constituent-reader : tie.Need-slice-aggregate-constituent-reader
 slice-aggregate-constituent-reader c = search needs

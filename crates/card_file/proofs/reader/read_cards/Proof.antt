@@ -1,11 +1,11 @@
 -- The whole file: part 1 read into an empty table, then the rest; unfolded, that is `readCards`.
 use borrow.Author.Needs.{needs}
-use Rattle.card_file.proofs.cardfile.read_cards.Statement.{statement}
-use Rattle.card_file.proofs.cardfile.read_cards.Tie as tie
-use Rattle.card_file.proofs.cardfile.read_cards.Reads as reads
-use Rattle.card_file.proofs.cardfile.read_cards.Lts as lts
-use Rattle.card_file.proofs.cardfile.longitudes_and.Reads as longitudes-and-reads
-use Rattle.card_file.proofs.cardfile.refused.Reads as refused-reads
+use Rattle.card_file.proofs.reader.read_cards.Statement.{statement}
+use Rattle.card_file.proofs.reader.read_cards.Tie as tie
+use Rattle.card_file.proofs.reader.read_cards.Reads as reads
+use Rattle.card_file.proofs.reader.read_cards.Lts as lts
+use Rattle.card_file.proofs.reader.longitudes_and.Reads as longitudes-and-reads
+use Rattle.card_file.proofs.reader.refused.Reads as refused-reads
 use Rattle.card_frequencies.proofs.frequencies.read_frequencies.Reads as read-frequencies-reads
 use Rattle.table.proofs.no_cards.Reads as no-cards-reads
 use mathlib.Core.Path.{_≡_, refl, sym, ap, _∙_}
@@ -15,7 +15,7 @@ use Rattle.table.specs.Table.{Frequency}
 use Rattle.table.specs.inner.View.{tableOf}
 use Rattle.card_file.specs.Cards.{readCards, Outcome}
 use Rattle.card_file.specs.inner.Rest.{longitudesAnd, increasesAnd, mainsAnd, shallowsAnd}
-use Rattle.card_file.proofs.cardfile.Followed.{part-refused, part-reached, reached-within}
+use Rattle.card_file.proofs.reader.Followed.{part-refused, part-reached, reached-within}
 
 read-frequencies-requires : tie.Need-read-frequencies-requires
 read-frequencies-requires c κs = search needs

@@ -1,7 +1,7 @@
 -- `card_file::cards::is_defined` meets its contract. A place is among those of two kinds where it is among one: `among-both`. Assumes nothing.
 use borrow.Author.Needs.{needs}
-use Rattle.card_file.proofs.cards.is_defined.Statement.{statement}
-use Rattle.card_file.proofs.cards.is_defined.Tie as tie
+use Rattle.card_file.proofs.defined.is_defined.Statement.{statement}
+use Rattle.card_file.proofs.defined.is_defined.Tie as tie
 use Rattle.card.proofs.places.Defined.{among-both}
 use mathlib.Core.Path.{_≡_}
 use Rattle.card.specs.Card.{isAmong}

@@ -1,7 +1,7 @@
 -- `card_file::cards::undefined` meets its contract. The loop's invariant: the frequencies from this place on give what all of them give.
 -- The measure is how many are left. Rests on the laws of `Last`.
-use Rattle.card_file.proofs.cards.undefined.Statement.{statement}
-use Rattle.card_file.proofs.cards.undefined.Tie as tie
+use Rattle.card_file.proofs.defined.undefined.Statement.{statement}
+use Rattle.card_file.proofs.defined.undefined.Tie as tie
 use borrow.Author.Needs.{needs}
 use mathlib.Core.Path.{_≡_, refl}
 use mathlib.Core.List.{List, _++_}
@@ -11,7 +11,7 @@ use lib.ListN.{length, drop}
 use Rattle.table.specs.Table.{Frequency, Table}
 use Rattle.card_file.specs.Cards.{allDefined}
 use Rattle.card.specs.inner.Places.{placesIn}
-use Rattle.card_file.proofs.cards.Last.{defined-more, defined-none}
+use Rattle.card_file.proofs.defined.Last.{defined-more, defined-none}
 
 abbrev Inv-loop : tie.InvT-loop
 Inv-loop frequencies maincards mains cards count k₀ k =

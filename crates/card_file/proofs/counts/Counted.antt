@@ -12,10 +12,10 @@ use Rattle.table.specs.declared.Table.{Table}
 use Rattle.table.proofs.Rows.{listed-length}
 use Rattle.card_file.specs.Cards.{Outcome, accepted, refused, readCards}
 use Rattle.card_file.specs.inner.Read.{gives, outcomeOf}
-use Rattle.card_file.specs.declared.cardfile.Read.{Read}
+use Rattle.card_file.specs.declared.reader.Read.{Read}
 use Rattle.card_file.specs.Satellites.{satellitesIn}
 use Rattle.card_file.specs.Counts.{countsOf}
-use Rattle.card_file.specs.declared.cardcounts.Counts.{Counts}
+use Rattle.card_file.specs.declared.counts.Counts.{Counts}
 
 frequencies-count : (t : Table) → length (tableOf t .frequencies) ≡ t .frequencies
 unfolding tableOf

@@ -1,11 +1,11 @@
 -- From part 4 on: the shallow constituents read, then that every frequency is defined (`shallowsAnd`).
 use borrow.Author.Needs.{needs}
-use Rattle.card_file.proofs.cardfile.shallows_and.Statement.{statement}
-use Rattle.card_file.proofs.cardfile.shallows_and.Tie as tie
-use Rattle.card_file.proofs.cardfile.shallows_and.Reads as reads
-use Rattle.card_file.proofs.cardfile.shallows_and.Lts as lts
-use Rattle.card_file.proofs.cardfile.refused.Reads as refused-reads
-use Rattle.card_file.proofs.cards.undefined.Reads as undefined-reads
+use Rattle.card_file.proofs.reader.shallows_and.Statement.{statement}
+use Rattle.card_file.proofs.reader.shallows_and.Tie as tie
+use Rattle.card_file.proofs.reader.shallows_and.Reads as reads
+use Rattle.card_file.proofs.reader.shallows_and.Lts as lts
+use Rattle.card_file.proofs.reader.refused.Reads as refused-reads
+use Rattle.card_file.proofs.defined.undefined.Reads as undefined-reads
 use Rattle.card_shallows.proofs.shallows.read_shallows.Reads as read-shallows-reads
 use mathlib.Core.Path.{_≡_, refl, sym, ap, _∙_}
 use mathlib.Core.List.{List, []}
@@ -15,10 +15,10 @@ use Rattle.columns.specs.Lines.{linesOf}
 use Rattle.table.specs.Table as document
 use Rattle.table.specs.inner.View.{tableOf, listed, shallowOf}
 use Rattle.card_file.specs.inner.Answers.{definedGives}
-use Rattle.card_file.specs.declared.cards.Defined.{Defined}
+use Rattle.card_file.specs.declared.defined.Defined.{Defined}
 use Rattle.card_file.specs.inner.Rest.{shallowsAnd, withShallows}
-use Rattle.card_file.proofs.cardfile.Followed.{part-refused, part-reached}
-use Rattle.card_file.proofs.cardfile.Parts.{part-4, last-check}
+use Rattle.card_file.proofs.reader.Followed.{part-refused, part-reached}
+use Rattle.card_file.proofs.reader.Parts.{part-4, last-check}
 
 read-shallows-requires : tie.Need-read-shallows-requires
 read-shallows-requires c κs = search needs

@@ -5,7 +5,7 @@ ghost use Rattle.table.specs.inner.View.{tableOf};
 ghost use Rattle.card_file.specs.Cards.{readCards};
 ghost use Rattle.card_file.specs.Satellites.{satellitesIn};
 ghost use Rattle.card_file.specs.Counts.{countsOf};
-use crate::cardfile;
+use crate::reader;
 use refusals::Answer;
 use table::Table;
 
@@ -52,7 +52,7 @@ pub fn satellites_of(table: Table) -> usize
 pub fn check_cards(file: &[u8]) -> Counts
     ensures { λ r. ⌜ r ≡ countsOf (readCards (now (file .entry))) ⌝ }
 {
-    let read = cardfile::read_cards(file);
+    let read = reader::read_cards(file);
     let answer = read.answer;
     let table = read.table;
     match answer {

@@ -10,7 +10,7 @@ use Rattle.table.specs.Table.{Frequency}
 use Rattle.table.proofs.Rows.{listed-length}
 use Rattle.card_file.specs.Cards.{allDefined}
 use Rattle.card_file.specs.inner.Answers.{definedGives}
-use Rattle.card_file.specs.declared.cards.Defined.{Defined}
+use Rattle.card_file.specs.declared.defined.Defined.{Defined}
 use Rattle.card_file.specs.inner.Rest.{withShallows}
 use Rattle.table.specs.inner.View.{tableOf, listed, frequencyOf, mainOf, shallowOf}
 use Rattle.table.specs.declared.Table.{Table}

@@ -1,17 +1,17 @@
 -- The satellites of all mains: the loop keeps the sum over the rows passed, which is `satellitesIn` of their mains.
-use Rattle.card_file.proofs.cardcounts.Counting.{satellitesFrom, satellites-next, satellites-least, satellites-all}
+use Rattle.card_file.proofs.counts.Counting.{satellitesFrom, satellites-next, satellites-least, satellites-all}
 use Rattle.card_file.specs.Satellites.{satellitesIn}
 use Rattle.table.specs.inner.View.{tableOf}
 use borrow.Author.Needs.{needs}
 use native.Mathlib.Omega.{arith}
 use Prim.Native.Nat.{_+_, _-_, _*_, _≤_, min}
 use mathlib.Core.Path.{_≡_}
-use Rattle.card_file.proofs.cardcounts.satellites_of.Statement.{statement}
-use Rattle.card_file.proofs.cardcounts.satellites_of.Tie as tie
-use Rattle.card_file.proofs.cardcounts.satellites_of.Reads as reads
-use Rattle.card_file.proofs.cardcounts.satellites_of.Lts as lts
-use Rattle.card_file.proofs.cardcounts.shorter.Reads as shorter-reads
-use Rattle.card_file.proofs.cardcounts.wide.Reads as wide-reads
+use Rattle.card_file.proofs.counts.satellites_of.Statement.{statement}
+use Rattle.card_file.proofs.counts.satellites_of.Tie as tie
+use Rattle.card_file.proofs.counts.satellites_of.Reads as reads
+use Rattle.card_file.proofs.counts.satellites_of.Lts as lts
+use Rattle.card_file.proofs.counts.shorter.Reads as shorter-reads
+use Rattle.card_file.proofs.counts.wide.Reads as wide-reads
 
 abbrev Inv-loop : tie.InvT-loop
 Inv-loop table most total₀ k₀ total k = (total + satellitesFrom table k ≡ satellitesIn (tableOf table .mains)) × (total ≤ 65_535 * k) × (k ≤ most) × (most ≡ min (table .mains) 64)

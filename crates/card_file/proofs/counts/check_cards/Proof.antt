@@ -1,12 +1,12 @@
 -- What a card file counts equals `countsOf` of what reading it comes to: one case for an accepted file and one for a refused one, each a law of Counted.
-use Rattle.card_file.proofs.cardcounts.Counted.{counts-accepted, counts-refused}
+use Rattle.card_file.proofs.counts.Counted.{counts-accepted, counts-refused}
 use borrow.Author.Needs.{needs}
-use Rattle.card_file.proofs.cardcounts.check_cards.Statement.{statement}
-use Rattle.card_file.proofs.cardcounts.check_cards.Tie as tie
-use Rattle.card_file.proofs.cardcounts.check_cards.Reads as reads
-use Rattle.card_file.proofs.cardcounts.check_cards.Lts as lts
-use Rattle.card_file.proofs.cardfile.read_cards.Reads as read-cards-reads
-use Rattle.card_file.proofs.cardcounts.satellites_of.Reads as satellites-of-reads
+use Rattle.card_file.proofs.counts.check_cards.Statement.{statement}
+use Rattle.card_file.proofs.counts.check_cards.Tie as tie
+use Rattle.card_file.proofs.counts.check_cards.Reads as reads
+use Rattle.card_file.proofs.counts.check_cards.Lts as lts
+use Rattle.card_file.proofs.reader.read_cards.Reads as read-cards-reads
+use Rattle.card_file.proofs.counts.satellites_of.Reads as satellites-of-reads
 use Rattle.refusals.proofs.number_of.Reads as number-of-reads
 
 read-cards-requires : tie.Need-read-cards-requires
