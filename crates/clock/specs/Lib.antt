@@ -1,4 +1,5 @@
 pub mod Returned
 pub mod View
 pub mod Posts
+pub mod Names
 pub mod inner

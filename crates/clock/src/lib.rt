@@ -4,11 +4,14 @@
 // No call asks anything of its caller but a clock that `new` or another call made.
 ghost use mathlib.Core.Path.{_≡_};
 ghost use mathlib.Core.Bool.{true};
+ghost use Rattle.columns.specs.Names.{namesFrom};
 ghost use Rattle.table.specs.inner.View.{tableOf};
 ghost use Rattle.station.specs.inner.Station.{stationOf};
 ghost use Rattle.month.specs.Month.{monthOf};
 ghost use Rattle.calendar.specs.Calendar.{inRange};
-ghost use Rattle.clock.specs.View.{Made};
+ghost use Rattle.calls.specs.State.{some};
+ghost use Rattle.clock.specs.Names.{namesThere, namesIn};
+ghost use Rattle.clock.specs.View.{view, Made};
 ghost use Rattle.clock.specs.Posts.{NewPost, CardsPost, StationPost, DatePost, HeightPost, SeriesPost, TurnsPost};
 ghost use Rattle.clock.specs.inner.Posts.{PreparedPost};
 ghost use Rattle.station.specs.Records.{recordsOf};
@@ -16,7 +19,7 @@ ghost use Rattle.month.specs.inner.View.{preparedOf};
 ghost use Rattle.turns.specs.inner.Answers.{returnedOf};
 ghost use Rattle.calls.specs.Calls.{searchReturns};
 ghost use Rattle.clock.specs.Returned.{turnsReturned};
-ghost use Rattle.clock.specs.inner.Parts.{accepts, withTable, withStation, withMonth};
+ghost use Rattle.clock.specs.inner.Parts.{accepts, withTable, withStation, withMonth, keptMonth};
 use calls::asked;
 use calls::settings;
 use card_file::cardfile;
@@ -47,6 +50,12 @@ pub struct Clock {
     frequencies: [u64; 146],
     ps: [i32; 146],
     qs: [i32; 146],
+}
+
+// The names of a table's frequencies, five bytes each by place, and how many there are.
+pub struct TableNames {
+    pub count: usize,
+    pub bytes: [u8; 800],
 }
 
 // What a call says, and the clock as it leaves it.
@@ -295,6 +304,25 @@ pub fn series(clock: Clock, start: u32, step: u32, heights: &mut [i64]) -> Answe
     }
 }
 
+// The prepared month that the clock keeps.
+fn month_in(clock: Clock) -> Month
+    ensures { λ r. ⌜ r ≡ keptMonth clock ⌝ }
+{
+    let arguments = clock.arguments;
+    let lags = clock.lags;
+    let frequencies = clock.frequencies;
+    let ps = clock.ps;
+    let qs = clock.qs;
+    Month {
+        count: clock.count,
+        arguments: arguments,
+        lags: lags,
+        frequencies: frequencies,
+        ps: ps,
+        qs: qs,
+    }
+}
+
 // What a search says: how many turns, and whether the first is high; or 10.
 fn found_turns(found: Searched) -> TurnsAnswer
     ensures { λ r. ⌜ turnsReturned r ≡ searchReturns (returnedOf found) ⌝ }
@@ -327,14 +355,10 @@ pub fn turns(
     match asked {
         Answer::Accepted => {
             let stride = strides::station_stride(clock.table, clock.station);
+            let month = month_in(clock);
             let found = turns::turns(
                 &clock.cosines,
-                &clock.arguments,
-                &clock.lags,
-                &clock.frequencies,
-                &clock.ps,
-                &clock.qs,
-                clock.count,
+                month,
                 stride,
                 first as u64,
                 last as u64,
@@ -346,5 +370,31 @@ pub fn turns(
         Answer::Refused(refusal, _) => {
             return TurnsAnswer::Refused(refusal, 0);
         }
+    }
+}
+
+// The names of a table's frequencies.
+fn names_of(table: Table) -> TableNames
+    ensures { λ r. ⌜ namesFrom (r .bytes) 0 (r .count) ≡ namesThere (some (tableOf table)) ⌝ }
+{
+    let bytes = table.names;
+    TableNames {
+        count: table.frequencies,
+        bytes: bytes,
+    }
+}
+
+// The names of the clock's frequencies by place, none where it has no table. (No call of 01: it gives nothing of the tide, and the clock,
+// which it takes by value, stays as it was.)
+pub fn names(clock: Clock) -> TableNames
+    requires { ⌜ Made clock ⌝ }
+    ensures { λ r. ⌜ namesFrom (r .bytes) 0 (r .count) ≡ namesIn (view clock) ⌝ }
+{
+    if clock.tabled {
+        return names_of(clock.table);
+    }
+    TableNames {
+        count: 0,
+        bytes: [0u8; 800],
     }
 }

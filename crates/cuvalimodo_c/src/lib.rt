@@ -13,7 +13,7 @@ ghost use Rattle.cuvalimodo_c.specs.Answers.{verdictOf, turningsOf};
 ghost use Rattle.cuvalimodo_c.specs.OneCall.{seriesOnce, turnsOnce, SeriesPost, TurnsPost};
 ghost use Rattle.cuvalimodo_c.specs.Setting.{settingReturned};
 
-mod onecall; // A clock that is set in one call
+mod onecall; // a clock set at once
 
 use crate::onecall::Setting;
 use card_file::cardcounts;

@@ -1,4 +1,5 @@
-// The height of the water at a minute, from a prepared month's constituents. The table of cosines and the arrays are lent.
+// Heights of the water in a prepared month: at a minute, in a series, and how far one may lie from the exact sum. The table of cosines and
+// the arrays of the constituents are lent.
 ghost use mathlib.Core.Path.{_≡_};
 ghost use Prim.Native.Nat.{_≤_, _^_};
 ghost use lib.IntN.{natAbs};
@@ -6,10 +7,10 @@ ghost use Rattle.cosine.specs.Fixed.{IsTable};
 ghost use Rattle.month_prepared.specs.inner.View.{constituentsFrom};
 ghost use Rattle.heights.specs.Height.{heightAt};
 
-pub mod minuteangle; // A constituent's angle at a minute
-pub mod shares; // A constituent's share of the height at an angle
-pub mod series; // A series of heights, from a prepared month's constituents
-pub mod distance; // The exact sum, and how far a height may lie from it
+pub mod minuteangle; // angles
+pub mod shares; // shares
+pub mod series; // series
+pub mod distance; // nearness
 
 use crate::minuteangle::angle_at;
 use crate::shares::share_at;

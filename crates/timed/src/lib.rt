@@ -9,7 +9,7 @@ ghost use Rattle.calls.specs.Calls.{stationLeaves, dateLeaves, seriesGives, tur
 ghost use Rattle.clock.specs.View.{view, Made};
 ghost use Rattle.timed.specs.Often.{recordsIn, readOften, datedOften, seriesOften, lastTurns, heightsAt, stationed, dated, firstHigh};
 
-mod often; // The clock's calls, each made as often as asked
+mod often; // repeated calls
 
 use clock::Clock;
 use station::records::Rows;

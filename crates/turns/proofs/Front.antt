@@ -11,27 +11,30 @@ use lib.ListN.{length, getD, set, take, drop, length-map, drop-of-length-le}
 use lib.Seq.{sets, sets-eq, drop-cons, length-take-le, getD-take}
 use borrow.Author.Tests.{lt-ltb, le-ltb}
 use Rattle.turns.specs.Search.{Turn, firstHigh, minutesOf}
+use Rattle.turns.specs.inner.Search.{Minutes, FoundPost}
+use Rattle.turns.specs.declared.search.Summary.{Summary}
 use Rattle.turns.proofs.search.Stored.{stored-all}
 use Rattle.turns.specs.Written.{found, refused, inFront, given}
 
--- the first n of a list, each by a rule
-module _ {A : Type 0} (f : ℕ → A) (n : ℕ) (ks : List ℕ) (fit : n ≤ length ks) (l : List A) where
-  many-taken : length (take n ks) ≡ n
-  many-taken = length-take-le n ks fit
+-- a list, each by a rule
+module _ {A : Type 0} (f : ℕ → A) (ks : List ℕ) (l : List A) where
+  pub store-more : (i : ℕ) → i < length ks → sets (set l i (f (getD ks i 0))) (i + 1) (map f (drop (i + 1) ks)) ≡ sets l i (map f (drop i ks))
+  store-more i h = rw (drop-cons ks i 0 h, add-one i)
 
-  pub store-more : (i : ℕ) → i < n → sets (set l i (f (getD ks i 0))) (i + 1) (map f (drop (i + 1) (take n ks))) ≡ sets l i (map f (drop i (take n ks)))
-  store-more i h =
-      let m = many-taken in
-      rw (drop-cons (take n ks) i 0 (omega arith), add-one i, getD-take n ks i 0 h)
+  pub store-none : (i : ℕ) → length ks ≤ i → sets l i (map f (drop i ks)) ≡ l
+  store-none i h = rw (drop-of-length-le ks {i = i} h)
 
-  pub store-none : (i : ℕ) → n ≤ i → sets l i (map f (drop i (take n ks))) ≡ l
-  store-none i h = let m = many-taken in rw (drop-of-length-le (take n ks) {i = i} (omega arith))
+  pub stored : length ks ≤ length l → sets l 0 (map f ks) ≡ inFront (map f ks) l
+  stored h = let e = length-map ks f in stored-all (map f ks) l (omega arith)
 
-  pub stored : n ≤ length l → sets l 0 (map f (take n ks)) ≡ inFront (map f (take n ks)) l
-  stored h =
-      let m = many-taken in
-      let e = length-map (take n ks) f in
-      stored-all (map f (take n ks)) l (omega arith)
+-- the part of the kept minutes that a search fills
+pub filled : {turns : List Turn} {kept : List ℕ} {r : Summary} → FoundPost turns kept r → length (take (r .count) kept) ≡ r .count
+filled {kept} {r} p = length-take-le (r .count) kept (omega (arith, p .within .0, p .within .1 .0))
+
+pub filled-minutes : {turns : List Turn} {kept : List ℕ} {r : Summary} → FoundPost turns kept r → Minutes (take (r .count) kept)
+filled-minutes {kept} {r} p k h =
+    let below : k < r .count = omega (arith, filled p) in
+    rw (getD-take (r .count) kept k 0 below) (p .within .1 .1 k below)
 
 -- ---- what is given, by the buffers' room
 

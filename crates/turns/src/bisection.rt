@@ -1,4 +1,4 @@
-// Bisection: a bracket in which the slope changes sense is halved to the turn in it. The table of cosines and the arrays are lent.
+// Bisection: a bracket in which the slope changes sense is halved to the turn in it.
 ghost use mathlib.Core.Path.{_≡_};
 ghost use mathlib.Core.Bool.{cond};
 ghost use Prim.Native.Nat.{_+_, _≤_, _<_};
@@ -6,7 +6,7 @@ ghost use lib.Dec.{ltb};
 ghost use lib.IntN.{natAbs};
 ghost use Rattle.cosine.specs.Fixed.{IsTable};
 ghost use Rattle.turns.specs.inner.Lists.{InRange, slopeOf};
-ghost use Rattle.turns.specs.inner.Bisection.{TurnedPost};
+ghost use Rattle.turns.specs.inner.Bisection.{BracketPre, TurnedPost};
 use crate::sense::differs;
 use crate::slopes::slope;
 use cosine::ENTRIES;
@@ -16,6 +16,14 @@ pub struct Turned {
     pub turn: u64,
     pub later: u64,
     pub slope: i64,
+}
+
+// A bracket: its start, its length, and the slopes at its two ends.
+pub struct Bracket {
+    pub start: u64,
+    pub length: u64,
+    pub early: i64,
+    pub late: i64,
 }
 
 // The turn between two ends one minute apart: the end with the smaller slope size, the earlier if equal.
@@ -39,7 +47,7 @@ fn turn_between(minute: u64, early: i64, late: i64) -> Turned
     }
 }
 
-// Halves a bracket whose ends' slopes are given until its ends are one minute apart, and gives the turn between them.
+// Halves a bracket until its ends are one minute apart, and gives the turn between them.
 pub fn bisect<'a>(
     table: &'a [u32; ENTRIES],
     arguments: &'a [u64; 146],
@@ -48,16 +56,16 @@ pub fn bisect<'a>(
     ps: &'a [i32; 146],
     qs: &'a [i32; 146],
     count: usize,
-    start: u64,
-    length: u64,
-    early: i64,
-    late: i64,
+    bracket: Bracket,
 ) -> Turned
     requires { ⌜ IsTable (now table) × ((count ≤ 146) × InRange count (now frequencies)) ⌝ }
-    requires { ⌜ (0 < length) × (start + length ≤ 44_640) ⌝ }
-    requires { ⌜ (early ≡ slopeOf (now arguments) (now lags) (now frequencies) (now ps) (now qs) count start) × (late ≡ slopeOf (now arguments) (now lags) (now frequencies) (now ps) (now qs) count (start + length)) ⌝ }
-    ensures { λ r. ⌜ TurnedPost (slopeOf (now (arguments .entry)) (now (lags .entry)) (now (frequencies .entry)) (now (ps .entry)) (now (qs .entry)) count) start length r ⌝ }
+    requires { ⌜ BracketPre (slopeOf (now arguments) (now lags) (now frequencies) (now ps) (now qs) count) bracket ⌝ }
+    ensures { λ r. ⌜ TurnedPost (slopeOf (now (arguments .entry)) (now (lags .entry)) (now (frequencies .entry)) (now (ps .entry)) (now (qs .entry)) count) (bracket .start) (bracket .length) r ⌝ }
 {
+    let start = bracket.start;
+    let length = bracket.length;
+    let early = bracket.early;
+    let late = bracket.late;
     if length <= 1 {
         return turn_between(start, early, late);
     }
@@ -65,31 +73,19 @@ pub fn bisect<'a>(
     let cut = start + half;
     let middle = slope(table, arguments, lags, frequencies, ps, qs, count, cut);
     if differs(early, middle) {
-        return bisect(
-            table,
-            arguments,
-            lags,
-            frequencies,
-            ps,
-            qs,
-            count,
-            start,
-            half,
-            early,
-            middle,
-        );
+        let first = Bracket {
+            start: start,
+            length: half,
+            early: early,
+            late: middle,
+        };
+        return bisect(table, arguments, lags, frequencies, ps, qs, count, first);
     }
-    bisect(
-        table,
-        arguments,
-        lags,
-        frequencies,
-        ps,
-        qs,
-        count,
-        cut,
-        length - half,
-        middle,
-        late,
-    )
+    let second = Bracket {
+        start: cut,
+        length: length - half,
+        early: middle,
+        late: late,
+    };
+    bisect(table, arguments, lags, frequencies, ps, qs, count, second)
 }

@@ -1,25 +1,28 @@
-// Turns of the water: where its slope changes sense, in a prepared month. The table of cosines and the arrays are lent.
+// Turns of the water in a prepared month: the stride of a station's tides, the search for where the slope changes sense, and what is
+// written of the turns. The table of cosines and the arrays of the constituents are lent.
 ghost use mathlib.Core.Path.{_≡_};
 ghost use mathlib.Core.List.{map};
 ghost use Prim.Native.Nat.{_≤_, _<_};
-ghost use lib.ListN.{length, take};
+ghost use lib.ListN.{length};
 ghost use Rattle.cosine.specs.Fixed.{IsTable};
 ghost use Rattle.turns.specs.inner.Lists.{InRange, slopeOf};
 ghost use Rattle.turns.specs.Search.{turnsOf};
-ghost use Rattle.turns.specs.inner.Search.{Kept};
+ghost use Rattle.turns.specs.inner.Search.{Minutes};
 ghost use Rattle.turns.specs.Written.{inFront, given};
 ghost use Rattle.turns.specs.inner.Lists.{heightOf};
 ghost use Rattle.turns.specs.inner.Answers.{givenOf};
 
-mod slopes; // The slope of the water at a minute of a prepared month
-mod sense; // The sense of a slope
-mod bisection; // Bisection
-mod search; // The search for turns of the water
-mod tides; // The kind of a station's tides, by its daily and half-daily amplitudes, as the stride that it gives the search
-pub mod strides; // The stride of a station's own tides, by the amplitudes of K1, O1, M2 and S2
+mod slopes; // the slope at a minute
+mod sense; // rising or falling
+mod bisection; // a bracket halved
+mod search; // strides and turns
+mod tides; // the kind of tides
+pub mod strides; // a station's stride
 
+use crate::search::Reach;
 use crate::search::Summary;
 use cosine::ENTRIES;
+use month_prepared::Month;
 
 // What a search returns: what it found, or that there are more turns than a lent buffer holds.
 pub enum Searched {
@@ -36,18 +39,17 @@ fn write_turns<'a>(
     ps: &'a [i32; 146],
     qs: &'a [i32; 146],
     count: usize,
-    kept: &'a [u16; 44640],
-    found: usize,
+    kept: &'a [u16],
     minutes: &mut [u32],
     heights: &mut [i64],
 )
     requires { ⌜ IsTable (now table) × (count ≤ 146) ⌝ }
-    requires { ⌜ Kept found (now kept) × ((found ≤ length (now minutes)) × (found ≤ length (now heights))) ⌝ }
-    ensures { λ r. ⌜ now (minutes .exit) ≡ inFront (take found (now (kept .entry))) (now (minutes .entry)) ⌝ }
-    ensures { λ r. ⌜ now (heights .exit) ≡ inFront (map (heightOf (now (arguments .entry)) (now (lags .entry)) (now (frequencies .entry)) (now (ps .entry)) (now (qs .entry)) count) (take found (now (kept .entry)))) (now (heights .entry)) ⌝ }
+    requires { ⌜ Minutes (now kept) × ((length (now kept) ≤ length (now minutes)) × (length (now kept) ≤ length (now heights))) ⌝ }
+    ensures { λ r. ⌜ now (minutes .exit) ≡ inFront (now (kept .entry)) (now (minutes .entry)) ⌝ }
+    ensures { λ r. ⌜ now (heights .exit) ≡ inFront (map (heightOf (now (arguments .entry)) (now (lags .entry)) (now (frequencies .entry)) (now (ps .entry)) (now (qs .entry)) count) (now (kept .entry))) (now (heights .entry)) ⌝ }
 {
     let mut i: usize = 0;
-    while i < found {
+    while i < kept.len() {
         let minute = kept[i] as u64;
         minutes[i] = minute as u32;
         heights[i] = heights::height(table, arguments, lags, frequencies, ps, qs, count, minute);
@@ -55,38 +57,36 @@ fn write_turns<'a>(
     }
 }
 
-// Searches for turns from the first minute to the last: returns how many and whether the first is high, and writes their minutes and
-// heights from the front of the lent buffers; refuses, and writes nothing, where there are more than either holds.
-pub fn turns<'a>(
-    table: &'a [u32; ENTRIES],
-    arguments: &'a [u64; 146],
-    lags: &'a [u16; 146],
-    frequencies: &'a [u64; 146],
-    ps: &'a [i32; 146],
-    qs: &'a [i32; 146],
-    count: usize,
+// Searches a prepared month for turns from the first minute to the last: returns how many and whether the first is high, and writes their
+// minutes and heights from the front of the lent buffers; refuses, and writes nothing, where there are more than either holds.
+pub fn turns(
+    table: &[u32; ENTRIES],
+    month: Month,
     stride: u64,
     first: u64,
     last: u64,
     minutes: &mut [u32],
     heights: &mut [i64],
 ) -> Searched
-    requires { ⌜ IsTable (now table) × ((count ≤ 146) × InRange count (now frequencies)) ⌝ }
+    requires { ⌜ IsTable (now table) × ((month .count ≤ 146) × InRange (month .count) (month .frequencies)) ⌝ }
     requires { ⌜ (0 < stride) × ((stride ≤ 720) × ((first ≤ last) × (last ≤ 44_640))) ⌝ }
-    ensures { λ r. ⌜ givenOf r (now (minutes .exit)) (now (heights .exit)) ≡ given (heightOf (now (arguments .entry)) (now (lags .entry)) (now (frequencies .entry)) (now (ps .entry)) (now (qs .entry)) count) (turnsOf (slopeOf (now (arguments .entry)) (now (lags .entry)) (now (frequencies .entry)) (now (ps .entry)) (now (qs .entry)) count) stride first last) (now (minutes .entry)) (now (heights .entry)) ⌝ }
+    ensures { λ r. ⌜ givenOf r (now (minutes .exit)) (now (heights .exit)) ≡ given (heightOf (month .arguments) (month .lags) (month .frequencies) (month .ps) (month .qs) (month .count)) (turnsOf (slopeOf (month .arguments) (month .lags) (month .frequencies) (month .ps) (month .qs) (month .count)) stride first last) (now (minutes .entry)) (now (heights .entry)) ⌝ }
 {
+    let reach = Reach {
+        stride: stride,
+        last: last,
+    };
     let mut kept = [0u16; 44640];
     let found = search::find_turns(
         table,
-        arguments,
-        lags,
-        frequencies,
-        ps,
-        qs,
-        count,
-        stride,
+        &month.arguments,
+        &month.lags,
+        &month.frequencies,
+        &month.ps,
+        &month.qs,
+        month.count,
+        reach,
         first,
-        last,
         &mut kept,
     );
     let many = found.count;
@@ -98,14 +98,13 @@ pub fn turns<'a>(
     }
     write_turns(
         table,
-        arguments,
-        lags,
-        frequencies,
-        ps,
-        qs,
-        count,
-        &kept,
-        many,
+        &month.arguments,
+        &month.lags,
+        &month.frequencies,
+        &month.ps,
+        &month.qs,
+        month.count,
+        &kept[..many],
         minutes,
         heights,
     );

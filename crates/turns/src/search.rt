@@ -1,11 +1,12 @@
-// The search for turns of the water: strides in a prepared month, and the turn in each in which the slope changes sense. The table of cosines and the arrays are lent.
+// The search for turns: strides in a prepared month, and the turn in each in which the slope changes sense.
 ghost use mathlib.Core.Path.{_≡_};
 ghost use Prim.Native.Nat.{_≤_, _<_};
 ghost use lib.ListN.{length};
 ghost use Rattle.cosine.specs.Fixed.{IsTable};
 ghost use Rattle.turns.specs.inner.Lists.{InRange, slopeOf};
 ghost use Rattle.turns.specs.Search.{turnsOf};
-ghost use Rattle.turns.specs.inner.Search.{NextPost, FoundPost};
+ghost use Rattle.turns.specs.inner.Search.{Reaches, NextPost, FoundPost};
+use crate::bisection::Bracket;
 use crate::bisection::bisect;
 use crate::sense::differs;
 use crate::sense::rises;
@@ -16,6 +17,12 @@ use cosine::ENTRIES;
 pub struct Summary {
     pub count: usize,
     pub high: bool,
+}
+
+// How far a search goes: the length of its strides, and the last minute.
+pub struct Reach {
+    pub stride: u64,
+    pub last: u64,
 }
 
 // A turn, whether it is high, the minute from which the search resumes and the slope there.
@@ -36,35 +43,30 @@ fn next_turn<'a>(
     ps: &'a [i32; 146],
     qs: &'a [i32; 146],
     count: usize,
-    stride: u64,
-    last: u64,
+    reach: Reach,
     minute: u64,
     here: i64,
 ) -> Next
     requires { ⌜ IsTable (now table) × ((count ≤ 146) × InRange count (now frequencies)) ⌝ }
-    requires { ⌜ (0 < stride) × ((stride ≤ 720) × ((minute ≤ last) × (last ≤ 44_640))) ⌝ }
+    requires { ⌜ Reaches reach × (minute ≤ reach .last) ⌝ }
     requires { ⌜ here ≡ slopeOf (now arguments) (now lags) (now frequencies) (now ps) (now qs) count minute ⌝ }
-    ensures { λ r. ⌜ NextPost (slopeOf (now (arguments .entry)) (now (lags .entry)) (now (frequencies .entry)) (now (ps .entry)) (now (qs .entry)) count) stride last minute r ⌝ }
+    ensures { λ r. ⌜ NextPost (slopeOf (now (arguments .entry)) (now (lags .entry)) (now (frequencies .entry)) (now (ps .entry)) (now (qs .entry)) count) (reach .stride) (reach .last) minute r ⌝ }
 {
+    let stride = reach.stride;
+    let last = reach.last;
     let mut from = minute;
     let mut behind = here;
     while from + stride <= last {
         let to = from + stride;
         let ahead = slope(table, arguments, lags, frequencies, ps, qs, count, to);
         if differs(behind, ahead) {
-            let t = bisect(
-                table,
-                arguments,
-                lags,
-                frequencies,
-                ps,
-                qs,
-                count,
-                from,
-                stride,
-                behind,
-                ahead,
-            );
+            let bracket = Bracket {
+                start: from,
+                length: stride,
+                early: behind,
+                late: ahead,
+            };
+            let t = bisect(table, arguments, lags, frequencies, ps, qs, count, bracket);
             return Next {
                 found: true,
                 turn: t.turn,
@@ -94,15 +96,14 @@ pub fn find_turns<'a>(
     ps: &'a [i32; 146],
     qs: &'a [i32; 146],
     count: usize,
-    stride: u64,
+    reach: Reach,
     first: u64,
-    last: u64,
     kept: &mut [u16; 44640],
 ) -> Summary
     requires { ⌜ IsTable (now table) × ((count ≤ 146) × InRange count (now frequencies)) ⌝ }
-    requires { ⌜ (0 < stride) × ((stride ≤ 720) × ((first ≤ last) × (last ≤ 44_640))) ⌝ }
+    requires { ⌜ Reaches reach × (first ≤ reach .last) ⌝ }
     requires { ⌜ length (now kept) ≡ 44_640 ⌝ }
-    ensures { λ r. ⌜ FoundPost (turnsOf (slopeOf (now (arguments .entry)) (now (lags .entry)) (now (frequencies .entry)) (now (ps .entry)) (now (qs .entry)) count) stride first last) (now (kept .exit)) r ⌝ }
+    ensures { λ r. ⌜ FoundPost (turnsOf (slopeOf (now (arguments .entry)) (now (lags .entry)) (now (frequencies .entry)) (now (ps .entry)) (now (qs .entry)) count) (reach .stride) first (reach .last)) (now (kept .exit)) r ⌝ }
 {
     let here = slope(table, arguments, lags, frequencies, ps, qs, count, first);
     let mut next = next_turn(
@@ -113,8 +114,7 @@ pub fn find_turns<'a>(
         ps,
         qs,
         count,
-        stride,
-        last,
+        reach,
         first,
         here,
     );
@@ -131,8 +131,7 @@ pub fn find_turns<'a>(
             ps,
             qs,
             count,
-            stride,
-            last,
+            reach,
             next.later,
             next.slope,
         );

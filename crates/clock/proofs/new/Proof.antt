@@ -1,3 +1,4 @@
+-- `clock::new` meets its contract: no table, station or month, and numbers that are in range. Assumes nothing.
 use mathlib.Core.Path.{refl}
 use native.Mathlib.Omega.{arith}
 use Rattle.clock.specs.View.{view}
@@ -5,25 +6,16 @@ use Rattle.clock.proofs.Tables.{none-in-range}
 use borrow.Author.Needs.{needs}
 use Rattle.clock.proofs.new.Statement.{statement}
 use Rattle.clock.proofs.new.Tie as tie
-use Rattle.clock.proofs.new.Reads as reads
-use Rattle.clock.proofs.new.Lts as lts
-use Rattle.cosine.proofs.cosines.Reads as cosines-reads
-use Rattle.station.proofs.no_station.Reads as no-station-reads
-use Rattle.table.proofs.no_cards.Reads as no-cards-reads
 
--- src/lib.rt:58:18
 cosines-requires : tie.Need-cosines-requires
 cosines-requires c κs = search needs
 
--- src/lib.rt:60:16
 no-cards-requires : tie.Need-no-cards-requires
 no-cards-requires c κs = search needs
 
--- src/lib.rt:62:18
 no-station-requires : tie.Need-no-station-requires
 no-station-requires c κs = search needs
 
--- src/lib.rt:54:1
 returns : tie.Need-returns
 unfolding view
 returns c =

@@ -22,14 +22,17 @@ enum-told c = search needs
 station-stride-requires : tie.Need-station-stride-requires
 station-stride-requires c κs = search needs
 
+month-in-requires : tie.Need-month-in-requires
+month-in-requires c κs = search needs
+
 turns-requires : tie.Need-turns-requires
 turns-requires c κs =
-    let s = c .before .before .before .before .before .before .before .before .before .before .before .before .before .before .before .before in
+    let s = c .before .before .before .before .before .before .before .before .before .before .before .before in
     let k = s .args .t1 in
-    let stride = c .before .before .before .before .before .before .before .before .before .station-stride .ensures .1 in
-    let w = turns-within (k .tabled) (k .stationed) (k .dated) (k .last) (s .args .first) (s .args .last) (sym (c .before .before .before .before .before .before .before .before .before .before .before .before .before .before .turns-answer .ensures) ∙ ap outcomeOf (c .before .before .before .before .before .before .before .before .before .before .before .before .enum-told .given .1)) in
+    let stride = c .before .before .before .before .before .station-stride .ensures .1 in
+    let w = turns-within (k .tabled) (k .stationed) (k .dated) (k .last) (s .args .first) (s .args .last) (sym (c .before .before .before .before .before .before .before .before .before .before .turns-answer .ensures) ∙ ap outcomeOf (c .before .before .before .before .before .before .before .before .enum-told .given .1)) in
     let within : s .args .last ≤ 44_640 = omega (arith, w .0, s .pre .last) in
-    ((s .pre .cosines, (s .pre .count, s .pre .month)), (stride .0, (stride .1, (w .1, within))))
+    rw (c .before .before .before .before .month-in .ensures) ((s .pre .cosines, (s .pre .count, s .pre .month)), (stride .0, (stride .1, (w .1, within))))
 
 found-turns-requires : tie.Need-found-turns-requires
 found-turns-requires c κs = search needs
@@ -43,10 +46,10 @@ same-length-2 c = search needs
 returns : tie.Need-returns
 unfolding view
 returns c =
-    let s = c .before .before .before .before .before .before .before .before .before .before .before .before .before .before .before .before .before .before .before .before .before in
+    let s = c .before .before .before .before .before .before .before .before .before .before .before .before .before .before .before .before .before in
     let k = s .args .t1 in
-    let law = turns-given (k .tabled) (tableOf (k .table)) (k .stationed) (stationOf (k .station)) (k .dated) (monthIn k) (s .args .first) (s .args .last) _ _ (sym (c .before .before .before .before .before .before .before .before .before .before .before .before .before .before .before .before .before .before .before .turns-answer .ensures) ∙ ap outcomeOf (c .before .before .before .before .before .before .before .before .before .before .before .before .before .before .before .before .before .enum-told .given .1)) in
-    record { gives = rw (c .found-turns .ensures) (ap searched (rw (c .before .before .before .before .before .before .before .before .before .before .before .before .before .before .station-stride .ensures .0) at (c .before .before .before .before .turns .ensures)) ∙ law) }
+    let law = turns-given (k .tabled) (tableOf (k .table)) (k .stationed) (stationOf (k .station)) (k .dated) (monthIn k) (s .args .first) (s .args .last) _ _ (sym (c .before .before .before .before .before .before .before .before .before .before .before .before .before .before .before .turns-answer .ensures) ∙ ap outcomeOf (c .before .before .before .before .before .before .before .before .before .before .before .before .before .enum-told .given .1)) in
+    record { gives = rw (c .found-turns .ensures) (ap searched (rw (c .before .before .before .before .before .before .before .before .before .before .station-stride .ensures .0, c .before .before .before .before .before .before .before .before .before .month-in .ensures) at (c .before .before .before .before .turns .ensures)) ∙ law) }
 
 enum-known-asked : tie.Need-enum-known-asked
 enum-known-asked c = search needs
@@ -59,4 +62,4 @@ returns-2 c =
     record { gives = turns-refused (k .tabled) (tableOf (k .table)) (k .stationed) (stationOf (k .station)) (k .dated) (monthIn k) (s .args .first) (s .args .last) _ _ _ _ (sym (c .before .before .before .turns-answer .ensures) ∙ ap outcomeOf (c .before .asked .given .1)) }
 
 pub turns-spec : {M : Type 1} → statement M
-turns-spec = tie.close (tie.spec turns-answer-requires enum-told station-stride-requires turns-requires found-turns-requires same-length same-length-2 returns enum-known-asked returns-2)
+turns-spec = tie.close (tie.spec turns-answer-requires enum-told station-stride-requires month-in-requires turns-requires found-turns-requires same-length same-length-2 returns enum-known-asked returns-2)

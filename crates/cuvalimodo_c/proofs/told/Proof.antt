@@ -1,27 +1,20 @@
+-- `cuvalimodo_c::told` meets its contract: by the answer's two cases. Assumes nothing.
 use borrow.Author.Needs.{needs}
 use Rattle.cuvalimodo_c.proofs.told.Statement.{statement}
 use Rattle.cuvalimodo_c.proofs.told.Tie as tie
-use Rattle.cuvalimodo_c.proofs.told.Reads as reads
-use Rattle.cuvalimodo_c.proofs.told.Lts as lts
-use Rattle.refusals.proofs.number_of.Reads as number-of-reads
 
--- src/lib.rt:55:29
 enum-told : tie.Need-enum-told
 enum-told c = search needs
 
--- src/lib.rt:59:25
 enum-known-answer : tie.Need-enum-known-answer
 enum-known-answer c = search needs
 
--- src/lib.rt:60:21
 number-of-requires : tie.Need-number-of-requires
 number-of-requires c κs = search needs
 
--- src/lib.rt:51:1
 returns : tie.Need-returns
 returns c = rw (c .enum-told .given .1)
 
--- src/lib.rt:51:1
 returns-2 : tie.Need-returns-2
 returns-2 c = rw (c .before .before .answer .given .1, c .number-of .ensures)
 

@@ -1,10 +1,18 @@
 -- Only inner contracts cite this: what halving a bracket promises.
 -- Assumes nothing.
-use Prim.Native.Nat.{ℕ}
+use Prim.Native.Nat.{ℕ, _+_, _≤_, _<_}
 use mathlib.Core.Path.{_≡_}
 use lib.IntN.{ℤ}
 use Rattle.turns.specs.Cuts.{earlierEnd, laterEnd, smaller}
+use Rattle.turns.specs.declared.bisection.Bracket.{Bracket}
 use Rattle.turns.specs.declared.bisection.Turned.{Turned}
+
+-- a bracket of a minute or more in a month, with the slopes at its ends
+pub record BracketPre (slope : ℕ → ℤ) (b : Bracket) : Type 0 where
+  pub some : 0 < b .length
+  pub within : b .start + b .length ≤ 44_640
+  pub early : b .early ≡ slope (b .start)
+  pub late : b .late ≡ slope (b .start + b .length)
 
 -- the turn between the two ends that halving comes to, the later of them and the slope there
 pub record TurnedPost (slope : ℕ → ℤ) (start length : ℕ) (r : Turned) : Type 0 where

@@ -8,7 +8,14 @@ use lib.IntN.{ℤ}
 use lib.ListN.{length, getD, take}
 use Rattle.turns.specs.Search.{Turn, turnsOf, firstHigh, minutesOf}
 use Rattle.turns.specs.declared.search.Next.{Next}
+use Rattle.turns.specs.declared.search.Reach.{Reach}
 use Rattle.turns.specs.declared.search.Summary.{Summary}
+
+-- strides of a minute to half a day, in a month
+pub record Reaches (reach : Reach) : Type 0 where
+  pub some : 0 < reach .stride
+  pub short : reach .stride ≤ 720
+  pub within : reach .last ≤ 44_640
 
 -- the turns from a minute on: the one found and those from where the search resumes, or none
 abbrev pub onwards : (ℕ → ℤ) → ℕ → ℕ → Next → List Turn
@@ -26,6 +33,10 @@ pub record NextPost (slope : ℕ → ℤ) (stride last minute : ℕ) (r : Next) 
 -- the first n minutes kept are minutes of a month
 abbrev pub Kept : ℕ → List ℕ → Type 0
 Kept n kept = (length kept ≡ 44_640) × ((n ≤ 44_640) × ((k : ℕ) → k < n → getD kept k 0 ≤ 44_640))
+
+-- kept minutes are minutes of a month
+abbrev pub Minutes : List ℕ → Type 0
+Minutes kept = (k : ℕ) → k < length kept → getD kept k 0 ≤ 44_640
 
 -- all turns: how many, whether the first is high, and their minutes kept
 pub record FoundPost (turns : List Turn) (kept : List ℕ) (r : Summary) : Type 0 where

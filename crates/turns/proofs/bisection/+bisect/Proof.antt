@@ -14,11 +14,13 @@ use Rattle.turns.proofs.bisection.+bisect.Tie.{close}
 use borrow.Author.Needs.{needs}
 use native.Mathlib.Omega.{arith}
 use mathlib.Core.Path.{_∙_, ap}
+use mir.Syntax.{w64}
+use mir.Val.{SFits}
 use Rattle.turns.specs.inner.Lists.{slopeOf}
 use Rattle.turns.proofs.bisection.Halves.{kept, kept-result, sense-of, one-minute, early-half, late-half}
 
 abbrev μ-bisect : Measures 1 bisect-kinds.ps ℕ
-μ-bisect κs a = a .1 .1 .1 .1 .1 .1 .1 .1 .0
+μ-bisect κs a = a .1 .1 .1 .1 .1 .1 .1 .0 .length
 
 abbrev bisect-at : ℕ → In 1 bisect-kinds.ps
 bisect-at t = and 1 bisect-kinds.ps (is 1 bisect-kinds.ps μ-bisect t) bisect.Pre
@@ -35,8 +37,12 @@ bisect-turn-between-requires t c κs = search needs
 
 bisect-returns : (t : ℕ) → bisect-lts.Need-returns (bisect-claims t) (bisect-at t) bisect.Post
 bisect-returns t c =
-    let s = c .before .before in
-    one-minute _ (s .args .start) (s .args .length) (s .pre .1 .1 .0 .0) (c .before .if1 .taken) (kept (s .fits .early) (s .pre .1 .1 .1 .0)) (kept (s .fits .late) (s .pre .1 .1 .1 .1)) (c .turn-between .ensures .0) (c .turn-between .ensures .1)
+    let s = c .before .before .before .before in
+    let b = s .args .bracket in
+    let p = s .pre .1 .1 in
+    let fe : SFits w64 (b .early) = search needs in
+    let fl : SFits w64 (b .late) = search needs in
+    one-minute _ (b .start) (b .length) (p .some) (c .before .if1 .taken) (kept fe (p .early)) (kept fl (p .late)) (c .turn-between .ensures .0) (c .turn-between .ensures .1)
 
 bisect-add-cut : (t : ℕ) → bisect-lts.Need-add-cut (bisect-claims t) (bisect-at t) bisect.Post
 bisect-add-cut t c = search needs
@@ -49,26 +55,58 @@ bisect-differs-requires t c κs = search needs
 
 bisect-bisect-requires : (t : ℕ) → bisect-lts.Need-bisect-requires (bisect-claims t) (bisect-at t) bisect.Post
 bisect-bisect-requires t c κs =
-    let s = c .before .before .before .before in
-    (search needs, (s .pre .1 .0, ((omega arith, omega arith), (kept (s .fits .early) (s .pre .1 .1 .1 .0), kept-result (c .before .before .slope .ok) (c .before .before .slope .ensures)))))
+    let s = c .before .before .before .before .before .before in
+    let b = s .args .bracket in
+    let p = s .pre .1 .1 in
+    let fe : SFits w64 (b .early) = search needs in (
+      search needs,
+      (
+        s .pre .1 .0,
+        record {
+          some = omega arith;
+          within = omega (arith, p .within);
+          early = kept fe (p .early);
+          late = kept-result (c .before .before .slope .ok) (c .before .before .slope .ensures);
+        },
+      ),
+    )
 
 bisect-returns-2 : (t : ℕ) → bisect-lts.Need-returns-2 (bisect-claims t) (bisect-at t) bisect.Post
 bisect-returns-2 t c =
-    let s = c .before .before .before .before .before in
-    early-half _ (s .args .start) (s .args .length) (c .before .before .before .before .if1 .left) (sense-of (kept (s .fits .early) (s .pre .1 .1 .1 .0)) (kept-result (c .before .before .before .slope .ok) (c .before .before .before .slope .ensures)) (c .before .before .differs .ensures) (c .before .if2 .taken)) (c .bisect .ensures)
+    let s = c .before .before .before .before .before .before .before in
+    let b = s .args .bracket in
+    let told = c .before .before .before .before .before .before .struct-told in
+    let fe : SFits w64 (b .early) = search needs in
+    early-half _ (b .start) (b .length) (c .before .before .before .before .if1 .left) (sense-of (kept fe (s .pre .1 .1 .early)) (kept-result (c .before .before .before .slope .ok) (c .before .before .before .slope .ensures)) (c .before .before .differs .ensures) (c .before .if2 .taken)) (c .bisect .ensures)
 
-bisect-sub-bisect : (t : ℕ) → bisect-lts.Need-sub-bisect (bisect-claims t) (bisect-at t) bisect.Post
-bisect-sub-bisect t c = search needs
+bisect-sub-t20 : (t : ℕ) → bisect-lts.Need-sub-t20 (bisect-claims t) (bisect-at t) bisect.Post
+bisect-sub-t20 t c = search needs
 
 bisect-bisect-requires-2 : (t : ℕ) → bisect-lts.Need-bisect-requires-2 (bisect-claims t) (bisect-at t) bisect.Post
 bisect-bisect-requires-2 t c κs =
-    let s = c .before .before .before .before in
-    (search needs, (s .pre .1 .0, ((omega arith, omega arith), (kept-result (c .before .before .slope .ok) (c .before .before .slope .ensures), kept (s .fits .late) (s .pre .1 .1 .1 .1 ∙ ap (λ (m : ℕ). slopeOf (s .args .arguments .now) (s .args .lags .now) (s .args .frequencies .now) (s .args .ps .now) (s .args .qs .now) (s .args .count) m) (omega arith))))))
+    let s = c .before .before .before .before .before .before in
+    let b = s .args .bracket in
+    let p = s .pre .1 .1 in
+    let fl : SFits w64 (b .late) = search needs in (
+      search needs,
+      (
+        s .pre .1 .0,
+        record {
+          some = omega arith;
+          within = omega (arith, p .within);
+          early = kept-result (c .before .before .slope .ok) (c .before .before .slope .ensures);
+          late = kept fl (p .late ∙ ap (λ (m : ℕ). slopeOf (s .args .arguments .now) (s .args .lags .now) (s .args .frequencies .now) (s .args .ps .now) (s .args .qs .now) (s .args .count) m) (omega arith));
+        },
+      ),
+    )
 
 bisect-returns-3 : (t : ℕ) → bisect-lts.Need-returns-3 (bisect-claims t) (bisect-at t) bisect.Post
 bisect-returns-3 t c =
-    let s = c .before .before .before .before .before in
-    late-half _ (s .args .start) (s .args .length) (c .before .before .before .before .if1 .left) (sense-of (kept (s .fits .early) (s .pre .1 .1 .1 .0)) (kept-result (c .before .before .before .slope .ok) (c .before .before .before .slope .ensures)) (c .before .before .differs .ensures) (c .before .if2 .left)) (c .bisect2 .ensures)
+    let s = c .before .before .before .before .before .before .before in
+    let b = s .args .bracket in
+    let told = c .before .before .before .before .before .before .struct-told in
+    let fe : SFits w64 (b .early) = search needs in
+    late-half _ (b .start) (b .length) (c .before .before .before .before .if1 .left) (sense-of (kept fe (s .pre .1 .1 .early)) (kept-result (c .before .before .before .slope .ok) (c .before .before .before .slope .ensures)) (c .before .before .differs .ensures) (c .before .if2 .left)) (c .bisect2 .ensures)
 
 pub +bisect-spec : {M : Type 1} → statement M
 +bisect-spec = close μ-bisect λ t. bisect-lts.spec (bisect-claims t)
@@ -81,6 +119,6 @@ pub +bisect-spec : {M : Type 1} → statement M
     (bisect-differs-requires t)
     (bisect-bisect-requires t)
     (bisect-returns-2 t)
-    (bisect-sub-bisect t)
+    (bisect-sub-t20 t)
     (bisect-bisect-requires-2 t)
     (bisect-returns-3 t)

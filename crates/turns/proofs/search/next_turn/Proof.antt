@@ -16,16 +16,16 @@ use Rattle.turns.proofs.bisection.Halves.{kept, kept-result, sense-of}
 use Rattle.turns.proofs.search.Onward.{stride-passed, end-reached, turn-found}
 
 abbrev Inv-loop : tie.InvT-loop
-Inv-loop table arguments lags frequencies ps qs count stride last minute here from₀ behind₀ from behind =
+Inv-loop table arguments lags frequencies ps qs count minute here stride last from₀ behind₀ from behind =
     (from ≤ last)
     × ((toZ w64 behind ≡ slopeOf arguments lags frequencies ps qs count from)
     × (turnsOf (slopeOf arguments lags frequencies ps qs count) stride minute last ≡ turnsOf (slopeOf arguments lags frequencies ps qs count) stride from last))
 
 abbrev μ-loop : tie.MeasureT-loop
-μ-loop table arguments lags frequencies ps qs count stride last minute here from₀ behind₀ from behind = last - from
+μ-loop table arguments lags frequencies ps qs count minute here stride last from₀ behind₀ from behind = last - from
 
 loop-holds : tie.Need-loop-holds Inv-loop μ-loop
-loop-holds c = (c .pre .1 .0 .1 .1 .0, (kept (c .fits .here) (c .pre .1 .1), refl))
+loop-holds c = (c .pre .1 .0 .1, (kept (c .fits .here) (c .pre .1 .1), refl))
 
 add-loop : tie.Need-add-loop Inv-loop μ-loop
 add-loop c = search needs
@@ -42,8 +42,15 @@ differs-requires c κs = search needs
 bisect-requires : tie.Need-bisect-requires Inv-loop μ-loop
 bisect-requires c κs =
     let l = c .before .before .before .before .loop in
-    let s = c .before .before .before .before .before in
-    (s .pre .0, ((s .pre .1 .0 .0, omega arith), (l .inv .1 .0, kept-result (c .before .before .slope .ok) (c .before .before .slope .ensures))))
+    let s = c .before .before .before .before .before in (
+      s .pre .0,
+      record {
+        some = s .pre .1 .0 .0 .some;
+        within = omega (arith, s .pre .1 .0 .0 .within);
+        early = l .inv .1 .0;
+        late = kept-result (c .before .before .slope .ok) (c .before .before .slope .ensures);
+      },
+    )
 
 rises-requires : tie.Need-rises-requires Inv-loop μ-loop
 rises-requires c κs = search needs
@@ -53,12 +60,12 @@ returns c =
     let s = c .before .before .before .before .before .before .before .before in
     let l = c .before .before .before .before .before .before .before .loop in
     let b = c .before .before .bisect in
-    let h : l .from + s .args .stride ≤ s .args .last = omega (arith, c .before .before .before .before .before .before .loop-test .taken) in
+    let h : l .from + s .args .reach .stride ≤ s .args .reach .last = omega (arith, c .before .before .before .before .before .before .loop-test .taken) in
     let f : SFits w64 (b .result .slope) = search needs in
     let ahead = kept-result (c .before .before .before .before .before .slope .ok) (c .before .before .before .before .before .slope .ensures) in
     let sense = sense-of (l .inv .1 .0) ahead (c .before .before .before .before .differs .ensures) (c .before .before .before .if1 .taken) in
     let high = c .before .rises .ensures ∙ ap rising (l .inv .1 .0) in
-    turn-found _ (s .args .stride) (s .pre .1 .0 .0) (s .args .last) (s .args .minute) (l .from) (l .inv .1 .1) h sense (b .ensures) high (toZ-ofZ w64 (b .result .slope) f)
+    turn-found _ (s .args .reach .stride) (s .pre .1 .0 .0 .some) (s .args .reach .last) (s .args .minute) (l .from) (l .inv .1 .1) h sense (b .ensures) high (toZ-ofZ w64 (b .result .slope) f)
 
 loop-less : tie.Need-loop-less Inv-loop μ-loop
 loop-less c = search needs
@@ -67,15 +74,15 @@ loop-again : tie.Need-loop-again Inv-loop μ-loop
 loop-again c =
     let s = c .before .before .before .before .before in
     let l = c .before .before .before .before .loop in
-    let h : l .from + s .args .stride ≤ s .args .last = omega (arith, c .before .before .before .loop-test .taken) in
+    let h : l .from + s .args .reach .stride ≤ s .args .reach .last = omega (arith, c .before .before .before .loop-test .taken) in
     let ahead = kept-result (c .before .before .slope .ok) (c .before .before .slope .ensures) in
     let sense = sense-of (l .inv .1 .0) ahead (c .before .differs .ensures) (c .if1 .left) in
-    (h, (ahead, stride-passed _ (s .args .stride) (s .pre .1 .0 .0) (s .args .last) (s .args .minute) (l .from) (l .inv .1 .1) h sense))
+    (h, (ahead, stride-passed _ (s .args .reach .stride) (s .pre .1 .0 .0 .some) (s .args .reach .last) (s .args .minute) (l .from) (l .inv .1 .1) h sense))
 
 returns-2 : tie.Need-returns-2 Inv-loop μ-loop
 returns-2 c =
     let s = c .before in
-    end-reached _ (s .before .args .stride) (s .before .pre .1 .0 .0) (s .before .args .last) (s .before .args .minute) (s .loop .from) (s .loop .inv .1 .1) (s .loop .inv .0) (omega arith) (s .loop .inv .1 .0)
+    end-reached _ (s .before .args .reach .stride) (s .before .pre .1 .0 .0 .some) (s .before .args .reach .last) (s .before .args .minute) (s .loop .from) (s .loop .inv .1 .1) (s .loop .inv .0) (omega arith) (s .loop .inv .1 .0)
 
 pub next-turn-spec : {M : Type 1} → statement M
 next-turn-spec =
