@@ -4,7 +4,6 @@
 mod help; // one screen
 
 ghost use Rattle.clock.specs.View.{Made};
-use card_file::cardfile;
 use clock::After;
 use clock::Clock;
 use commandline::Asked;
@@ -261,11 +260,12 @@ fn with_station<'a>(
     with_clock(after, face, path, station, asked)
 }
 
-// The station file's cards, by the names of the card file.
-fn station_cards<'a>(cards: &'a [u8], station: &'a [u8]) -> StationCards {
-    let table = cardfile::read_cards(cards).table;
-    let names = table.names;
-    stationfile::read_station(station, &names, table.frequencies)
+// The station file's cards, by the names of the clock's table.
+fn station_cards(clock: Clock, station: &[u8]) -> StationCards
+    requires { ⌜ Made clock ⌝ }
+{
+    let names = clock::names(clock);
+    stationfile::read_station(station, &names.bytes, names.count)
 }
 
 // The station file, of a clock with a table.
@@ -279,7 +279,7 @@ fn with_table<'a>(
     requires { ⌜ Made clock ⌝ }
 {
     let path = commandline::word(words, request.station);
-    let read = station_cards(cards, station);
+    let read = station_cards(clock, station);
     let answer = read.answer;
     match answer {
         Answer::Accepted => with_station(
