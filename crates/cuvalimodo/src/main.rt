@@ -1,10 +1,9 @@
 // The tide clock of a berth on the command line: the month's and the day's high and low waters, heights for other programs, drawings.
 //
 // It reads the two files, asks the clock, and writes. Every refusal is the library's, and is said in one line on standard error.
-mod help;
+mod help; // one screen
 
 ghost use Rattle.clock.specs.View.{Made};
-use card_file::reader;
 use clock::After;
 use clock::Clock;
 use commandline::Asked;
@@ -13,9 +12,15 @@ use faults::cardfaults;
 use faults::stationfaults;
 use files::End;
 use files::checksum;
+use page::face;
 use page::face::Face;
+use page::face::Ground;
+use page::shown::Date;
 use refusals::Answer;
+use refusals::Refusal;
+use station_file::stationcards;
 use station_file::stationfile;
+use station_file::stationfile::StationCards;
 
 // A file's length in its buffer, and whether it is there whole.
 struct Loaded {
@@ -132,103 +137,68 @@ fn load(words: &[u8], at: usize, buffer: &mut [u8]) -> Loaded {
     }
 }
 
-// What is asked, of a clock with table and station.
-fn answer<'a>(clock: Clock, face: Face, words: &'a [u8], station: &'a [u8], request: Request)
-    requires { ⌜ Made clock ⌝ }
-{
-    let asked = request.asked;
-    let unit = commandline::word(words, request.unit);
-    let path = commandline::word(words, request.station);
+// A date: a day of a month, or day 0 for the whole month.
+fn date_of(year: u32, month: u32, day: u32) -> Date {
+    Date { year, month, day }
+}
+
+// The date that is asked for; the year 0 where none is.
+fn asked_date(asked: Asked) -> Date {
     match asked {
-        Asked::Help => help::write_help(),
-        Asked::Refusals => messages::list_refusals(),
-        Asked::Month(year, month) => views::month(clock, face, station, unit, path, year, month),
-        Asked::Day(year, month, day, minute) => {
-            views::day(clock, face, station, unit, path, year, month, day, minute)
-        }
-        Asked::Heights(year, month, step) => {
-            views::heights(clock, face, station, unit, path, year, month, step)
-        }
-        Asked::Series(year, month, start, step, count) => {
-            views::series(
-                clock,
-                face,
-                station,
-                unit,
-                path,
-                year,
-                month,
-                start,
-                step,
-                count,
-            )
-        }
-        Asked::MonthDrawing(year, month) => {
-            views::month_drawing(clock, face, station, unit, path, year, month)
-        }
-        Asked::DayDrawing(year, month, day) => {
-            views::day_drawing(clock, face, station, unit, path, year, month, day)
-        }
-        Asked::Wrong(wrong, at) => messages::wrong_word(commandline::word(words, at), wrong),
+        Asked::Month(year, month) => date_of(year, month, 0),
+        Asked::Day(year, month, day, _) => date_of(year, month, day),
+        Asked::Heights(year, month, _) => date_of(year, month, 0),
+        Asked::Series(year, month, _, _, _) => date_of(year, month, 0),
+        Asked::MonthDrawing(year, month) => date_of(year, month, 0),
+        Asked::DayDrawing(year, month, day) => date_of(year, month, day),
+        Asked::Help => date_of(0, 0, 0),
+        Asked::Refusals => date_of(0, 0, 0),
+        Asked::Wrong(_, _) => date_of(0, 0, 0),
     }
 }
 
-// The station, of a clock with a table.
-fn with_station<'a>(
-    clock: Clock,
-    words: &'a [u8],
-    cards: &'a [u8],
-    station: &'a [u8],
-    request: Request,
-)
+// What is asked, of a clock that has prepared the month.
+fn show(clock: Clock, face: Face, date: Date, asked: Asked)
     requires { ⌜ Made clock ⌝ }
 {
-    let table = reader::read_cards(cards).table;
-    let names = table.names;
-    let read = stationfile::read_station(station, &names, table.frequencies);
-    let answer = read.answer;
-    match answer {
-        Answer::Refused(refusal, line) => {
-            let fault = stationfaults::station_fault(station, line, refusal);
-            messages::refused(
-                commandline::word(words, request.station),
-                line,
-                fault,
-                refusal,
-            )
+    match asked {
+        Asked::Month(_, _) => views::month(clock, face, date),
+        Asked::Day(_, _, _, minute) => views::day(clock, face, date, minute),
+        Asked::Heights(_, _, step) => views::heights(clock, face, date, step),
+        Asked::Series(_, _, start, step, count) => {
+            views::series(clock, face, date, start, step, count)
         }
-        Answer::Accepted => {
-            let rows = read.rows;
-            let face = Face {
-                latitude: read.latitude,
-                constituents: read.count,
-                cards: checksum::crc32(cards),
-                station: checksum::crc32(station),
-            };
-            let after = clock::place_station(clock, read.latitude, read.count, rows);
-            placed(after, face, words, station, request)
-        }
+        Asked::MonthDrawing(_, _) => drawing::month(clock, face, date),
+        Asked::DayDrawing(_, _, _) => drawing::day(clock, face, date),
+        Asked::Help => {}
+        Asked::Refusals => {}
+        Asked::Wrong(_, _) => {}
     }
 }
 
-// What a station call says, and then what is asked.
-fn placed<'a>(after: After, face: Face, words: &'a [u8], station: &'a [u8], request: Request)
-    requires { ⌜ Made (after .clock) ⌝ }
+// Says the refusal of a date: at a record of the station file, or by the year or the month.
+fn say_date(path: &[u8], date: Date, refusal: Refusal, place: usize) {
+    if 0 < place {
+        messages::refused(path, line_of(place), faults::no_words(), refusal);
+        return;
+    }
+    if calendar::in_range(1976, date.month) {
+        messages::refused_number(b"year", date.year as u64, refusal);
+        return;
+    }
+    messages::refused_number(b"month", date.month as u64, refusal)
+}
+
+// Sets the date that is asked for, of a clock with table and station, and shows what is asked.
+fn with_date(clock: Clock, face: Face, path: &[u8], asked: Asked)
+    requires { ⌜ Made clock ⌝ }
 {
-    let said = after.answer;
-    let clock = after.clock;
-    match said {
-        Answer::Refused(refusal, place) => {
-            let line = line_of(place);
-            let fault = stationfaults::station_fault(station, line, refusal);
-            messages::refused(
-                commandline::word(words, request.station),
-                line,
-                fault,
-                refusal,
-            )
-        }
-        Answer::Accepted => answer(clock, face, words, station, request),
+    let date = asked_date(asked);
+    let after = clock::set_date(clock, date.year, date.month);
+    let answer = after.answer;
+    match answer {
+        Answer::Accepted => show(after.clock, face, date, asked),
+        Answer::Refused(refusal, place) => say_date(path, date, refusal, place),
     }
 }
 
@@ -237,22 +207,117 @@ fn line_of(place: usize) -> usize {
     if place < 1_000_000 { place + 1 } else { place }
 }
 
-// The card file: its table, or its refusal.
+// Says the refusal of the station file at a line.
+fn say_station<'a>(path: &'a [u8], station: &'a [u8], line: usize, refusal: Refusal) {
+    let fault = stationfaults::station_fault(station, line, refusal);
+    messages::refused(path, line, fault, refusal)
+}
+
+// What the sheets of a station stand on: what was read of it, and the two files' checksums.
+fn ground_of<'a>(read: StationCards, cards: &'a [u8], station: &'a [u8]) -> Ground {
+    Ground {
+        latitude: read.latitude,
+        constituents: read.count,
+        cards: checksum::crc32(cards),
+        station: checksum::crc32(station),
+    }
+}
+
+// What the sheets of a station say on their face.
+fn face_of<'a>(ground: Ground, station: &'a [u8], unit: &'a [u8]) -> Face {
+    face::face_of(
+        stationcards::station_name(station),
+        stationcards::time_zone(station),
+        unit,
+        ground,
+    )
+}
+
+// What the clock says of a station, and then what is asked.
+fn with_clock<'a>(after: After, face: Face, path: &'a [u8], station: &'a [u8], asked: Asked)
+    requires { ⌜ Made (after .clock) ⌝ }
+{
+    let answer = after.answer;
+    match answer {
+        Answer::Accepted => with_date(after.clock, face, path, asked),
+        Answer::Refused(refusal, place) => say_station(path, station, line_of(place), refusal),
+    }
+}
+
+// A station that was read, of a clock with a table.
+fn with_station<'a>(
+    clock: Clock,
+    read: StationCards,
+    face: Face,
+    path: &'a [u8],
+    station: &'a [u8],
+    asked: Asked,
+)
+    requires { ⌜ Made clock ⌝ }
+{
+    let rows = read.rows;
+    let after = clock::place_station(clock, read.latitude, read.count, rows);
+    with_clock(after, face, path, station, asked)
+}
+
+// The station file's cards, by the names of the clock's table.
+fn station_cards(clock: Clock, station: &[u8]) -> StationCards
+    requires { ⌜ Made clock ⌝ }
+{
+    let names = clock::names(clock);
+    stationfile::read_station(station, &names.bytes, names.count)
+}
+
+// The station file, of a clock with a table.
+fn with_table<'a>(
+    clock: Clock,
+    words: &'a [u8],
+    cards: &'a [u8],
+    station: &'a [u8],
+    request: Request,
+)
+    requires { ⌜ Made clock ⌝ }
+{
+    let path = commandline::word(words, request.station);
+    let read = station_cards(clock, station);
+    let answer = read.answer;
+    match answer {
+        Answer::Accepted => with_station(
+            clock,
+            read,
+            face_of(
+                ground_of(read, cards, station),
+                station,
+                commandline::word(words, request.unit),
+            ),
+            path,
+            station,
+            request.asked,
+        ),
+        Answer::Refused(refusal, line) => say_station(path, station, line, refusal),
+    }
+}
+
+// Says the refusal of the card file at a line.
+fn say_cards<'a>(path: &'a [u8], cards: &'a [u8], line: usize, refusal: Refusal) {
+    let fault = cardfaults::card_fault(cards, line, refusal);
+    messages::refused(path, line, fault, refusal)
+}
+
+// What the clock says of the card file, and then the station file.
 fn with_cards<'a>(words: &'a [u8], cards: &'a [u8], station: &'a [u8], request: Request) {
     let after = clock::load_cards(clock::new(), cards);
-    let said = after.answer;
-    let clock = after.clock;
-    match said {
+    let answer = after.answer;
+    match answer {
+        Answer::Accepted => with_table(after.clock, words, cards, station, request),
         Answer::Refused(refusal, line) => {
-            let fault = cardfaults::card_fault(cards, line, refusal);
-            messages::refused(
+            say_cards(
                 commandline::word(words, request.cards),
+                cards,
                 line,
-                fault,
                 refusal,
             )
         }
-        Answer::Accepted => with_station(clock, words, cards, station, request),
     }
 }
 

@@ -1,7 +1,7 @@
-// drawing_picture: say here in a sentence what the crate is for.
-pub mod title; // What a drawing says on its face
-mod levels; // The height axis of a plot
-mod labels; // A high or low water on a plot
-mod axes; // A plot of a drawing
-mod marks; // The high and low waters of a plot
-pub mod picture; // Pictures of heights and turns as SVG
+// What is drawn: a day, or a month in rows of a week, as SVG on a page, from heights and turns that the clock gave.
+mod axes; // a plot's frame, hours or days, and curve
+mod labels; // a turn's mark and label
+mod levels; // the height axis
+mod marks; // a plot's turns
+pub mod picture; // the plots of a day and of a month
+pub mod title; // a drawing's head and foot

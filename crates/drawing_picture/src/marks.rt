@@ -8,6 +8,7 @@ use drawing_plots::scale::Plot;
 use drawing_plots::spots;
 use drawing_svg::svg;
 use page::figures;
+use page::shown::Turns;
 
 // A turn: its minute in the month, its height, and whether it is high water.
 struct Turn {
@@ -47,48 +48,39 @@ fn put_turn(page: &mut [u8], before: Marked, plot: Plot, kind: bool, turn: Turn)
     before
 }
 
-// Puts the high waters of a plot, or its low waters. In the month they take turns.
-fn put_kind<'a>(
-    page: &mut [u8],
-    at: usize,
-    plot: Plot,
-    minutes: &'a [u32],
-    heights: &'a [i64],
-    first_high: bool,
-    kind: bool,
-) -> usize {
+// The turn at a place of a month's, of which the first is high or not: they alternate.
+fn turn_at(turns: Turns, i: usize) -> Turn {
+    Turn {
+        minute: figures::minute_at(&turns.minutes, i),
+        height: figures::height_at(&turns.heights, i),
+        high: if i % 2 == 0 {
+            turns.first
+        } else {
+            !turns.first
+        },
+    }
+}
+
+// Puts the high waters of a plot, or its low waters.
+fn put_kind(page: &mut [u8], at: usize, plot: Plot, turns: Turns, kind: bool) -> usize {
     let mut marked = Marked {
         at,
         lanes: scale::free_lanes(),
     };
-    let mut high = first_high;
     let mut i = 0;
-    while i < minutes.len() {
-        let turn = Turn {
-            minute: minutes[i],
-            height: figures::height_at(heights, i),
-            high,
-        };
-        marked = put_turn(page, marked, plot, kind, turn);
-        high = !high;
+    while i < turns.count {
+        marked = put_turn(page, marked, plot, kind, turn_at(turns, i));
         i += 1;
     }
     marked.at
 }
 
-// Puts the turns of a month that belong to a plot, where the month's first is high or not.
-pub fn put_marks<'a>(
-    page: &mut [u8],
-    at: usize,
-    plot: Plot,
-    minutes: &'a [u32],
-    heights: &'a [i64],
-    first_high: bool,
-) -> usize
+// Puts the turns of a month that belong to a plot.
+pub fn put_marks(page: &mut [u8], at: usize, plot: Plot, turns: Turns) -> usize
     ensures { λ r. ⌜ r ≤ length (now (page .entry)) ⌝ }
 {
     let a = svg::put_group(page, at, plot.text as u64);
-    let b = put_kind(page, a, plot, minutes, heights, first_high, true);
-    let c = put_kind(page, b, plot, minutes, heights, first_high, false);
+    let b = put_kind(page, a, plot, turns, true);
+    let c = put_kind(page, b, plot, turns, false);
     svg::end_group(page, c)
 }

@@ -8,6 +8,8 @@ use drawing_plots::plots;
 use drawing_plots::scale;
 use drawing_plots::scale::Plot;
 use drawing_plots::scale::Scale;
+use page::shown::Date;
+use page::shown::Turns;
 
 // Puts the lines, the frame and the ticks of a plot: upright lines and ticks so many minutes apart, ticks of a size.
 fn put_axes(page: &mut [u8], at: usize, plot: Plot, lines: u16, ticks: u16, size: u16) -> usize
@@ -21,85 +23,58 @@ fn put_axes(page: &mut [u8], at: usize, plot: Plot, lines: u16, ticks: u16, size
     axes::put_ticks(page, c, plot, ticks, size)
 }
 
-// Puts the curve of a plot through heights from a place of a series on, a step of minutes apart, and its turns.
-fn put_tides<'a>(
-    page: &mut [u8],
-    at: usize,
-    plot: Plot,
-    from: usize,
-    step: u16,
-    heights: &'a [i64],
-    minutes: &'a [u32],
-    turns: &'a [i64],
-    first_high: bool,
-) -> usize
-    ensures { λ r. ⌜ r ≤ length (now (page .entry)) ⌝ }
-{
-    let next = axes::put_curve(page, at, plot, heights, from, step);
-    marks::put_marks(page, next, plot, minutes, turns, first_high)
-}
-
-// The plot of a day, whose height axis holds its heights.
+// The plot of a day, whose height axis holds its heights, where its month has so many days.
 fn day_plot(heights: &[i64], day: u32, days: u32) -> Plot {
     let lines = scale::scale_of(scale::extended(scale::no_heights(), heights), 9);
     plots::day_plot(lines, day, days)
 }
 
 // Puts the plot of a day, where the month has so many days: axes, the curve of its heights, five minutes apart, and its turns among the month's.
-pub fn put_day<'a>(
+pub fn put_day(
     page: &mut [u8],
     at: usize,
-    day: u32,
+    date: Date,
     days: u32,
-    heights: &'a [i64],
-    minutes: &'a [u32],
-    turns: &'a [i64],
-    first_high: bool,
+    heights: &[i64],
+    turns: Turns,
 ) -> usize
     ensures { λ r. ⌜ r ≤ length (now (page .entry)) ⌝ }
 {
-    let plot = day_plot(heights, day, days);
+    let plot = day_plot(heights, date.day, days);
     let a = put_axes(page, at, plot, 60, 60, 50);
     let b = axes::put_hours(page, a, plot);
-    put_tides(page, b, plot, 0, 5, heights, minutes, turns, first_high)
+    let c = axes::put_curve(page, b, plot, heights, 0, 5);
+    marks::put_marks(page, c, plot, turns)
 }
 
 // Puts the plot of a week: axes, the curve of its heights among the month's, 20 minutes apart, and its turns among the month's.
-fn put_week<'a>(
-    page: &mut [u8],
-    at: usize,
-    plot: Plot,
-    heights: &'a [i64],
-    minutes: &'a [u32],
-    turns: &'a [i64],
-    first_high: bool,
-) -> usize
+fn put_week(page: &mut [u8], at: usize, plot: Plot, heights: &[i64], turns: Turns) -> usize
     ensures { λ r. ⌜ r ≤ length (now (page .entry)) ⌝ }
 {
     let a = put_axes(page, at, plot, 1_440, 360, 40);
     let b = axes::put_days(page, a, plot);
     let from = plot.first as usize / 20;
-    put_tides(page, b, plot, from, 20, heights, minutes, turns, first_high)
+    let c = axes::put_curve(page, b, plot, heights, from, 20);
+    marks::put_marks(page, c, plot, turns)
+}
+
+// The first so many heights, or all.
+fn first_heights(heights: &[i64], count: usize) -> &[i64] {
+    if count < heights.len() {
+        return &heights[..count];
+    }
+    heights
 }
 
 // The lines of a month, which hold its heights and its turns.
-fn month_lines<'a>(heights: &'a [i64], turns: &'a [i64]) -> Scale {
-    scale::scale_of(
-        scale::extended(scale::extended(scale::no_heights(), heights), turns),
-        5,
-    )
+fn month_lines(heights: &[i64], turns: Turns) -> Scale {
+    let curve = scale::extended(scale::no_heights(), heights);
+    let all = scale::extended(curve, first_heights(&turns.heights, turns.count));
+    scale::scale_of(all, 5)
 }
 
 // Puts the plots of a month's weeks, with one scale of heights.
-pub fn put_month<'a>(
-    page: &mut [u8],
-    at: usize,
-    days: u16,
-    heights: &'a [i64],
-    minutes: &'a [u32],
-    turns: &'a [i64],
-    first_high: bool,
-) -> usize
+pub fn put_month(page: &mut [u8], at: usize, days: u16, heights: &[i64], turns: Turns) -> usize
     ensures { λ r. ⌜ (at ≤ length (now (page .entry)) → r ≤ length (now (page .entry))) ⌝ }
 {
     let lines = month_lines(heights, turns);
@@ -107,7 +82,7 @@ pub fn put_month<'a>(
     let mut week: u8 = 0;
     while week < 5 && 0 < plots::week_days(days, week) {
         let plot = plots::week_plot(lines, days, week);
-        next = put_week(page, next, plot, heights, minutes, turns, first_high);
+        next = put_week(page, next, plot, heights, turns);
         week += 1;
     }
     next

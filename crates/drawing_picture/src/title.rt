@@ -1,21 +1,16 @@
-// What a drawing says on its face: the station, the month, the times' zone, the heights' unit, and what it stands on.
+// What a drawing says on its face: the station, the date, the times' zone, the heights' unit, and what it stands on.
 ghost use Prim.Native.Nat.{_≤_};
 ghost use lib.ListN.{length};
 use drawing_svg::svg;
 use page::face;
 use page::face::Face;
+use page::face::Ground;
+use page::shown::Date;
 
 // The width of a drawing, and where its text and its plots begin; ten units make a pixel.
 const WIDTH: u64 = 9_700;
 
 const LEFT: u64 = 700;
-
-// A day of a month, or day 0 for the whole month.
-pub struct When {
-    pub year: u32,
-    pub month: u32,
-    pub day: u32,
-}
 
 // Begins a drawing of a height, with its white ground.
 pub fn put_start(page: &mut [u8], at: usize, height: u64) -> usize
@@ -49,16 +44,16 @@ fn put_day(page: &mut [u8], at: usize, day: u32) -> usize {
 }
 
 // Puts a form with a number, and the day, where it is not 0, and the month behind it.
-fn put_dated(page: &mut [u8], at: usize, form: &[u8], a: u64, when: When) -> usize {
+fn put_dated(page: &mut [u8], at: usize, form: &[u8], a: u64, date: Date) -> usize {
     let next = svg::put_form(page, at, form, a, 0, 0, 0);
-    let day = put_day(page, next, when.day);
-    face::put_month_name(page, day, when.month)
+    let day = put_day(page, next, date.day);
+    face::put_month_name(page, day, date.month)
 }
 
 // Puts the title that a reader of the file sees, up to its year: the station and when.
-fn put_title(page: &mut [u8], at: usize, name: &[u8], when: When) -> usize {
+fn put_title(page: &mut [u8], at: usize, name: &[u8], date: Date) -> usize {
     let next = put_lead(page, at, b"<title>", 0, 0, name);
-    put_dated(page, next, b", ", 0, when)
+    put_dated(page, next, b", ", 0, date)
 }
 
 // Puts the title's year, and the station's name, large.
@@ -73,16 +68,16 @@ fn put_name(page: &mut [u8], at: usize, name: &[u8], year: u32) -> usize {
     )
 }
 
-// Puts when.
-fn put_when(page: &mut [u8], at: usize, when: When) -> usize {
+// Puts the date.
+fn put_date(page: &mut [u8], at: usize, date: Date) -> usize {
     let next = put_dated(
         page,
         at,
         b"</text>\n<text x=\"@\" y=\"660\" font-size=\"160\">",
         LEFT,
-        when,
+        date,
     );
-    svg::put_form(page, next, b" @; times ", when.year as u64, 0, 0, 0)
+    svg::put_form(page, next, b" @; times ", date.year as u64, 0, 0, 0)
 }
 
 // Puts what the times are: GMT, or the station file's own zone.
@@ -102,27 +97,19 @@ fn put_unit(page: &mut [u8], at: usize, unit: &[u8]) -> usize
     svg::put_plain(page, next, b"</text>\n")
 }
 
-// Puts the head of a drawing: its title, the station's name, when, the times' zone and the heights' unit.
-pub fn put_head(
-    page: &mut [u8],
-    at: usize,
-    name: &[u8],
-    zone: &[u8],
-    unit: &[u8],
-    when: When,
-) -> usize
+// Puts the head of a drawing: its title, the station's name, the date, the times' zone and the heights' unit.
+pub fn put_head(page: &mut [u8], at: usize, face: Face, date: Date) -> usize
     ensures { λ r. ⌜ r ≤ length (now (page .entry)) ⌝ }
 {
-    let word = face::trimmed(name);
-    let a = put_title(page, at, word, when);
-    let b = put_name(page, a, word, when.year);
-    let c = put_when(page, b, when);
-    let d = put_zone(page, c, zone);
-    put_unit(page, d, unit)
+    let a = put_title(page, at, face::trimmed(&face.name), date);
+    let b = put_name(page, a, face::trimmed(&face.name), date.year);
+    let c = put_date(page, b, date);
+    let d = put_zone(page, c, &face.zone);
+    put_unit(page, d, face::first(&face.unit, face.unit_bytes))
 }
 
 // Puts what the marks are, what the drawing stands on, and its end.
-pub fn put_foot(page: &mut [u8], at: usize, top: u64, stands_on: Face) -> usize
+pub fn put_foot(page: &mut [u8], at: usize, top: u64, ground: Ground) -> usize
     ensures { λ r. ⌜ r ≤ length (now (page .entry)) ⌝ }
 {
     let a = svg::put_form(
@@ -134,6 +121,6 @@ pub fn put_foot(page: &mut [u8], at: usize, top: u64, stands_on: Face) -> usize
         0,
         0,
     );
-    let b = face::put_face(page, a, stands_on);
+    let b = face::put_ground(page, a, ground);
     svg::put_plain(page, b, b"</tspan></text>\n</svg>\n")
 }

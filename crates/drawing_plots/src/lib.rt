@@ -1,5 +1,5 @@
-// drawing_plots: say here in a sentence what the crate is for.
-pub mod scale; // From heights and minutes to places on a drawing, in whole numbers
-pub mod sizes; // Sizes of a plot, in units of the drawing, of which ten make a pixel
-pub mod spots; // Where things stand on a plot
-pub mod plots; // Where the plots of a drawing stand, and which minutes of the month are theirs
+// The geometry of a drawing, in whole numbers: ten units make a pixel.
+pub mod plots; // where plots stand, and which minutes are theirs
+pub mod scale; // from heights and minutes to places
+pub mod sizes; // sizes of a plot
+pub mod spots; // where things stand on a plot

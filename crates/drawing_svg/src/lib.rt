@@ -1,3 +1,3 @@
-// drawing_svg: say here in a sentence what the crate is for.
-mod markup; // Text of a drawing, before it is put on a page
-pub mod svg; // The pieces that an SVG drawing is written of
+// The pieces that an SVG drawing is written of, and text as XML has it.
+mod markup; // characters, escapes, UTF-8
+pub mod svg; // forms with numbers, groups, escaped text

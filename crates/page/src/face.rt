@@ -3,19 +3,69 @@
 // A function that puts text takes a lent page and a place on it, as those of `output` do, and gives the place behind the text.
 ghost use mathlib.Core.Path.{_≡_};
 ghost use Prim.Native.Nat.{_≤_};
-ghost use lib.ListN.{length};
+ghost use lib.ListN.{length, take};
+ghost use Rattle.columns.specs.Columns.{columns};
+use crate::shown::Date;
 use digits::dates;
 use digits::texts;
 pub use digits::texts::is_greenwich;
 pub use digits::texts::trimmed;
 
+// The longest unit: a word of the command line is shorter.
+pub const UNIT: usize = 4_096;
+
 // What a sheet stands on: the station's latitude in minutes, north positive, how many constituents it has, and the CRC-32 of the card
 // file and of the station file.
-pub struct Face {
+pub struct Ground {
     pub latitude: i32,
     pub constituents: usize,
     pub cards: u32,
     pub station: u32,
+}
+
+// What every sheet says on its face: the station's name and its times' zone, with blanks behind them, the unit of its heights, a word of so
+// many bytes, and what the sheet stands on.
+pub struct Face {
+    pub name: [u8; 22],
+    pub zone: [u8; 3],
+    pub unit: [u8; UNIT],
+    pub unit_bytes: usize,
+    pub ground: Ground,
+}
+
+// The first bytes of a row, so many or all.
+pub fn first(row: &[u8], bytes: usize) -> &[u8]
+    ensures { λ r. ⌜ now r ≡ take bytes (now (row .entry)) ⌝ }
+{
+    columns::part(row, 0, bytes)
+}
+
+// Fills a row with a text's columns: blanks behind its end.
+fn fill(row: &mut [u8], text: &[u8]) {
+    let mut k: usize = 0;
+    while k < row.len() {
+        row[k] = columns::column(text, k);
+        k += 1;
+    }
+}
+
+// The face of a station's sheets.
+pub fn face_of<'a>(name: &'a [u8], zone: &'a [u8], unit: &'a [u8], ground: Ground) -> Face
+    ensures { λ r. ⌜ r .ground ≡ ground ⌝ }
+{
+    let mut names = [32u8; 22];
+    fill(&mut names, name);
+    let mut zones = [32u8; 3];
+    fill(&mut zones, zone);
+    let mut units = [32u8; UNIT];
+    fill(&mut units, unit);
+    Face {
+        name: names,
+        zone: zones,
+        unit: units,
+        unit_bytes: unit.len(),
+        ground,
+    }
 }
 
 // Puts a month's name, or its number where it has none.
@@ -31,28 +81,28 @@ pub fn put_month_name(page: &mut [u8], at: usize, month: u32) -> usize
 }
 
 // Puts a month and its year, as July 1976.
-pub fn put_month(page: &mut [u8], at: usize, year: u32, month: u32) -> usize
+pub fn put_month(page: &mut [u8], at: usize, date: Date) -> usize
     ensures { λ r. ⌜ r ≤ length (now (page .entry)) ⌝ }
 {
-    let name = put_month_name(page, at, month);
+    let name = put_month_name(page, at, date.month);
     let blank = output::put(page, name, 32);
-    output::put_number(page, blank, year as u64)
+    output::put_number(page, blank, date.year as u64)
 }
 
 // Puts a station's name and a comma, behind which a view puts its month or day.
-pub fn put_name(page: &mut [u8], at: usize, name: &[u8]) -> usize
+pub fn put_name(page: &mut [u8], at: usize, face: Face) -> usize
     ensures { λ r. ⌜ r ≤ length (now (page .entry)) ⌝ }
 {
-    let next = output::put_bytes(page, at, texts::trimmed(name));
+    let next = output::put_bytes(page, at, texts::trimmed(&face.name));
     output::put_bytes(page, next, b", ")
 }
 
 // Puts a station's name and the month, on a line.
-pub fn put_title(page: &mut [u8], at: usize, name: &[u8], year: u32, month: u32) -> usize
+pub fn put_title(page: &mut [u8], at: usize, face: Face, date: Date) -> usize
     ensures { λ r. ⌜ r ≤ length (now (page .entry)) ⌝ }
 {
-    let comma = put_name(page, at, name);
-    let next = put_month(page, comma, year, month);
+    let comma = put_name(page, at, face);
+    let next = put_month(page, comma, date);
     output::put(page, next, 10)
 }
 
@@ -102,11 +152,11 @@ fn put_sums(page: &mut [u8], at: usize, cards: u32, station: u32) -> usize
 }
 
 // Puts what a sheet stands on: latitude, constituents and the two checksums, on one line with no line end.
-pub fn put_face(page: &mut [u8], at: usize, face: Face) -> usize
+pub fn put_ground(page: &mut [u8], at: usize, ground: Ground) -> usize
     ensures { λ r. ⌜ r ≤ length (now (page .entry)) ⌝ }
 {
-    let next = put_station(page, at, face.latitude, face.constituents);
-    put_sums(page, next, face.cards, face.station)
+    let next = put_station(page, at, ground.latitude, ground.constituents);
+    put_sums(page, next, ground.cards, ground.station)
 }
 
 // Puts what the times are: GMT, or the station file's own zone.
@@ -121,26 +171,20 @@ fn put_zone(page: &mut [u8], at: usize, zone: &[u8]) -> usize
 }
 
 // Puts the unit of the heights and the zone of the times, on one line with no line end.
-pub fn put_scales<'a>(page: &mut [u8], at: usize, zone: &'a [u8], unit: &'a [u8]) -> usize
+pub fn put_scales(page: &mut [u8], at: usize, face: Face) -> usize
     ensures { λ r. ⌜ r ≤ length (now (page .entry)) ⌝ }
 {
     let word = output::put_bytes(page, at, b"heights in ");
-    let comma = output::put_bytes(page, word, unit);
+    let comma = output::put_bytes(page, word, first(&face.unit, face.unit_bytes));
     let next = output::put_bytes(page, comma, b", times ");
-    put_zone(page, next, zone)
+    put_zone(page, next, &face.zone)
 }
 
 // Puts the scales and what a sheet stands on, on two lines, the second with no line end.
-pub fn put_stand<'a>(
-    page: &mut [u8],
-    at: usize,
-    face: Face,
-    zone: &'a [u8],
-    unit: &'a [u8],
-) -> usize
+pub fn put_stand(page: &mut [u8], at: usize, face: Face) -> usize
     ensures { λ r. ⌜ r ≤ length (now (page .entry)) ⌝ }
 {
-    let scales = put_scales(page, at, zone, unit);
+    let scales = put_scales(page, at, face);
     let next = output::put(page, scales, 10);
-    put_face(page, next, face)
+    put_ground(page, next, face.ground)
 }

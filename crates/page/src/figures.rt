@@ -4,6 +4,7 @@
 ghost use Prim.Native.Nat.{_≤_};
 ghost use lib.ListN.{length};
 pub use digits::height_at;
+pub use digits::minute_at;
 
 // Puts so many blanks.
 pub fn put_blanks(page: &mut [u8], at: usize, blanks: usize) -> usize

@@ -1,3 +1,4 @@
-// page: say here in a sentence what the crate is for.
-pub mod figures; // The figures on a sheet, put on a page right in their columns
-pub mod face; // What every sheet says on its face, and the pieces of text that all views share
+// What all sheets and drawings share: what they show, what they say on their face, and their figures.
+pub mod face; // the station, the scales, what a sheet stands on
+pub mod figures; // numbers, heights and times in their columns
+pub mod shown; // a date, a month's turns

@@ -6,6 +6,7 @@ use digits::texts;
 use page::face;
 use page::face::Face;
 use page::figures;
+use page::shown::Date;
 
 // Whether a byte is from one to another.
 fn among(byte: u8, low: u8, high: u8) -> bool {
@@ -48,25 +49,25 @@ fn put_time_name(page: &mut [u8], at: usize, zone: &[u8]) -> usize {
 }
 
 // Puts the two columns' names, on a line.
-fn put_names<'a>(page: &mut [u8], at: usize, zone: &'a [u8], unit: &'a [u8]) -> usize
+fn put_names(page: &mut [u8], at: usize, face: Face) -> usize
     ensures { λ r. ⌜ r ≤ length (now (page .entry)) ⌝ }
 {
-    let a = put_time_name(page, at, zone);
+    let a = put_time_name(page, at, &face.zone);
     let b = output::put_bytes(page, a, b",height_");
-    let c = put_plain(page, b, unit);
+    let c = put_plain(page, b, face::first(&face.unit, face.unit_bytes));
     output::put(page, c, 10)
 }
 
 // Puts the lines before the rows: what the heights stand on, and the columns' names.
-fn put_head<'a>(page: &mut [u8], at: usize, face: Face, zone: &'a [u8], unit: &'a [u8]) -> usize
+fn put_head(page: &mut [u8], at: usize, face: Face) -> usize
     ensures { λ r. ⌜ r ≤ length (now (page .entry)) ⌝ }
 {
     let a = output::put_bytes(page, at, b"# ");
-    let b = face::put_scales(page, a, zone, unit);
+    let b = face::put_scales(page, a, face);
     let c = output::put_bytes(page, b, b"\n# ");
-    let d = face::put_face(page, c, face);
+    let d = face::put_ground(page, c, face.ground);
     let e = output::put(page, d, 10);
-    put_names(page, e, zone, unit)
+    put_names(page, e, face)
 }
 
 // Puts what stands between a time and a height: the mark of Greenwich's time, and a comma.
@@ -78,8 +79,8 @@ fn put_comma(page: &mut [u8], at: usize, greenwich: bool) -> usize {
 }
 
 // Puts the ISO time of a minute of a month, as 1976-07-01T00:00.
-fn put_iso(page: &mut [u8], at: usize, year: u32, month: u32, minute: u32) -> usize {
-    let next = output::put_bytes(page, at, &dates::iso_day(year, month, minute));
+fn put_iso(page: &mut [u8], at: usize, date: Date, minute: u32) -> usize {
+    let next = output::put_bytes(page, at, &dates::iso_day(date.year, date.month, minute));
     figures::put_clock(page, next, minute)
 }
 
@@ -88,14 +89,13 @@ fn put_row(
     page: &mut [u8],
     at: usize,
     greenwich: bool,
-    year: u32,
-    month: u32,
+    date: Date,
     minute: u32,
     height: i64,
 ) -> usize
     ensures { λ r. ⌜ r ≤ length (now (page .entry)) ⌝ }
 {
-    let time = put_iso(page, at, year, month, minute);
+    let time = put_iso(page, at, date, minute);
     let comma = put_comma(page, time, greenwich);
     let next = figures::put_exact(page, comma, height);
     output::put(page, next, 10)
@@ -106,13 +106,12 @@ fn step_on(minute: u32, step: u32) -> u32 {
     std::num::wrapping_add_u32(minute, step)
 }
 
-// Puts a row for each height, from a start in the month on, a step apart.
+// Puts a row for each height, from a minute of the month on, a step apart.
 fn put_rows(
     page: &mut [u8],
     at: usize,
     greenwich: bool,
-    year: u32,
-    month: u32,
+    date: Date,
     start: u32,
     step: u32,
     heights: &[i64],
@@ -123,40 +122,28 @@ fn put_rows(
     let mut minute = start;
     let mut i = 0;
     while i < heights.len() {
-        next = put_row(page, next, greenwich, year, month, minute, heights[i]);
+        next = put_row(page, next, greenwich, date, minute, heights[i]);
         minute = step_on(minute, step);
         i += 1;
     }
     next
 }
 
-// Puts heights, from a start in the month on, a step apart, with what they stand on before them.
-pub fn put_heights<'a>(
+// Puts heights, from a minute of the month on, a step apart, with what they stand on before them.
+pub fn put_heights(
     page: &mut [u8],
     at: usize,
     face: Face,
-    name: &'a [u8],
-    zone: &'a [u8],
-    unit: &'a [u8],
-    year: u32,
-    month: u32,
+    date: Date,
     start: u32,
     step: u32,
-    heights: &'a [i64],
+    heights: &[i64],
 ) -> usize
     ensures { λ r. ⌜ r ≤ length (now (page .entry)) ⌝ }
 {
     let mark = output::put_bytes(page, at, b"# ");
-    let title = face::put_title(page, mark, name, year, month);
-    let head = put_head(page, title, face, zone, unit);
-    put_rows(
-        page,
-        head,
-        texts::is_greenwich(zone),
-        year,
-        month,
-        start,
-        step,
-        heights,
-    )
+    let title = face::put_title(page, mark, face, date);
+    let head = put_head(page, title, face);
+    let greenwich = texts::is_greenwich(&face.zone);
+    put_rows(page, head, greenwich, date, start, step, heights)
 }

@@ -5,6 +5,8 @@ use digits::dates;
 use page::face;
 use page::face::Face;
 use page::figures;
+use page::shown::Date;
+use page::shown::Turns;
 
 // The next high or low water: whether there is one, whether it lies in the month after, its minute and its height.
 pub struct Next {
@@ -12,6 +14,23 @@ pub struct Next {
     pub later: bool,
     pub minute: u32,
     pub height: i64,
+}
+
+// What is to be known at a minute of the month: the height, and the next high and low water.
+pub struct Water {
+    pub minute: u32,
+    pub height: i64,
+    pub high: Next,
+    pub low: Next,
+}
+
+// A day of the month: its first minute, its turns from one to before another, its lowest and its highest water.
+struct Day {
+    start: u32,
+    from: usize,
+    to: usize,
+    low: i64,
+    high: i64,
 }
 
 // The lower and the higher of two heights.
@@ -84,30 +103,19 @@ fn mark_of(high: bool) -> u8 {
 }
 
 // Puts a row for each turn from one to before another.
-fn put_turns<'a>(
-    page: &mut [u8],
-    at: usize,
-    day: u32,
-    from: usize,
-    to: usize,
-    first: bool,
-    low: i64,
-    high: i64,
-    minutes: &'a [u32],
-    heights: &'a [i64],
-) -> usize {
+fn put_turns(page: &mut [u8], at: usize, day: Day, from: usize, to: usize, turns: Turns) -> usize {
     let mut next = at;
     let mut i = from;
     while i < to {
-        let height = digits::height_at(heights, i);
+        let height = digits::height_at(&turns.heights, i);
         next = put_row(
             page,
             next,
-            day,
-            digits::minute_at(minutes, i),
+            digits::day_of(day.start),
+            digits::minute_at(&turns.minutes, i),
             height,
-            column_of(height, low, high),
-            mark_of(swings::is_high(first, i)),
+            column_of(height, day.low, day.high),
+            mark_of(swings::is_high(turns.first, i)),
         );
         i += 1;
     }
@@ -119,109 +127,77 @@ fn hour_minute(start: u32, hour: u32) -> u32 {
     std::num::wrapping_add_u32(start, hour % 25 * 60)
 }
 
-// Puts a row for each of the day's hours, and between them the turns, of which the day's are those from one to before another.
-fn put_curve<'a>(
-    page: &mut [u8],
-    at: usize,
-    start: u32,
-    from: usize,
-    to: usize,
-    first: bool,
-    low: i64,
-    high: i64,
-    hourly: &'a [i64],
-    minutes: &'a [u32],
-    heights: &'a [i64],
-) -> usize
+// Puts the row of an hour of the day.
+fn put_hour(page: &mut [u8], at: usize, day: Day, hour: u32, height: i64) -> usize
     ensures { λ r. ⌜ r ≤ length (now (page .entry)) ⌝ }
 {
-    let day = digits::day_of(start);
+    put_row(
+        page,
+        at,
+        digits::day_of(day.start),
+        hour_minute(day.start, hour),
+        height,
+        column_of(height, day.low, day.high),
+        b'*',
+    )
+}
+
+// Puts a row for each of the day's hours, and its turns between them.
+fn put_curve(page: &mut [u8], at: usize, day: Day, hourly: &[i64], turns: Turns) -> usize
+    ensures { λ r. ⌜ r ≤ length (now (page .entry)) ⌝ }
+{
     let mut next = output::on_page(page.len(), at);
-    let mut turn = from;
+    let mut turn = day.from;
     let mut hour: u32 = 0;
     while hour < 25 {
-        let minute = hour_minute(start, hour);
-        let end = swings::turn_from(minutes, turn, to, minute as u64);
-        next = put_turns(
-            page,
-            next,
-            day,
-            turn,
-            end,
-            first,
-            low,
-            high,
-            minutes,
-            heights,
-        );
+        let minute = hour_minute(day.start, hour);
+        let end = swings::turn_from(&turns.minutes, turn, day.to, minute as u64);
+        next = put_turns(page, next, day, turn, end, turns);
         turn = end;
         let height = digits::height_at(hourly, hour as usize);
-        next = put_row(
-            page,
-            next,
-            day,
-            minute,
-            height,
-            column_of(height, low, high),
-            b'*',
-        );
+        next = put_hour(page, next, day, hour, height);
         hour += 1;
     }
     next
 }
 
-// Puts the curve of the day that begins at a minute, between its lowest and its highest water.
-fn put_day_curve<'a>(
-    page: &mut [u8],
-    at: usize,
-    start: u32,
-    count: usize,
-    first: bool,
-    hourly: &'a [i64],
-    minutes: &'a [u32],
-    heights: &'a [i64],
-) -> usize
-    ensures { λ r. ⌜ r ≤ length (now (page .entry)) ⌝ }
-{
-    let from = swings::turn_from(minutes, 0, count, start as u64);
-    let to = swings::turn_from(minutes, from, count, hour_minute(start, 24) as u64);
+// The day that begins at a minute, of its heights at the hours and the month's turns.
+fn day_of(start: u32, hourly: &[i64], turns: Turns) -> Day {
+    let from = swings::turn_from(&turns.minutes, 0, turns.count, start as u64);
+    let end = hour_minute(start, 24) as u64;
+    let to = swings::turn_from(&turns.minutes, from, turns.count, end);
     let water = digits::height_at(hourly, 0);
-    let low = lowest(heights, from, to, lowest(hourly, 1, 25, water));
-    let high = highest(heights, from, to, highest(hourly, 1, 25, water));
-    put_curve(
-        page,
-        at,
+    Day {
         start,
         from,
         to,
-        first,
-        low,
-        high,
-        hourly,
-        minutes,
-        heights,
-    )
+        low: lowest(&turns.heights, from, to, lowest(hourly, 1, 25, water)),
+        high: highest(&turns.heights, from, to, highest(hourly, 1, 25, water)),
+    }
 }
 
 // Puts a day and its month, as 1 July 1976.
-fn put_day(page: &mut [u8], at: usize, year: u32, month: u32, day: u32) -> usize {
-    let a = output::put_number(page, at, day as u64);
+fn put_day(page: &mut [u8], at: usize, date: Date) -> usize {
+    let a = output::put_number(page, at, date.day as u64);
     let b = output::put(page, a, 32);
-    face::put_month(page, b, year, month)
+    face::put_month(page, b, date)
 }
 
-// Puts the day on which the next turn stands, of this month or the one behind it.
-fn put_turn_day(page: &mut [u8], at: usize, year: u32, month: u32, later: bool, day: u32) -> usize {
-    if later {
-        return put_day(
-            page,
-            at,
-            dates::year_behind(year, month),
-            dates::month_behind(month),
+// The date of a turn in the month of a date, or in the month behind it.
+fn date_of(date: Date, turn: Next) -> Date {
+    let day = digits::day_of(turn.minute);
+    if turn.later {
+        return Date {
+            year: dates::year_behind(date.year, date.month),
+            month: dates::month_behind(date.month),
             day,
-        );
+        };
     }
-    put_day(page, at, year, month, day)
+    Date {
+        year: date.year,
+        month: date.month,
+        day,
+    }
 }
 
 // Puts a height behind a label, and its time.
@@ -233,91 +209,49 @@ fn put_height_at(page: &mut [u8], at: usize, label: &[u8], minute: u32, height: 
 }
 
 // Puts the line of the next high or low water.
-fn put_next(page: &mut [u8], at: usize, label: &[u8], year: u32, month: u32, next: Next) -> usize {
+fn put_next(page: &mut [u8], at: usize, label: &[u8], date: Date, next: Next) -> usize {
     if !next.found {
         let none = output::put_bytes(page, at, label);
         return output::put_bytes(page, none, b"  none\n");
     }
     let time = put_height_at(page, at, label, next.minute, next.height);
     let on = output::put_bytes(page, time, b" on ");
-    let day = put_turn_day(
-        page,
-        on,
-        year,
-        month,
-        next.later,
-        digits::day_of(next.minute),
-    );
+    let day = put_day(page, on, date_of(date, next));
     output::put(page, day, 10)
 }
 
-// Puts the station and the day, on a line.
-fn put_title(page: &mut [u8], at: usize, name: &[u8], year: u32, month: u32, day: u32) -> usize {
-    let a = face::put_name(page, at, name);
-    let b = put_day(page, a, year, month, day);
-    output::put(page, b, 10)
-}
-
 // Puts the sheet's head: the station and the day, the scales, what it stands on.
-fn put_head<'a>(
-    page: &mut [u8],
-    at: usize,
-    face: Face,
-    name: &'a [u8],
-    zone: &'a [u8],
-    unit: &'a [u8],
-    year: u32,
-    month: u32,
-    day: u32,
-) -> usize {
-    let title = put_title(page, at, name, year, month, day);
-    let next = face::put_stand(page, title, face, zone, unit);
+fn put_head(page: &mut [u8], at: usize, face: Face, date: Date) -> usize {
+    let name = face::put_name(page, at, face);
+    let day = put_day(page, name, date);
+    let title = output::put(page, day, 10);
+    let next = face::put_stand(page, title, face);
     output::put_bytes(page, next, b"\n\n")
 }
 
 // Puts what is to be known at a minute: the height, and the next high and low water.
-fn put_waters(
-    page: &mut [u8],
-    at: usize,
-    year: u32,
-    month: u32,
-    minute: u32,
-    water: i64,
-    high: Next,
-    low: Next,
-) -> usize {
-    let time = put_height_at(page, at, b"water           ", minute, water);
+fn put_water(page: &mut [u8], at: usize, date: Date, water: Water) -> usize {
+    let time = put_height_at(page, at, b"water           ", water.minute, water.height);
     let a = output::put(page, time, 10);
-    let b = put_next(page, a, b"next high water ", year, month, high);
-    let c = put_next(page, b, b"next low water  ", year, month, low);
+    let b = put_next(page, a, b"next high water ", date, water.high);
+    let c = put_next(page, b, b"next low water  ", date, water.low);
     output::put(page, c, 10)
 }
 
-// Puts a day's sheet for a minute of it: of a month's turns, of which the first is high or not, and of the heights at the day's hours.
-pub fn put_sheet<'a>(
+// Puts a day's sheet for a minute of it: of the heights at the day's hours and of the month's turns.
+pub fn put_sheet(
     page: &mut [u8],
     at: usize,
     face: Face,
-    name: &'a [u8],
-    zone: &'a [u8],
-    unit: &'a [u8],
-    year: u32,
-    month: u32,
-    minute: u32,
-    water: i64,
-    high: Next,
-    low: Next,
-    count: usize,
-    first: bool,
-    hourly: &'a [i64],
-    minutes: &'a [u32],
-    heights: &'a [i64],
+    date: Date,
+    water: Water,
+    hourly: &[i64],
+    turns: Turns,
 ) -> usize
     ensures { λ r. ⌜ r ≤ length (now (page .entry)) ⌝ }
 {
-    let day = digits::day_of(minute);
-    let start = minute / 1_440 * 1_440;
-    let a = put_head(page, at, face, name, zone, unit, year, month, day);
-    let b = put_waters(page, a, year, month, minute, water, high, low);
-    put_day_curve(page, b, start, count, first, hourly, minutes, heights)
+    let a = put_head(page, at, face, date);
+    let b = put_water(page, a, date, water);
+    let start = water.minute / 1_440 * 1_440;
+    put_curve(page, b, day_of(start, hourly, turns), hourly, turns)
 }

@@ -1,4 +1,4 @@
-// sheets: say here in a sentence what the crate is for.
-pub mod monthsheet; // The month at the berth
-pub mod daysheet; // The day at the berth
-pub mod csv; // Heights for other programs
+// The three sheets, put on a page from heights and turns that the clock gave.
+pub mod csv; // heights for other programs
+pub mod daysheet; // the day at the berth
+pub mod monthsheet; // the month at the berth

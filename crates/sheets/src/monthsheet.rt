@@ -4,6 +4,8 @@ ghost use lib.ListN.{length};
 use page::face;
 use page::face::Face;
 use page::figures;
+use page::shown::Date;
+use page::shown::Turns;
 
 // Puts a bar, filled so far, in a column of ten.
 fn put_bar(page: &mut [u8], at: usize, filled: u64) -> usize {
@@ -32,16 +34,7 @@ fn put_turn(page: &mut [u8], at: usize, day: u32, high: bool, minute: u32, heigh
 }
 
 // Puts the turns from one to before another.
-fn put_turns<'a>(
-    page: &mut [u8],
-    at: usize,
-    day: u32,
-    from: usize,
-    to: usize,
-    first: bool,
-    minutes: &'a [u32],
-    heights: &'a [i64],
-) -> usize {
+fn put_turns(page: &mut [u8], at: usize, day: u32, from: usize, to: usize, turns: Turns) -> usize {
     let mut next = at;
     let mut i = from;
     while i < to {
@@ -49,9 +42,9 @@ fn put_turns<'a>(
             page,
             next,
             day,
-            swings::is_high(first, i),
-            digits::minute_at(minutes, i),
-            digits::height_at(heights, i),
+            swings::is_high(turns.first, i),
+            digits::minute_at(&turns.minutes, i),
+            digits::height_at(&turns.heights, i),
         );
         i += 1;
     }
@@ -71,17 +64,14 @@ fn put_swing(page: &mut [u8], at: usize, swing: u64, largest: u64) -> usize
 }
 
 // Puts a day's line.
-fn put_day<'a>(
+fn put_day(
     page: &mut [u8],
     at: usize,
     day: u32,
     from: usize,
     to: usize,
-    count: usize,
-    first: bool,
     largest: u64,
-    minutes: &'a [u32],
-    heights: &'a [i64],
+    turns: Turns,
 ) -> usize
     requires { ⌜ largest ≤ 2_000_000_000_000 ⌝ }
     ensures { λ r. ⌜ r ≤ length (now (page .entry)) ⌝ }
@@ -90,44 +80,25 @@ fn put_day<'a>(
     let b = put_swing(
         page,
         a,
-        swings::largest_swing(heights, count, from, to),
+        swings::largest_swing(&turns.heights, turns.count, from, to),
         largest,
     );
-    let c = put_turns(page, b, day, from, to, first, minutes, heights);
+    let c = put_turns(page, b, day, from, to, turns);
     output::put(page, c, 10)
 }
 
 // Puts a line for each day.
-fn put_days<'a>(
-    page: &mut [u8],
-    at: usize,
-    days: u32,
-    count: usize,
-    first: bool,
-    minutes: &'a [u32],
-    heights: &'a [i64],
-) -> usize
+fn put_days(page: &mut [u8], at: usize, days: u32, turns: Turns) -> usize
     ensures { λ r. ⌜ r ≤ length (now (page .entry)) ⌝ }
 {
-    let largest = swings::largest_swing(heights, count, 0, count);
+    let largest = swings::largest_swing(&turns.heights, turns.count, 0, turns.count);
     let mut next = output::on_page(page.len(), at);
     let mut from: usize = 0;
     let mut left = days;
     while 0 < left {
         let day = days - left + 1;
-        let to = swings::day_end(minutes, from, count, day, days);
-        next = put_day(
-            page,
-            next,
-            day,
-            from,
-            to,
-            count,
-            first,
-            largest,
-            minutes,
-            heights,
-        );
+        let to = swings::day_end(&turns.minutes, from, turns.count, day, days);
+        next = put_day(page, next, day, from, to, largest, turns);
         from = to;
         left -= 1;
     }
@@ -135,8 +106,8 @@ fn put_days<'a>(
 }
 
 // Puts the scales, what the sheet stands on, and the columns.
-fn put_scales<'a>(page: &mut [u8], at: usize, face: Face, zone: &'a [u8], unit: &'a [u8]) -> usize {
-    let next = face::put_stand(page, at, face, zone, unit);
+fn put_scales(page: &mut [u8], at: usize, face: Face) -> usize {
+    let next = face::put_stand(page, at, face);
     output::put_bytes(
         page,
         next,
@@ -144,32 +115,16 @@ fn put_scales<'a>(page: &mut [u8], at: usize, face: Face, zone: &'a [u8], unit: 
     )
 }
 
-// Puts a month's sheet: its head, and a line for each day, of the first turns in two rows.
-pub fn put_month<'a>(
-    page: &mut [u8],
-    at: usize,
-    face: Face,
-    name: &'a [u8],
-    zone: &'a [u8],
-    unit: &'a [u8],
-    year: u32,
-    month: u32,
-    count: usize,
-    first: bool,
-    minutes: &'a [u32],
-    heights: &'a [i64],
-) -> usize
+// Puts a month's sheet: its head, and a line for each day.
+pub fn put_month(page: &mut [u8], at: usize, face: Face, date: Date, turns: Turns) -> usize
     ensures { λ r. ⌜ r ≤ length (now (page .entry)) ⌝ }
 {
-    let title = face::put_title(page, at, name, year, month);
-    let next = put_scales(page, title, face, zone, unit);
+    let title = face::put_title(page, at, face, date);
+    let next = put_scales(page, title, face);
     put_days(
         page,
         next,
-        calendar::month_days(year, month),
-        count,
-        first,
-        minutes,
-        heights,
+        calendar::month_days(date.year, date.month),
+        turns,
     )
 }

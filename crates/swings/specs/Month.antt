@@ -8,6 +8,10 @@ use Rattle.clock.specs.declared.Clock.{Clock}
 use Rattle.clock.specs.declared.TurnsAnswer.{TurnsAnswer}
 use Rattle.clock.specs.declared.TurnsAnswer.the-variants.{Turns, Refused}
 use Rattle.clock.specs.Posts.{TurnsPost}
+use Rattle.page.specs.declared.shown.Turns.{Turns as Shown}
+use Rattle.refusals.specs.declared.Answer.{Answer}
+use Rattle.refusals.specs.declared.Answer.the-variants.{Accepted, Refused as Declined}
+use Rattle.swings.specs.declared.monthturns.Found.{Found}
 use Rattle.swings.specs.inner.Kept.{Kept}
 
 -- so many turns and at most three more
@@ -36,3 +40,14 @@ pub record MonthTurns (c : Clock) (last : ℕ) (minutes minutesLeft : List ℕ) 
   pub asked : TurnsPost c 0 last minutes minutesOwn heights heightsOwn own
   pub beside : Beside own answer
   pub kept : Kept (countOf own) minutesOwn minutesLeft heightsOwn heightsLeft
+
+-- the clock's answer that found turns stand for
+abbrev pub answered : Answer → Shown → TurnsAnswer
+answered Accepted turns = Turns (turns .count) (turns .first)
+answered (Declined refusal place) turns = Refused refusal place
+
+-- a month's turns as they are found: those of two rows that were lent for them
+pub record FoundTurns (c : Clock) (last : ℕ) (found : Found) : Type 0 where
+  pub minutes : List ℕ
+  pub heights : List ℤ
+  pub turns : MonthTurns c last minutes (found .turns .minutes) heights (found .turns .heights) (answered (found .answer) (found .turns))

@@ -6,9 +6,12 @@
 ghost use Prim.Native.Nat.{_+_, _≤_};
 ghost use Rattle.clock.specs.View.{Made};
 ghost use Rattle.swings.specs.inner.Kept.{Kept};
-ghost use Rattle.swings.specs.Month.{MonthTurns};
+ghost use Rattle.swings.specs.Month.{MonthTurns, FoundTurns};
 use clock::Clock;
 use clock::TurnsAnswer;
+use page::shown::TURNS;
+use page::shown::Turns;
+use refusals::Answer;
 
 // One turn, or none.
 struct Turn {
@@ -16,6 +19,12 @@ struct Turn {
     high: bool,
     minute: u32,
     height: i64,
+}
+
+// Whether a month's turns were found, or the clock's refusal; and the turns, none where it refuses.
+pub struct Found {
+    pub answer: Answer,
+    pub turns: Turns,
 }
 
 // How many turns stand in the lent buffers, and whether the first is high.
@@ -151,7 +160,7 @@ fn with_ends(
 
 // The turns of the month that a clock has prepared, whose last minute is given, from the front of the buffers: 01's search over the whole
 // month, and what 01's three strides find behind its last one at the month's end. A refusal is the clock's.
-pub fn month_turns(clock: Clock, last: u32, minutes: &mut [u32], heights: &mut [i64]) -> TurnsAnswer
+fn month_turns(clock: Clock, last: u32, minutes: &mut [u32], heights: &mut [i64]) -> TurnsAnswer
     requires { ⌜ Made clock ⌝ }
     ensures { λ r. ⌜ MonthTurns clock last (now (minutes .entry)) (now (minutes .exit)) (now (heights .entry)) (now (heights .exit)) r ⌝ }
 {
@@ -165,5 +174,35 @@ pub fn month_turns(clock: Clock, last: u32, minutes: &mut [u32], heights: &mut [
             TurnsAnswer::Turns(known.count, known.first)
         }
         TurnsAnswer::Refused(refusal, place) => TurnsAnswer::Refused(refusal, place),
+    }
+}
+
+// The turns of the month that a clock has prepared, whose last minute is given, or the clock's refusal.
+pub fn turns_of(clock: Clock, last: u32) -> Found
+    requires { ⌜ Made clock ⌝ }
+    ensures { λ r. ⌜ FoundTurns clock last r ⌝ }
+{
+    let mut minutes = [0u32; TURNS];
+    let mut heights = [0i64; TURNS];
+    let answer = month_turns(clock, last, &mut minutes, &mut heights);
+    match answer {
+        TurnsAnswer::Turns(count, first) => Found {
+            answer: Answer::Accepted,
+            turns: Turns {
+                count,
+                first,
+                minutes,
+                heights,
+            },
+        },
+        TurnsAnswer::Refused(refusal, place) => Found {
+            answer: Answer::Refused(refusal, place),
+            turns: Turns {
+                count: 0,
+                first: false,
+                minutes,
+                heights,
+            },
+        },
     }
 }

@@ -1,174 +1,55 @@
-// The views: each asks the clock, which has a table and a station, and writes a sheet on standard output, or says the clock's refusal.
-mod pictured;
-mod tabulated;
+// The sheets of the month that a clock has prepared, written on standard output, or the clock's refusal, said.
+mod tabulated; // heights for other programs
 
-pub use pictured::day_drawing;
-pub use pictured::month_drawing;
 pub use tabulated::heights;
 pub use tabulated::series;
 ghost use Rattle.clock.specs.View.{Made};
 use clock::Clock;
 use clock::HeightAnswer;
-use clock::TurnsAnswer;
 use digits::dates;
 use page::face::Face;
+use page::shown::Date;
+use page::shown::Turns;
 use refusals::Answer;
 use refusals::Refusal;
 use sheets::daysheet;
 use sheets::daysheet::Next;
+use sheets::daysheet::Water;
 use sheets::monthsheet;
-use station_file::stationcards;
 use swings::monthturns;
 
-// What is shown of a month: its sheet, a day's, heights from a start on, a step apart and so many, or a drawing.
-enum View {
-    Month,
-    Day(u32, u32),
-    Series(u32, u32, u32),
-    MonthDrawing,
-    DayDrawing(u32),
+// The last minute of the month of a date.
+fn last_of(date: Date) -> u32 {
+    calendar::month_minutes(date.year, date.month)
 }
 
-// The line of the station file on which a record stands.
-fn line_of(place: usize) -> usize {
-    if place < 1_000_000 { place + 1 } else { place }
+// Says that the clock refused the month.
+fn say_month(date: Date, refusal: Refusal) {
+    messages::refused_number(b"month", date.month as u64, refusal)
 }
 
-// Says the refusal of a date: at a record of the station file, or by the year or the month.
-fn say_date(path: &[u8], year: u32, month: u32, refusal: Refusal, place: usize) {
-    if 0 < place {
-        messages::refused(path, line_of(place), faults::no_words(), refusal);
-        return;
-    }
-    if calendar::in_range(1976, month) {
-        messages::refused_number(b"year", year as u64, refusal);
-        return;
-    }
-    messages::refused_number(b"month", month as u64, refusal)
+// Says that the clock refused the day.
+fn say_day(date: Date, refusal: Refusal) {
+    messages::refused_number(b"day", date.day as u64, refusal)
 }
 
 // Writes the sheet of a month's turns.
-fn write_month<'a>(
-    face: Face,
-    station: &'a [u8],
-    unit: &'a [u8],
-    year: u32,
-    month: u32,
-    count: usize,
-    first: bool,
-    minutes: &'a [u32],
-    heights: &'a [i64],
-) {
+fn write_month(face: Face, date: Date, turns: Turns) {
     let mut page = io::buffer();
-    let at = monthsheet::put_month(
-        &mut page,
-        0,
-        face,
-        stationcards::station_name(station),
-        stationcards::time_zone(station),
-        unit,
-        year,
-        month,
-        count,
-        first,
-        minutes,
-        heights,
-    );
+    let at = monthsheet::put_month(&mut page, 0, face, date, turns);
     output::flush(&page, at);
 }
 
-// The sheet of the month that a clock has prepared.
-fn prepared_month<'a>(
-    clock: Clock,
-    face: Face,
-    station: &'a [u8],
-    unit: &'a [u8],
-    year: u32,
-    month: u32,
-)
-    requires { ⌜ Made clock ⌝ }
-{
-    let mut minutes = [0u32; 512];
-    let mut heights = [0i64; 512];
-    let last = calendar::month_minutes(year, month);
-    let answer = monthturns::month_turns(clock, last, &mut minutes, &mut heights);
-    match answer {
-        TurnsAnswer::Turns(count, first) => write_month(
-            face,
-            station,
-            unit,
-            year,
-            month,
-            count,
-            first,
-            &minutes,
-            &heights,
-        ),
-        TurnsAnswer::Refused(refusal, _) => {
-            messages::refused_number(b"month", month as u64, refusal)
-        }
-    }
-}
-
-// What is asked of the month that a clock has prepared.
-fn show<'a>(
-    clock: Clock,
-    face: Face,
-    station: &'a [u8],
-    unit: &'a [u8],
-    year: u32,
-    month: u32,
-    view: View,
-)
-    requires { ⌜ Made clock ⌝ }
-{
-    match view {
-        View::Month => prepared_month(clock, face, station, unit, year, month),
-        View::Day(day, minute) => {
-            prepared_day(clock, face, station, unit, year, month, day, minute)
-        }
-        View::Series(start, step, count) => {
-            tabulated::prepared_series(clock, face, station, unit, year, month, start, step, count)
-        }
-        View::MonthDrawing => pictured::draw_month(clock, face, station, unit, year, month),
-        View::DayDrawing(day) => pictured::draw_day(clock, face, station, unit, year, month, day),
-    }
-}
-
-// Sets the clock's date and shows what is asked of that month, or says the clock's refusal.
-fn of_month<'a>(
-    clock: Clock,
-    face: Face,
-    station: &'a [u8],
-    unit: &'a [u8],
-    path: &'a [u8],
-    year: u32,
-    month: u32,
-    view: View,
-)
-    requires { ⌜ Made clock ⌝ }
-{
-    let after = clock::set_date(clock, year, month);
-    let answer = after.answer;
-    match answer {
-        Answer::Accepted => show(after.clock, face, station, unit, year, month, view),
-        Answer::Refused(refusal, place) => say_date(path, year, month, refusal, place),
-    }
-}
-
 // month YEAR MONTH: the high and low waters of each day.
-pub fn month<'a>(
-    clock: Clock,
-    face: Face,
-    station: &'a [u8],
-    unit: &'a [u8],
-    path: &'a [u8],
-    year: u32,
-    month: u32,
-)
+pub fn month(clock: Clock, face: Face, date: Date)
     requires { ⌜ Made clock ⌝ }
 {
-    of_month(clock, face, station, unit, path, year, month, View::Month)
+    let found = monthturns::turns_of(clock, last_of(date));
+    let answer = found.answer;
+    match answer {
+        Answer::Accepted => write_month(face, date, found.turns),
+        Answer::Refused(refusal, _) => say_month(date, refusal),
+    }
 }
 
 // No next turn.
@@ -182,23 +63,15 @@ fn no_turn() -> Next {
 }
 
 // The first high or low water, from a turn on; `later` in the month after.
-fn first_turn<'a>(
-    high: bool,
-    from: usize,
-    count: usize,
-    first: bool,
-    later: bool,
-    minutes: &'a [u32],
-    heights: &'a [i64],
-) -> Next {
+fn first_turn(high: bool, from: usize, later: bool, turns: Turns) -> Next {
     let mut i = from;
-    while i < count {
-        if swings::is_high(first, i) == high {
+    while i < turns.count {
+        if swings::is_high(turns.first, i) == high {
             return Next {
                 found: true,
                 later,
-                minute: digits::minute_at(minutes, i),
-                height: digits::height_at(heights, i),
+                minute: digits::minute_at(&turns.minutes, i),
+                height: digits::height_at(&turns.heights, i),
             };
         }
         i += 1;
@@ -206,22 +79,15 @@ fn first_turn<'a>(
     no_turn()
 }
 
-// The first high or low water of the month that a clock has prepared, whose last minute is given; `later` in the month after.
+// The first high or low water of the month that a clock has prepared, whose last minute is given; none where the clock refuses it.
 fn month_turn(clock: Clock, high: bool, last: u32) -> Next
     requires { ⌜ Made clock ⌝ }
 {
-    let mut minutes = [0u32; 512];
-    let mut heights = [0i64; 512];
-    let found = monthturns::month_turns(clock, last, &mut minutes, &mut heights);
-    match found {
-        TurnsAnswer::Turns(count, first) => {
-            first_turn(high, 0, count, first, true, &minutes, &heights)
-        }
-        TurnsAnswer::Refused(_, _) => no_turn(),
-    }
+    let found = monthturns::turns_of(clock, last);
+    first_turn(high, 0, true, found.turns)
 }
 
-// The first high or low water of the month after a month; none where the clock refuses that month.
+// The first high or low water of a month; none where the clock refuses that month.
 fn turn_behind(clock: Clock, high: bool, year: u32, month: u32) -> Next
     requires { ⌜ Made clock ⌝ }
 {
@@ -233,225 +99,86 @@ fn turn_behind(clock: Clock, high: bool, year: u32, month: u32) -> Next
     }
 }
 
-// The next high or low water behind a minute of the month that a clock has prepared.
-fn next_turn<'a>(
-    clock: Clock,
-    high: bool,
-    year: u32,
-    month: u32,
-    minute: u32,
-    count: usize,
-    first: bool,
-    minutes: &'a [u32],
-    heights: &'a [i64],
-) -> Next
+// The next high or low water behind a minute of the month that a clock has prepared, with its turns.
+fn next_turn(clock: Clock, high: bool, date: Date, minute: u32, turns: Turns) -> Next
     requires { ⌜ Made clock ⌝ }
 {
-    let from = swings::turn_from(minutes, 0, count, minute as u64 + 1);
-    let next = first_turn(high, from, count, first, false, minutes, heights);
+    let from = swings::turn_from(&turns.minutes, 0, turns.count, minute as u64 + 1);
+    let next = first_turn(high, from, false, turns);
     if next.found {
         return next;
     }
     turn_behind(
         clock,
         high,
-        dates::year_behind(year, month),
-        dates::month_behind(month),
+        dates::year_behind(date.year, date.month),
+        dates::month_behind(date.month),
     )
 }
 
-// Writes the sheet of a day for a minute of the month that a clock has prepared.
-fn write_day<'a>(
-    clock: Clock,
-    face: Face,
-    station: &'a [u8],
-    unit: &'a [u8],
-    year: u32,
-    month: u32,
-    minute: u32,
-    water: i64,
-    count: usize,
-    first: bool,
-    hourly: &'a [i64],
-    minutes: &'a [u32],
-    heights: &'a [i64],
-)
+// What is to be known at a minute: its height, and the next high and low water.
+fn water_at(clock: Clock, date: Date, minute: u32, height: i64, turns: Turns) -> Water
     requires { ⌜ Made clock ⌝ }
 {
-    let high = next_turn(
-        clock,
-        true,
-        year,
-        month,
+    Water {
         minute,
-        count,
-        first,
-        minutes,
-        heights,
-    );
-    let low = next_turn(
-        clock,
-        false,
-        year,
-        month,
-        minute,
-        count,
-        first,
-        minutes,
-        heights,
-    );
+        height,
+        high: next_turn(clock, true, date, minute, turns),
+        low: next_turn(clock, false, date, minute, turns),
+    }
+}
+
+// Writes the sheet of a day, of what is to be known at a minute, its hourly heights and its month's turns.
+fn write_day(face: Face, date: Date, water: Water, hourly: &[i64], turns: Turns) {
     let mut page = io::buffer();
-    let at = daysheet::put_sheet(
-        &mut page,
-        0,
-        face,
-        stationcards::station_name(station),
-        stationcards::time_zone(station),
-        unit,
-        year,
-        month,
-        minute,
-        water,
-        high,
-        low,
-        count,
-        first,
-        hourly,
-        minutes,
-        heights,
-    );
+    let at = daysheet::put_sheet(&mut page, 0, face, date, water, hourly, turns);
     output::flush(&page, at);
 }
 
 // The sheet of a day whose hourly heights and height at a minute are there.
-fn day_turns<'a>(
-    clock: Clock,
-    face: Face,
-    station: &'a [u8],
-    unit: &'a [u8],
-    year: u32,
-    month: u32,
-    minute: u32,
-    water: i64,
-    hourly: &'a [i64],
-)
+fn day_turns(clock: Clock, face: Face, date: Date, minute: u32, height: i64, hourly: &[i64])
     requires { ⌜ Made clock ⌝ }
 {
-    let mut minutes = [0u32; 512];
-    let mut heights = [0i64; 512];
-    let last = calendar::month_minutes(year, month);
-    let answer = monthturns::month_turns(clock, last, &mut minutes, &mut heights);
+    let found = monthturns::turns_of(clock, last_of(date));
+    let answer = found.answer;
     match answer {
-        TurnsAnswer::Turns(count, first) => write_day(
-            clock,
+        Answer::Accepted => write_day(
             face,
-            station,
-            unit,
-            year,
-            month,
-            minute,
-            water,
-            count,
-            first,
+            date,
+            water_at(clock, date, minute, height, found.turns),
             hourly,
-            &minutes,
-            &heights,
+            found.turns,
         ),
-        TurnsAnswer::Refused(refusal, _) => {
-            messages::refused_number(b"month", month as u64, refusal)
-        }
+        Answer::Refused(refusal, _) => say_month(date, refusal),
     }
 }
 
-// The height at a minute of a day whose hourly heights are there.
-fn day_water<'a>(
-    clock: Clock,
-    face: Face,
-    station: &'a [u8],
-    unit: &'a [u8],
-    year: u32,
-    month: u32,
-    day: u32,
-    minute: u32,
-    hourly: &'a [i64],
-)
+// The sheet of a day whose hourly heights are there, for a minute of its month.
+fn day_height(clock: Clock, face: Face, date: Date, minute: u32, hourly: &[i64])
     requires { ⌜ Made clock ⌝ }
 {
     let answer = clock::height(clock, minute);
     match answer {
-        HeightAnswer::Height(water) => {
-            day_turns(
-                clock,
-                face,
-                station,
-                unit,
-                year,
-                month,
-                minute,
-                water,
-                hourly,
-            )
-        }
-        HeightAnswer::Refused(refusal, _) => {
-            messages::refused_number(b"day", day as u64, refusal)
-        }
-    }
-}
-
-// The sheet of a day of the month that a clock has prepared.
-fn prepared_day<'a>(
-    clock: Clock,
-    face: Face,
-    station: &'a [u8],
-    unit: &'a [u8],
-    year: u32,
-    month: u32,
-    day: u32,
-    minute: u32,
-)
-    requires { ⌜ Made clock ⌝ }
-{
-    let mut hourly = [0i64; 25];
-    let start = dates::minute_of_month(day, 0);
-    let answer = clock::series(clock, start, 60, &mut hourly);
-    match answer {
-        Answer::Accepted => day_water(
-            clock,
-            face,
-            station,
-            unit,
-            year,
-            month,
-            day,
-            dates::minute_of_month(day, minute),
-            &hourly,
-        ),
-        Answer::Refused(refusal, _) => messages::refused_number(b"day", day as u64, refusal),
+        HeightAnswer::Height(height) => day_turns(clock, face, date, minute, height, hourly),
+        HeightAnswer::Refused(refusal, _) => say_day(date, refusal),
     }
 }
 
 // day YEAR MONTH DAY HH:MM: the next high and low water, and the day's curve.
-pub fn day<'a>(
-    clock: Clock,
-    face: Face,
-    station: &'a [u8],
-    unit: &'a [u8],
-    path: &'a [u8],
-    year: u32,
-    month: u32,
-    day: u32,
-    minute: u32,
-)
+pub fn day(clock: Clock, face: Face, date: Date, minute: u32)
     requires { ⌜ Made clock ⌝ }
 {
-    of_month(
-        clock,
-        face,
-        station,
-        unit,
-        path,
-        year,
-        month,
-        View::Day(day, minute),
-    )
+    let mut hourly = [0i64; 25];
+    let start = dates::minute_of_month(date.day, 0);
+    let answer = clock::series(clock, start, 60, &mut hourly);
+    match answer {
+        Answer::Accepted => day_height(
+            clock,
+            face,
+            date,
+            dates::minute_of_month(date.day, minute),
+            &hourly,
+        ),
+        Answer::Refused(refusal, _) => say_day(date, refusal),
+    }
 }

@@ -2,13 +2,11 @@
 ghost use mathlib.Core.Path.{_≡_};
 ghost use lib.ListN.{length};
 ghost use Rattle.clock.specs.View.{Made};
-use crate::View;
-use crate::of_month;
 use clock::Clock;
 use page::face::Face;
+use page::shown::Date;
 use refusals::Answer;
 use sheets::csv;
-use station_file::stationcards;
 
 // A place for each minute of the longest month, and one more, so that a series that is as long as that is refused by the clock.
 fn height_places() -> [i64; 44642]
@@ -18,30 +16,9 @@ fn height_places() -> [i64; 44642]
 }
 
 // Writes heights as rows.
-fn write_rows<'a>(
-    face: Face,
-    station: &'a [u8],
-    unit: &'a [u8],
-    year: u32,
-    month: u32,
-    start: u32,
-    step: u32,
-    heights: &'a [i64],
-) {
+fn write_rows(face: Face, date: Date, start: u32, step: u32, heights: &[i64]) {
     let mut page = io::buffer();
-    let at = csv::put_heights(
-        &mut page,
-        0,
-        face,
-        stationcards::station_name(station),
-        stationcards::time_zone(station),
-        unit,
-        year,
-        month,
-        start,
-        step,
-        heights,
-    );
+    let at = csv::put_heights(&mut page, 0, face, date, start, step, heights);
     output::flush(&page, at);
 }
 
@@ -55,13 +32,10 @@ fn at_most(count: u32, places: usize) -> usize {
 }
 
 // So many heights of the month that a clock has prepared, into lent places.
-fn lent_series<'a>(
+fn lent_series(
     clock: Clock,
     face: Face,
-    station: &'a [u8],
-    unit: &'a [u8],
-    year: u32,
-    month: u32,
+    date: Date,
     start: u32,
     step: u32,
     count: u32,
@@ -76,100 +50,31 @@ fn lent_series<'a>(
     let lent = &mut places[..n];
     let answer = clock::series(clock, start, step, lent);
     match answer {
-        Answer::Accepted => write_rows(face, station, unit, year, month, start, step, lent),
+        Answer::Accepted => write_rows(face, date, start, step, lent),
         Answer::Refused(refusal, _) => messages::refused_number(b"step", step as u64, refusal),
     }
 }
 
-// So many heights of the month that a clock has prepared.
-pub fn prepared_series<'a>(
-    clock: Clock,
-    face: Face,
-    station: &'a [u8],
-    unit: &'a [u8],
-    year: u32,
-    month: u32,
-    start: u32,
-    step: u32,
-    count: u32,
-)
+// series YEAR MONTH DAY HH:MM STEP COUNT: so many heights from a minute of the month on, a step apart.
+pub fn series(clock: Clock, face: Face, date: Date, start: u32, step: u32, count: u32)
     requires { ⌜ Made clock ⌝ }
 {
     let mut places = height_places();
-    lent_series(
-        clock,
-        face,
-        station,
-        unit,
-        year,
-        month,
-        start,
-        step,
-        count,
-        &mut places,
-    )
+    lent_series(clock, face, date, start, step, count, &mut places)
 }
 
-// series YEAR MONTH DAY HH:MM STEP COUNT: so many heights from a minute on, a step apart.
-pub fn series<'a>(
-    clock: Clock,
-    face: Face,
-    station: &'a [u8],
-    unit: &'a [u8],
-    path: &'a [u8],
-    year: u32,
-    month: u32,
-    start: u32,
-    step: u32,
-    count: u32,
-)
-    requires { ⌜ Made clock ⌝ }
-{
-    of_month(
-        clock,
-        face,
-        station,
-        unit,
-        path,
-        year,
-        month,
-        View::Series(start, step, count),
-    )
-}
-
-// How many heights a step apart a month has, its last minute among them; 1 for a step that the clock refuses.
-fn month_count(year: u32, month: u32, step: u32) -> u32 {
+// How many heights a step apart the month of a date has, its last minute among them; 1 for a step that the clock refuses.
+fn month_count(date: Date, step: u32) -> u32 {
     if step == 0 {
         return 1;
     }
-    let steps = calendar::month_minutes(year, month) / step;
+    let steps = calendar::month_minutes(date.year, date.month) / step;
     if steps < 44_641 { steps + 1 } else { 1 }
 }
 
 // heights YEAR MONTH STEP: the heights of a whole month, a step apart.
-pub fn heights<'a>(
-    clock: Clock,
-    face: Face,
-    station: &'a [u8],
-    unit: &'a [u8],
-    path: &'a [u8],
-    year: u32,
-    month: u32,
-    step: u32,
-)
+pub fn heights(clock: Clock, face: Face, date: Date, step: u32)
     requires { ⌜ Made clock ⌝ }
 {
-    let count = month_count(year, month, step);
-    series(
-        clock,
-        face,
-        station,
-        unit,
-        path,
-        year,
-        month,
-        0,
-        step,
-        count,
-    )
+    series(clock, face, date, 0, step, month_count(date, step))
 }

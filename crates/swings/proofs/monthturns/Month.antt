@@ -10,7 +10,8 @@ use Rattle.clock.specs.declared.TurnsAnswer.{TurnsAnswer}
 use Rattle.clock.specs.declared.TurnsAnswer.the-variants.{Turns, Refused}
 use Rattle.clock.specs.Posts.{TurnsPost}
 use Rattle.swings.specs.inner.Kept.{Kept}
-use Rattle.swings.specs.Month.{More, Beside, countOf, MonthTurns}
+use Rattle.refusals.specs.declared.Answer.the-variants.{Accepted, Refused as Declined}
+use Rattle.swings.specs.Month.{More, Beside, countOf, MonthTurns, FoundTurns}
 use Rattle.swings.proofs.monthturns.Kept.{kept-all}
 
 module _ {c : Clock} {last : ℕ} {minutes own-minutes : List ℕ} {heights own-heights : List ℤ} (own : TurnsAnswer) (p : TurnsPost c 0 last minutes own-minutes heights own-heights own) where
@@ -29,3 +30,14 @@ module _ {c : Clock} {last : ℕ} {minutes own-minutes : List ℕ} {heights own-
   pub month-refused : {refusal : Refusal} {place : ℕ} → own ≡ Refused refusal place → MonthTurns c last minutes own-minutes heights own-heights (Refused refusal place)
   month-refused e =
       record { own = own; minutesOwn = own-minutes; heightsOwn = own-heights; asked = p; beside = rw e refl; kept = kept-all }
+
+-- what is found of lent rows and the answer on them: turns, or a refusal
+module _ {c : Clock} {last : ℕ} {minutes minutes-left : List ℕ} {heights heights-left : List ℤ} {own : TurnsAnswer}
+    (p : MonthTurns c last minutes minutes-left heights heights-left own) where
+  pub found-turns : {count : ℕ} {first : Bool} → own ≡ Turns count first
+      → FoundTurns c last (record { answer = Accepted; turns = record { count = count; first = first; minutes = minutes-left; heights = heights-left } })
+  found-turns e = record { minutes = minutes; heights = heights; turns = rw e at p }
+
+  pub found-refusal : {refusal : Refusal} {place : ℕ} {count : ℕ} {first : Bool} → own ≡ Refused refusal place
+      → FoundTurns c last (record { answer = Declined refusal place; turns = record { count = count; first = first; minutes = minutes-left; heights = heights-left } })
+  found-refusal e = record { minutes = minutes; heights = heights; turns = rw e at p }

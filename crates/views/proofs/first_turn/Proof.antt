@@ -5,10 +5,10 @@ use Rattle.views.proofs.first_turn.Statement.{statement}
 use Rattle.views.proofs.first_turn.Tie as tie
 
 abbrev Inv-loop : tie.InvT-loop
-Inv-loop high from count first later minutes heights i₀ i = Unit {0}
+Inv-loop high from later turns i₀ i = Unit {0}
 
 abbrev μ-loop : tie.MeasureT-loop
-μ-loop high from count first later minutes heights i₀ i = count - i
+μ-loop high from later turns i₀ i = turns .count - i
 
 loop-holds : tie.Need-loop-holds Inv-loop μ-loop
 loop-holds c = search needs

@@ -1,16 +1,16 @@
--- `drawing_picture::marks::put_kind` meets its contract and ends: the page keeps its length. The measure: the turns left. Assumes nothing.
-use mathlib.Core.Path.{_≡_}
-use Prim.Native.Nat.{_-_}
-use lib.ListN.{length}
+-- `drawing_picture::marks::put_kind` is safe and ends: the page keeps its length, and the turns left fall. Assumes nothing.
 use borrow.Author.Needs.{needs}
+use mathlib.Core.Path.{_≡_}
+use lib.ListN.{length}
+use Prim.Native.Nat.{_-_}
 use Rattle.drawing_picture.proofs.marks.put_kind.Statement.{statement}
 use Rattle.drawing_picture.proofs.marks.put_kind.Tie as tie
 
 abbrev Inv-loop : tie.InvT-loop
-Inv-loop page₀ at plot minutes heights first-high kind marked₀ high₀ i₀ page marked high i = length page ≡ length page₀
+Inv-loop page₀ at plot turns kind marked₀ i₀ page marked i = length page ≡ length page₀
 
 abbrev μ-loop : tie.MeasureT-loop
-μ-loop page₀ at plot minutes heights first-high kind marked₀ high₀ i₀ page marked high i = length minutes - i
+μ-loop page₀ at plot turns kind marked₀ i₀ page marked i = turns .count - i
 
 free-lanes-requires : tie.Need-free-lanes-requires Inv-loop μ-loop
 free-lanes-requires c κs = search needs
@@ -18,14 +18,8 @@ free-lanes-requires c κs = search needs
 loop-holds : tie.Need-loop-holds Inv-loop μ-loop
 loop-holds c = search needs
 
-mul-t13 : tie.Need-mul-t13 Inv-loop μ-loop
-mul-t13 c = search needs
-
-shared-slice-read-t16 : tie.Need-shared-slice-read-t16 Inv-loop μ-loop
-shared-slice-read-t16 c = search needs
-
-height-at-requires : tie.Need-height-at-requires Inv-loop μ-loop
-height-at-requires c κs = search needs
+turn-at-requires : tie.Need-turn-at-requires Inv-loop μ-loop
+turn-at-requires c κs = search needs
 
 put-turn-requires : tie.Need-put-turn-requires Inv-loop μ-loop
 put-turn-requires c κs = search needs
@@ -53,9 +47,7 @@ put-kind-spec =
     μ-loop
     free-lanes-requires
     loop-holds
-    mul-t13
-    shared-slice-read-t16
-    height-at-requires
+    turn-at-requires
     put-turn-requires
     add-i
     loop-less

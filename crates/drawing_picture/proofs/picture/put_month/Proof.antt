@@ -1,16 +1,16 @@
--- `drawing_picture::picture::put_month` meets its contract: the page keeps its length, and the next place stays on it. The measure: the weeks left. Assumes nothing.
-use mathlib.Core.Path.{_≡_}
-use Prim.Native.Nat.{_-_, _≤_}
-use lib.ListN.{length}
+-- `drawing_picture::picture::put_month` meets its contract: the next place stays on the page, and the weeks left fall. Assumes nothing.
 use borrow.Author.Needs.{needs}
+use mathlib.Core.Path.{_≡_}
+use lib.ListN.{length}
+use Prim.Native.Nat.{_-_, _≤_}
 use Rattle.drawing_picture.proofs.picture.put_month.Statement.{statement}
 use Rattle.drawing_picture.proofs.picture.put_month.Tie as tie
 
 abbrev Inv-loop : tie.InvT-loop
-Inv-loop page₀ at days heights minutes turns first-high lines next₀ week₀ page next week = (length page ≡ length page₀) × (at ≤ length page₀ → next ≤ length page₀)
+Inv-loop page₀ at days heights turns lines next₀ week₀ page next week = (length page ≡ length page₀) × (week ≤ 5) × (at ≤ length page₀ → next ≤ length page₀)
 
 abbrev μ-loop : tie.MeasureT-loop
-μ-loop page₀ at days heights minutes turns first-high lines next₀ week₀ page next week = 5 - week
+μ-loop page₀ at days heights turns lines next₀ week₀ page next week = 5 - week
 
 month-lines-requires : tie.Need-month-lines-requires Inv-loop μ-loop
 month-lines-requires c κs = search needs

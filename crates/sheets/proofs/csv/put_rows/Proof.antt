@@ -1,17 +1,16 @@
--- `sheets::csv::put_rows` meets its contract: the page keeps its length, and the next place stays on it. Assumes nothing.
+-- `sheets::csv::put_rows` meets its contract: the next place stays on the page, and the heights left fall. Assumes nothing.
 use borrow.Author.Needs.{needs}
-use Prim.Native.Nat.{_-_, _≤_}
 use mathlib.Core.Path.{_≡_}
 use lib.ListN.{length}
+use Prim.Native.Nat.{_≤_, _-_}
 use Rattle.sheets.proofs.csv.put_rows.Statement.{statement}
 use Rattle.sheets.proofs.csv.put_rows.Tie as tie
 
 abbrev Inv-loop : tie.InvT-loop
-Inv-loop page₀ at greenwich year month start step heights next₀ minute₀ i₀ page next minute i =
-    (length page ≡ length page₀) × (next ≤ length page₀)
+Inv-loop page₀ at greenwich date start step heights next₀ minute₀ i₀ page next minute i = (length page ≡ length page₀) × (next ≤ length page₀)
 
 abbrev μ-loop : tie.MeasureT-loop
-μ-loop page₀ at greenwich year month start step heights next₀ minute₀ i₀ page next minute i = length heights - i
+μ-loop page₀ at greenwich date start step heights next₀ minute₀ i₀ page next minute i = length heights - i
 
 on-page-requires : tie.Need-on-page-requires Inv-loop μ-loop
 on-page-requires c κs = search needs

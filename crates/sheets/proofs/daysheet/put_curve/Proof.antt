@@ -7,15 +7,12 @@ use Rattle.sheets.proofs.daysheet.put_curve.Statement.{statement}
 use Rattle.sheets.proofs.daysheet.put_curve.Tie as tie
 
 abbrev Inv-loop : tie.InvT-loop
-Inv-loop page₀ at start from to first low high hourly minutes heights day next₀ turn₀ hour₀ page next turn hour =
+Inv-loop page₀ at day hourly turns next₀ turn₀ hour₀ page next turn hour =
     (length page ≡ length page₀) × (hour ≤ 25) × (next ≤ length page₀)
 
 abbrev μ-loop : tie.MeasureT-loop
-μ-loop page₀ at start from to first low high hourly minutes heights day next₀ turn₀ hour₀ page next turn hour =
+μ-loop page₀ at day hourly turns next₀ turn₀ hour₀ page next turn hour =
     25 - hour
-
-day-of-requires : tie.Need-day-of-requires Inv-loop μ-loop
-day-of-requires c κs = search needs
 
 on-page-requires : tie.Need-on-page-requires Inv-loop μ-loop
 on-page-requires c κs = search needs
@@ -41,11 +38,8 @@ cast-height-at c = search needs
 height-at-requires : tie.Need-height-at-requires Inv-loop μ-loop
 height-at-requires c κs = search needs
 
-column-of-requires : tie.Need-column-of-requires Inv-loop μ-loop
-column-of-requires c κs = search needs
-
-put-row-requires : tie.Need-put-row-requires Inv-loop μ-loop
-put-row-requires c κs = search needs
+put-hour-requires : tie.Need-put-hour-requires Inv-loop μ-loop
+put-hour-requires c κs = search needs
 
 add-hour : tie.Need-add-hour Inv-loop μ-loop
 add-hour c = search needs
@@ -68,7 +62,6 @@ put-curve-spec =
     (tie.spec
     Inv-loop
     μ-loop
-    day-of-requires
     on-page-requires
     loop-holds
     hour-minute-requires
@@ -77,8 +70,7 @@ put-curve-spec =
     put-turns-requires
     cast-height-at
     height-at-requires
-    column-of-requires
-    put-row-requires
+    put-hour-requires
     add-hour
     loop-less
     loop-again

@@ -1,22 +1,25 @@
--- `sheets::daysheet::put_turns` is safe and ends: the page keeps its length. Assumes nothing.
+-- `sheets::daysheet::put_turns` is safe and ends: the page keeps its length, and the turns left fall. Assumes nothing.
 use borrow.Author.Needs.{needs}
-use Prim.Native.Nat.{_-_}
 use mathlib.Core.Path.{_≡_}
 use lib.ListN.{length}
+use Prim.Native.Nat.{_-_}
 use Rattle.sheets.proofs.daysheet.put_turns.Statement.{statement}
 use Rattle.sheets.proofs.daysheet.put_turns.Tie as tie
 
 abbrev Inv-loop : tie.InvT-loop
-Inv-loop page₀ at day from to first low high minutes heights next₀ i₀ page next i = length page ≡ length page₀
+Inv-loop page₀ at day from to turns next₀ i₀ page next i = length page ≡ length page₀
 
 abbrev μ-loop : tie.MeasureT-loop
-μ-loop page₀ at day from to first low high minutes heights next₀ i₀ page next i = to - i
+μ-loop page₀ at day from to turns next₀ i₀ page next i = to - i
 
 loop-holds : tie.Need-loop-holds Inv-loop μ-loop
 loop-holds c = search needs
 
 height-at-requires : tie.Need-height-at-requires Inv-loop μ-loop
 height-at-requires c κs = search needs
+
+day-of-requires : tie.Need-day-of-requires Inv-loop μ-loop
+day-of-requires c κs = search needs
 
 minute-at-requires : tie.Need-minute-at-requires Inv-loop μ-loop
 minute-at-requires c κs = search needs
@@ -56,6 +59,7 @@ put-turns-spec =
     μ-loop
     loop-holds
     height-at-requires
+    day-of-requires
     minute-at-requires
     column-of-requires
     is-high-requires

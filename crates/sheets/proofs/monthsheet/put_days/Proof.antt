@@ -7,11 +7,11 @@ use Rattle.sheets.proofs.monthsheet.put_days.Statement.{statement}
 use Rattle.sheets.proofs.monthsheet.put_days.Tie as tie
 
 abbrev Inv-loop : tie.InvT-loop
-Inv-loop page₀ at days count first minutes heights largest next₀ from₀ left₀ page next from left =
+Inv-loop page₀ at days turns largest next₀ from₀ left₀ page next from left =
     (length page ≡ length page₀) × (left ≤ days) × (next ≤ length page₀)
 
 abbrev μ-loop : tie.MeasureT-loop
-μ-loop page₀ at days count first minutes heights largest next₀ from₀ left₀ page next from left = left
+μ-loop page₀ at days turns largest next₀ from₀ left₀ page next from left = left
 
 largest-swing-requires : tie.Need-largest-swing-requires Inv-loop μ-loop
 largest-swing-requires c κs = search needs

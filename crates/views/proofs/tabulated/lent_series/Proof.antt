@@ -1,4 +1,4 @@
--- `views::rows::lent_series` is safe and ends: the part that it lends is as long as it says. Assumes nothing.
+-- `views::tabulated::lent_series` is safe and ends: the part that it lends is as long as it says. Assumes nothing.
 use mathlib.Core.Path.{sym}
 use lib.Seq.{length-take-le}
 use borrow.Author.Needs.{needs}

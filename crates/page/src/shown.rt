@@ -1,0 +1,19 @@
+// What a sheet or a drawing shows: a date, and a month's turns.
+
+// How many turns a month has room for.
+pub const TURNS: usize = 512;
+
+// A day of a month, or day 0 for the whole month.
+pub struct Date {
+    pub year: u32,
+    pub month: u32,
+    pub day: u32,
+}
+
+// A month's turns: how many there are, whether the first is high, and in order their minutes and their heights.
+pub struct Turns {
+    pub count: usize,
+    pub first: bool,
+    pub minutes: [u32; TURNS],
+    pub heights: [i64; TURNS],
+}
