@@ -1,4 +1,4 @@
--- Document 01's dates that are refused, computed. (Its starred dates are in crate cases.)
+-- Document 01's dates that are refused, computed. (Its starred dates are in crate claim.)
 -- Assumes nothing.
 use mathlib.Core.Path.{_≡_, refl}
 use mathlib.Core.Bool.{false}

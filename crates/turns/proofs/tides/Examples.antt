@@ -1,4 +1,4 @@
--- 01, "Checked against": "K1+O1 against M2+S2: .. 300, 100 gives 30; 0, 0 gives 180" (the starred strides are in crate cases).
+-- 01, "Checked against": "K1+O1 against M2+S2: .. 300, 100 gives 30; 0, 0 gives 180" (the starred strides are in crate claim).
 -- By computing. Assumes nothing.
 use mathlib.Core.Path.{_≡_, refl}
 use Rattle.turns.specs.Stride.{strideBy}
