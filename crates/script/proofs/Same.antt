@@ -5,7 +5,7 @@ use mathlib.Core.Bool.{Bool, true, false, cond, _&&_}
 use Prim.Native.Nat.{ℕ}
 use lib.Dec.{T, eqb}
 use borrow.Author.Tests.{eqb-true, eq-eqb}
-use Rattle.script.specs.Script.{same}
+use Rattle.columns.specs.Names.{same}
 
 -- ---- two words are the same where `same` says so
 

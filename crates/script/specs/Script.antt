@@ -1,21 +1,15 @@
 -- REPLAY.md, "Input": one line of a script, without its LF, as the call or the record that it says; Bad where it is not of the form.
 use Prim.Native.Nat.{ℕ, _-_, _^_}
 use mathlib.Core.List.{List, [], _∷_}
-use mathlib.Core.Bool.{Bool, true, false, cond, _&&_}
+use mathlib.Core.Bool.{Bool, false, cond}
 use lib.Dec.{eqb}
 use lib.IntN.{ℤ, pos, negℤ}
+use Rattle.columns.specs.Names.{same}
 use Rattle.script.specs.Words.{words, largest, reading, onward, lastNumber, given}
 use Rattle.script.specs.declared.Call.{Call}
 use Rattle.script.specs.declared.Call.the-variants.{Cards, Station, Date, Height, Series, Turns, Bad}
 use Rattle.script.specs.declared.Entry.{Entry}
 use Rattle.script.specs.declared.Entry.the-variants.{Record, Bad as NoRecord}
-
--- two words are the same, byte by byte
-unfoldable pub same : List ℕ → List ℕ → Bool
-same [] [] = true
-same [] (b ∷ bs) = false
-same (a ∷ bs) [] = false
-same (a ∷ bs) (c ∷ cs) = eqb a c && same bs cs
 
 -- ---- the calls, from the words behind the first
 

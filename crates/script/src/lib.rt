@@ -1,13 +1,14 @@
-// One line of a replay script, read as a call or as a record of a station.
+// The lines of a replay script: each read as a call, or as a record of a station.
 ghost use mathlib.Core.Path.{_≡_};
 ghost use mathlib.Core.List.{_∷_};
 ghost use Prim.Native.Nat.{_+_, _-_, _≤_, _^_};
 ghost use lib.ListN.{length};
 ghost use lib.IntN.{pos, negℤ};
-ghost use Rattle.script.specs.Script.{callOf, callOfWords, recordOf, same, hasMinus, stationAt, stationOf, cardsOf, dateOf, heightOf, seriesOf, turnsOf};
+ghost use Rattle.columns.specs.Names.{same};
+ghost use Rattle.script.specs.Script.{callOf, callOfWords, recordOf, hasMinus, stationAt, stationOf, cardsOf, dateOf, heightOf, seriesOf, turnsOf};
 ghost use Rattle.script.specs.inner.Left.{wordsFrom};
 
-mod words; // The words of a line, and the decimal numbers among them
+mod words; // words and decimal numbers
 
 use crate::words::Field;
 use crate::words::LARGEST;

@@ -2,7 +2,8 @@
 use borrow.Author.Needs.{needs}
 use mathlib.Core.Path.{_≡_, sym, _∙_}
 use mathlib.Core.Bool.{true}
-use Rattle.script.specs.Script.{callOfWords, same, turnsWord}
+use Rattle.columns.specs.Names.{same}
+use Rattle.script.specs.Script.{callOfWords, turnsWord}
 use Rattle.script.proofs.call_at.Statement.{statement}
 use Rattle.script.proofs.call_at.Tie as tie
 
