@@ -279,6 +279,7 @@ fn with_table<'a>(
     requires { ⌜ Made clock ⌝ }
 {
     let path = commandline::word(words, request.station);
+    let asked = request.asked;
     let read = station_cards(clock, station);
     let answer = read.answer;
     match answer {
@@ -292,7 +293,7 @@ fn with_table<'a>(
             ),
             path,
             station,
-            request.asked,
+            asked,
         ),
         Answer::Refused(refusal, line) => say_station(path, station, line, refusal),
     }
