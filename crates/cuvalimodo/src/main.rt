@@ -186,7 +186,7 @@ fn say_date(path: &[u8], date: Date, refusal: Refusal, place: usize) {
         messages::refused_number(b"year", date.year as u64, refusal);
         return;
     }
-    messages::refused_number(b"month", date.month as u64, refusal)
+    messages::refused_month(date.month, refusal)
 }
 
 // Sets the date that is asked for, of a clock with table and station, and shows what is asked.

@@ -11,10 +11,10 @@ use drawing_picture::picture;
 use drawing_picture::title;
 use drawing_plots::plots;
 use page::face::Face;
+use page::shown;
 use page::shown::Date;
 use page::shown::Turns;
 use refusals::Answer;
-use refusals::Refusal;
 use swings::monthturns;
 
 // Room for a day's heights, five minutes apart. (Each a function's result, so that its length is known as a fact.)
@@ -29,14 +29,6 @@ fn month_places() -> [i64; 2233]
     ensures { λ r. ⌜ 2233 ≡ length r ⌝ }
 {
     [0; 2233]
-}
-
-// The first so many heights, or all.
-fn first_heights(heights: &[i64], count: usize) -> &[i64] {
-    if count < heights.len() {
-        return &heights[..count];
-    }
-    heights
 }
 
 // Begins a drawing of a height: its head.
@@ -54,11 +46,6 @@ fn end(page: &mut [u8], at: usize, top: u64, face: Face) {
 // How many days the month of a date has.
 fn days_of(date: Date) -> u32 {
     calendar::month_days(date.year, date.month)
-}
-
-// The last minute of the month of a date.
-fn last_of(date: Date) -> u32 {
-    calendar::month_minutes(date.year, date.month)
 }
 
 // Writes the drawing of a day from its heights and the month's turns.
@@ -85,20 +72,15 @@ fn write_month(face: Face, date: Date, heights: &[i64], turns: Turns) {
     end(&mut page, b, foot, face);
 }
 
-// Says that the clock refused the month.
-fn say_month(date: Date, refusal: Refusal) {
-    messages::refused_number(b"month", date.month as u64, refusal)
-}
-
 // The drawing of a day whose heights are there.
 fn day_turns(clock: Clock, face: Face, date: Date, heights: &[i64])
     requires { ⌜ Made clock ⌝ }
 {
-    let found = monthturns::turns_of(clock, last_of(date));
+    let found = monthturns::turns_of(clock, shown::last_minute(date));
     let answer = found.answer;
     match answer {
         Answer::Accepted => write_day(face, date, heights, found.turns),
-        Answer::Refused(refusal, _) => say_month(date, refusal),
+        Answer::Refused(refusal, _) => messages::refused_month(date.month, refusal),
     }
 }
 
@@ -133,8 +115,8 @@ fn month_curve(clock: Clock, face: Face, date: Date, turns: Turns)
     let count = plots::month_count(days_of(date));
     let answer = month_heights(clock, count, &mut places);
     match answer {
-        Answer::Accepted => write_month(face, date, first_heights(&places, count), turns),
-        Answer::Refused(refusal, _) => say_month(date, refusal),
+        Answer::Accepted => write_month(face, date, picture::first_heights(&places, count), turns),
+        Answer::Refused(refusal, _) => messages::refused_month(date.month, refusal),
     }
 }
 
@@ -142,10 +124,10 @@ fn month_curve(clock: Clock, face: Face, date: Date, turns: Turns)
 pub fn month(clock: Clock, face: Face, date: Date)
     requires { ⌜ Made clock ⌝ }
 {
-    let found = monthturns::turns_of(clock, last_of(date));
+    let found = monthturns::turns_of(clock, shown::last_minute(date));
     let answer = found.answer;
     match answer {
         Answer::Accepted => month_curve(clock, face, date, found.turns),
-        Answer::Refused(refusal, _) => say_month(date, refusal),
+        Answer::Refused(refusal, _) => messages::refused_month(date.month, refusal),
     }
 }

@@ -1,6 +1,7 @@
 // Pictures of heights and turns as SVG: a day, and a month in rows of a week.
+ghost use mathlib.Core.Path.{_≡_};
 ghost use Prim.Native.Nat.{_<_, _≤_};
-ghost use lib.ListN.{length};
+ghost use lib.ListN.{length, take};
 use crate::axes;
 use crate::levels;
 use crate::marks;
@@ -59,7 +60,9 @@ fn put_week(page: &mut [u8], at: usize, plot: Plot, heights: &[i64], turns: Turn
 }
 
 // The first so many heights, or all.
-fn first_heights(heights: &[i64], count: usize) -> &[i64] {
+pub fn first_heights(heights: &[i64], count: usize) -> &[i64]
+    ensures { λ r. ⌜ now r ≡ take count (now (heights .entry)) ⌝ }
+{
     if count < heights.len() {
         return &heights[..count];
     }

@@ -66,6 +66,11 @@ pub fn refused_number(subject: &[u8], number: u64, refusal: Refusal) {
     say_refusal(refusal);
 }
 
+// month NUMBER: words (refusal n), for a month that the clock refuses.
+pub fn refused_month(month: u32, refusal: Refusal) {
+    refused_number(b"month", month as u64, refusal)
+}
+
 // FILE: it is too large.
 pub fn too_large(file: &[u8]) {
     say(file);

@@ -1,4 +1,6 @@
 // What a sheet or a drawing shows: a date, and a month's turns.
+ghost use mathlib.Core.Path.{_≡_};
+ghost use Rattle.calendar.specs.Calendar.{monthMinutes};
 
 // How many turns a month has room for.
 pub const TURNS: usize = 512;
@@ -16,4 +18,11 @@ pub struct Turns {
     pub first: bool,
     pub minutes: [u32; TURNS],
     pub heights: [i64; TURNS],
+}
+
+// The last minute of the month of a date.
+pub fn last_minute(date: Date) -> u32
+    ensures { λ r. ⌜ r ≡ monthMinutes (date .year) (date .month) ⌝ }
+{
+    calendar::month_minutes(date.year, date.month)
 }

@@ -8,6 +8,7 @@ use clock::Clock;
 use clock::HeightAnswer;
 use digits::dates;
 use page::face::Face;
+use page::shown;
 use page::shown::Date;
 use page::shown::Turns;
 use refusals::Answer;
@@ -17,16 +18,6 @@ use sheets::daysheet::Next;
 use sheets::daysheet::Water;
 use sheets::monthsheet;
 use swings::monthturns;
-
-// The last minute of the month of a date.
-fn last_of(date: Date) -> u32 {
-    calendar::month_minutes(date.year, date.month)
-}
-
-// Says that the clock refused the month.
-fn say_month(date: Date, refusal: Refusal) {
-    messages::refused_number(b"month", date.month as u64, refusal)
-}
 
 // Says that the clock refused the day.
 fn say_day(date: Date, refusal: Refusal) {
@@ -44,11 +35,11 @@ fn write_month(face: Face, date: Date, turns: Turns) {
 pub fn month(clock: Clock, face: Face, date: Date)
     requires { ⌜ Made clock ⌝ }
 {
-    let found = monthturns::turns_of(clock, last_of(date));
+    let found = monthturns::turns_of(clock, shown::last_minute(date));
     let answer = found.answer;
     match answer {
         Answer::Accepted => write_month(face, date, found.turns),
-        Answer::Refused(refusal, _) => say_month(date, refusal),
+        Answer::Refused(refusal, _) => messages::refused_month(date.month, refusal),
     }
 }
 
@@ -139,7 +130,7 @@ fn write_day(face: Face, date: Date, water: Water, hourly: &[i64], turns: Turns)
 fn day_turns(clock: Clock, face: Face, date: Date, minute: u32, height: i64, hourly: &[i64])
     requires { ⌜ Made clock ⌝ }
 {
-    let found = monthturns::turns_of(clock, last_of(date));
+    let found = monthturns::turns_of(clock, shown::last_minute(date));
     let answer = found.answer;
     match answer {
         Answer::Accepted => write_day(
@@ -149,7 +140,7 @@ fn day_turns(clock: Clock, face: Face, date: Date, minute: u32, height: i64, hou
             hourly,
             found.turns,
         ),
-        Answer::Refused(refusal, _) => say_month(date, refusal),
+        Answer::Refused(refusal, _) => messages::refused_month(date.month, refusal),
     }
 }
 

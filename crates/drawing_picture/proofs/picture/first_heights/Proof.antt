@@ -1,6 +1,6 @@
--- `drawing_picture::picture::first_heights` is safe: the part is as long as it says. Assumes nothing.
+-- `drawing_picture::picture::first_heights` gives the first heights, or all: `take` either way, all of them where it takes no fewer.
 use mathlib.Core.Path.{sym}
-use lib.Seq.{length-take-le}
+use lib.Seq.{length-take-le, take-all}
 use native.Mathlib.Omega.{arith}
 use borrow.Author.Needs.{needs}
 use Rattle.drawing_picture.proofs.picture.first_heights.Statement.{statement}
@@ -13,7 +13,7 @@ returns : tie.Need-returns
 returns c = search needs
 
 returns-2 : tie.Need-returns-2
-returns-2 c = search needs
+returns-2 c = let a = c .before .args in sym (take-all (a .count) (a .heights .now) (omega arith))
 
 pub first-heights-spec : {M : Type 1} → statement M
 first-heights-spec = tie.close (tie.spec slice-aggregate-result returns returns-2)
