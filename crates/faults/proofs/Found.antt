@@ -3,7 +3,8 @@ use mathlib.Core.Path.{_≡_, refl}
 use mathlib.Core.Bool.{true, false}
 use Rattle.faults.specs.declared.Fault.{Fault}
 use Rattle.faults.specs.declared.Fault.the-variants.{Unsaid, Of}
-use Rattle.faults.specs.Faults.{found, orElse}
+use Rattle.faults.specs.Faults.{orElse}
+use Rattle.faults.specs.inner.Found.{found}
 
 pub found-first : (f g : Fault) → found f ≡ true → orElse f g ≡ f
 found-first Unsaid g e = cc

@@ -1,7 +1,7 @@
 -- What is wrong on a refused line, in the words of the card's fields. Assumes nothing.
 use Prim.Native.Nat.{ℕ, zero, suc}
 use mathlib.Core.List.{List, [], _∷_}
-use mathlib.Core.Bool.{Bool, true, false, cond}
+use mathlib.Core.Bool.{cond}
 use lib.Dec.{ltb}
 use lib.ListN.{length}
 use Rattle.columns.specs.Bytes.{blank, every}
@@ -54,11 +54,6 @@ troubleIn p field.OutOfRange = Of (p .what) (p .which) OutOfRange
 -- what is wrong with the number in a field of a line
 unfoldable pub fieldFault : List ℕ → Place → Fault
 fieldFault line p = troubleIn p (fieldOf line p)
-
--- whether a fault says more than the refusal
-abbrev pub found : Fault → Bool
-found Unsaid = false
-found (Of what which trouble) = true
 
 -- the first of two faults that says something
 abbrev pub orElse : Fault → Fault → Fault

@@ -3,3 +3,4 @@ pub mod Stands
 pub mod Fields
 pub mod Card
 pub mod Station
+pub mod inner

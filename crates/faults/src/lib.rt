@@ -1,16 +1,17 @@
-// Faults of a refused line, in terms of the card's fields: what is at fault and what is wrong with it. The library has refused the line; a
-// fault only says in which words, and where none is found, the general words of the refusal stand.
+// What is wrong on a refused line of a card file or a station file: which field of its card, and what is wrong with it. The library has refused the line;
+// a fault only says in which words, and where none is found, the general words of the refusal stand.
 ghost use mathlib.Core.Path.{_≡_};
 ghost use Rattle.faults.specs.Faults as spec;
 ghost use Rattle.columns.specs.Lines.{linesOf};
-ghost use Rattle.faults.specs.Faults.{lineAt, only, badLine, badName, fieldFault, found};
+ghost use Rattle.faults.specs.Faults.{lineAt, only, badLine, badName, fieldFault};
+ghost use Rattle.faults.specs.inner.Found.{found};
 ghost use Rattle.faults.specs.declared.What.the-variants as what;
 ghost use Rattle.faults.specs.declared.Fault.the-variants as fault;
 
-mod cardlines; // Which card is due on a line of the card file, from the lines before it
-mod cardfields; // The number fields of each card of the card file, as 01's formats have them
-pub mod cardfaults; // What is wrong on a refused line of the card file
-pub mod stationfaults; // What is wrong on a refused line of the station file
+mod cardlines; // which card is due on a line
+mod cardfields; // the number fields of each card
+pub mod cardfaults; // the card file's lines
+pub mod stationfaults; // the station file's lines
 
 use card::lines;
 use columns::names;

@@ -1,4 +1,4 @@
-// Files read whole into a lent buffer, by name or from where the program itself lies.
+// Files: read whole into a lent buffer, by name or from where the program itself lies; and the checksum by which a person compares two of them.
 ghost use mathlib.Core.Path.{_≡_};
 ghost use mathlib.Core.Bool.{true};
 ghost use Prim.Native.Nat.{_≤_};

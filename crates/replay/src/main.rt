@@ -4,39 +4,61 @@
 ghost use mathlib.Core.Path.{_≡_};
 ghost use lib.ListN.{length};
 ghost use Rattle.clock.specs.View.{Made};
-ghost use Rattle.transcript.specs.inner.Window.{Within};
-ghost use Rattle.replay.specs.inner.Posts.{StepPost};
+ghost use Rattle.transcript.specs.inner.Posts.{Lent};
+use clock::After;
 use clock::Clock;
 use clock::HeightAnswer;
 use clock::TurnsAnswer;
-use script::Call;
+use station::records::Rows;
 use transcript::answers;
 use transcript::input;
-use transcript::input::Window;
 use transcript::reading;
+use transcript::reading::Asked;
+use transcript::reading::Heard;
 
-// What a call leaves: the clock, what is left of the input, the next place on the page, and whether the run goes on.
+// What a call leaves: the clock, the next place on the page, and whether the run goes on.
 struct Step {
     clock: Clock,
-    window: Window,
     at: usize,
     more: bool,
 }
 
+// The clock and the next place on the page, for the next call.
+fn left(clock: Clock, at: usize) -> Step
+    requires { ⌜ Made clock ⌝ }
+    ensures { λ r. ⌜ (r .clock ≡ clock) × Made (r .clock) ⌝ }
+{
+    Step {
+        clock,
+        at,
+        more: true,
+    }
+}
+
 // The run ends at an input line.
-fn stop(clock: Clock, window: Window, page: &mut [u8], at: usize, line: u64) -> Step
-    ensures { λ r. ⌜ (r .clock ≡ clock) × (r .window ≡ window) ⌝ }
+fn stop(clock: Clock, page: &mut [u8], at: usize, line: u64) -> Step
+    requires { ⌜ Made clock ⌝ }
+    ensures { λ r. ⌜ (r .clock ≡ clock) × Made (r .clock) ⌝ }
 {
     let next = answers::put_script(page, at, line);
     Step {
         clock,
-        window,
         at: next,
         more: false,
     }
 }
 
-// The line of a height.
+// The line of a call that sets something, and the clock as the call leaves it.
+fn put_after(after: After, page: &mut [u8], at: usize) -> Step
+    requires { ⌜ Made (after .clock) ⌝ }
+    ensures { λ r. ⌜ (r .clock ≡ after .clock) × Made (r .clock) ⌝ }
+{
+    let answer = after.answer;
+    let next = answers::put_answer(page, at, answer);
+    left(after.clock, next)
+}
+
+// A height, or its refusal.
 fn put_height(page: &mut [u8], at: usize, answer: HeightAnswer) -> usize {
     match answer {
         HeightAnswer::Height(height) => answers::put_height(page, at, height),
@@ -44,7 +66,7 @@ fn put_height(page: &mut [u8], at: usize, answer: HeightAnswer) -> usize {
     }
 }
 
-// The line of a search for turns.
+// The turns found, or the refusal.
 fn put_turns<'a>(
     page: &mut [u8],
     at: usize,
@@ -60,276 +82,152 @@ fn put_turns<'a>(
     }
 }
 
-// cards BYTES
-fn cards_call(
-    clock: Clock,
-    window: Window,
-    buffer: &mut [u8],
-    page: &mut [u8],
-    at: usize,
-    line: u64,
-    bytes: u32,
-) -> Step
+// The line of a card file, and the clock that it leaves.
+fn cards_call(clock: Clock, file: &[u8], page: &mut [u8], at: usize) -> Step
     requires { ⌜ Made clock ⌝ }
-    requires { ⌜ Within (length (now buffer)) window ⌝ }
-    ensures { λ r. ⌜ StepPost (length (now (buffer .entry))) r ⌝ }
+    ensures { λ r. ⌜ Made (r .clock) ⌝ }
 {
-    let n = bytes as usize;
-    if buffer.len() <= n {
-        return stop(clock, window, page, at, line);
-    }
-    let file = reading::read_file(buffer, window, n);
-    let next = file.window;
-    if !file.good {
-        return stop(clock, next, page, at, file.line);
-    }
-    let from = file.from;
-    let end = file.end;
-    let after = clock::load_cards(clock, &buffer[from..end]);
-    let left = after.clock;
-    let answer = after.answer;
-    let place = answers::put_answer(page, at, answer);
-    Step {
-        clock: left,
-        window: next,
-        at: place,
-        more: true,
-    }
+    put_after(clock::load_cards(clock, file), page, at)
 }
 
-// station LATITUDE COUNT
+// The line of a station, and the clock that it leaves.
 fn station_call(
     clock: Clock,
-    window: Window,
-    buffer: &mut [u8],
-    page: &mut [u8],
-    at: usize,
     latitude: i32,
-    count: u32,
-) -> Step
-    requires { ⌜ Made clock ⌝ }
-    requires { ⌜ Within (length (now buffer)) window ⌝ }
-    ensures { λ r. ⌜ StepPost (length (now (buffer .entry))) r ⌝ }
-{
-    let records = reading::read_records(buffer, window, count);
-    let next = records.window;
-    if !records.good {
-        return stop(clock, next, page, at, next.line);
-    }
-    let rows = records.rows;
-    let after = clock::place_station(clock, latitude, count as usize, rows);
-    let left = after.clock;
-    let answer = after.answer;
-    let place = answers::put_answer(page, at, answer);
-    Step {
-        clock: left,
-        window: next,
-        at: place,
-        more: true,
-    }
-}
-
-// date YEAR MONTH
-fn date_call(
-    clock: Clock,
-    window: Window,
+    count: usize,
+    rows: Rows,
     page: &mut [u8],
     at: usize,
-    year: u32,
-    month: u32,
 ) -> Step
     requires { ⌜ Made clock ⌝ }
-    ensures { λ r. ⌜ Made (r .clock) × (r .window ≡ window) ⌝ }
+    ensures { λ r. ⌜ Made (r .clock) ⌝ }
 {
-    let after = clock::set_date(clock, year, month);
-    let left = after.clock;
-    let answer = after.answer;
-    let place = answers::put_answer(page, at, answer);
-    Step {
-        clock: left,
-        window,
-        at: place,
-        more: true,
-    }
+    put_after(clock::place_station(clock, latitude, count, rows), page, at)
 }
 
-// height MINUTE
-fn height_call(clock: Clock, window: Window, page: &mut [u8], at: usize, minute: u32) -> Step
+// The line of a date, and the clock that it leaves.
+fn date_call(clock: Clock, year: u32, month: u32, page: &mut [u8], at: usize) -> Step
     requires { ⌜ Made clock ⌝ }
-    ensures { λ r. ⌜ (r .clock ≡ clock) × (r .window ≡ window) ⌝ }
+    ensures { λ r. ⌜ Made (r .clock) ⌝ }
+{
+    put_after(clock::set_date(clock, year, month), page, at)
+}
+
+// The line of a height that is asked.
+fn height_call(clock: Clock, minute: u32, page: &mut [u8], at: usize) -> usize
+    requires { ⌜ Made clock ⌝ }
 {
     let answer = clock::height(clock, minute);
-    let place = put_height(page, at, answer);
-    Step {
-        clock,
-        window,
-        at: place,
-        more: true,
-    }
+    put_height(page, at, answer)
 }
 
-// series START STEP COUNT
+// The line of a series, which is worked out in the places that are lent.
 fn series_call(
     clock: Clock,
-    window: Window,
-    heights: &mut [i64],
-    page: &mut [u8],
-    at: usize,
-    line: u64,
     start: u32,
     step: u32,
-    count: u32,
-) -> Step
+    heights: &mut [i64],
+    page: &mut [u8],
+    at: usize,
+) -> usize
     requires { ⌜ Made clock ⌝ }
-    ensures { λ r. ⌜ (r .clock ≡ clock) × (r .window ≡ window) ⌝ }
 {
-    let n = count as usize;
-    if heights.len() < n {
-        return stop(clock, window, page, at, line);
-    }
-    let lent = &mut heights[..n];
-    let answer = clock::series(clock, start, step, lent);
-    let place = answers::put_series(page, at, answer, lent);
-    Step {
-        clock,
-        window,
-        at: place,
-        more: true,
-    }
+    let answer = clock::series(clock, start, step, heights);
+    answers::put_series(page, at, answer, heights)
 }
 
-// turns FIRST LAST MINUTES HEIGHTS
+// The line of a search for turns, which are written into the places that are lent.
 fn turns_call(
     clock: Clock,
-    window: Window,
-    minutes: &mut [u32],
-    heights: &mut [i64],
-    page: &mut [u8],
-    at: usize,
-    line: u64,
     first: u32,
     last: u32,
-    minute_places: u32,
-    height_places: u32,
-) -> Step
+    minutes: &mut [u32],
+    heights: &mut [i64],
+    page: &mut [u8],
+    at: usize,
+) -> usize
     requires { ⌜ Made clock ⌝ }
-    ensures { λ r. ⌜ (r .clock ≡ clock) × (r .window ≡ window) ⌝ }
 {
-    let m = minute_places as usize;
-    let h = height_places as usize;
-    if minutes.len() < m {
-        return stop(clock, window, page, at, line);
-    }
-    if heights.len() < h {
-        return stop(clock, window, page, at, line);
-    }
-    let answer = clock::turns(clock, first, last, &mut minutes[..m], &mut heights[..h]);
-    let place = put_turns(page, at, answer, minutes, heights);
-    Step {
-        clock,
-        window,
-        at: place,
-        more: true,
-    }
+    let answer = clock::turns(clock, first, last, minutes, heights);
+    put_turns(page, at, answer, minutes, heights)
 }
 
-// The answer to the call of a line.
+// The answer to a call. At the end of the input the run ends with no word.
 fn answer_call(
-    call: Call,
-    line: u64,
+    heard: Heard,
     clock: Clock,
-    window: Window,
-    buffer: &mut [u8],
+    buffer: &[u8],
     minutes: &mut [u32],
     heights: &mut [i64],
     page: &mut [u8],
     at: usize,
 ) -> Step
     requires { ⌜ Made clock ⌝ }
-    requires { ⌜ Within (length (now buffer)) window ⌝ }
-    ensures { λ r. ⌜ StepPost (length (now (buffer .entry))) r ⌝ }
+    requires { ⌜ Lent (length (now buffer)) (length (now minutes)) (length (now heights)) (heard .asked) ⌝ }
+    ensures { λ r. ⌜ Made (r .clock) ⌝ }
 {
-    match call {
-        Call::Cards(bytes) => cards_call(clock, window, buffer, page, at, line, bytes),
-        Call::Station(latitude, count) => {
-            station_call(clock, window, buffer, page, at, latitude, count)
+    let asked = heard.asked;
+    match asked {
+        Asked::Cards(from, end) => {
+            return cards_call(clock, &buffer[from..end], page, at);
         }
-        Call::Date(year, month) => date_call(clock, window, page, at, year, month),
-        Call::Height(minute) => height_call(clock, window, page, at, minute),
-        Call::Series(start, step, count) => {
-            series_call(clock, window, heights, page, at, line, start, step, count)
+        Asked::Station(latitude, count) => {
+            return station_call(clock, latitude, count, heard.rows, page, at);
         }
-        Call::Turns(first, last, m, h) => {
-            turns_call(
+        Asked::Date(year, month) => {
+            return date_call(clock, year, month, page, at);
+        }
+        Asked::Height(minute) => {
+            return left(clock, height_call(clock, minute, page, at));
+        }
+        Asked::Series(start, step, n) => {
+            return left(
                 clock,
-                window,
-                minutes,
-                heights,
-                page,
-                at,
-                line,
+                series_call(clock, start, step, &mut heights[..n], page, at),
+            );
+        }
+        Asked::Turns(first, last, m, h) => {
+            let next = turns_call(
+                clock,
                 first,
                 last,
-                m,
-                h,
-            )
+                &mut minutes[..m],
+                &mut heights[..h],
+                page,
+                at,
+            );
+            return left(clock, next);
         }
-        Call::Bad => stop(clock, window, page, at, line),
+        Asked::End => {
+            return Step {
+                clock,
+                at,
+                more: false,
+            };
+        }
+        Asked::Stop => {
+            return stop(clock, page, at, heard.line);
+        }
     }
 }
 
-// One call is read and answered. At the end of the input the run ends with no word.
-fn one_call(
-    clock: Clock,
-    window: Window,
-    buffer: &mut [u8],
-    minutes: &mut [u32],
-    heights: &mut [i64],
-    page: &mut [u8],
-    at: usize,
-) -> Step
-    requires { ⌜ Made clock ⌝ }
-    requires { ⌜ Within (length (now buffer)) window ⌝ }
-    ensures { λ r. ⌜ StepPost (length (now (buffer .entry))) r ⌝ }
+// A clock with no table, and an empty page.
+fn first() -> Step
+    ensures { λ r. ⌜ Made (r .clock) ⌝ }
 {
-    let held = input::gather(buffer, window, 1);
-    if held.to <= held.from {
-        return Step {
-            clock,
-            window: held,
-            at,
-            more: false,
-        };
-    }
-    let heard = reading::read_call(buffer, held);
-    let next = heard.window;
-    let call = heard.call;
-    answer_call(
-        call,
-        heard.line,
-        clock,
-        next,
-        buffer,
-        minutes,
-        heights,
-        page,
-        at,
-    )
+    left(clock::new(), 0)
 }
 
 // Calls until the run ends. A proved loop has to end, and nothing says that the input does, so the calls are counted down from a number that no run uses up.
 fn run(buffer: &mut [u8], minutes: &mut [u32], heights: &mut [i64], page: &mut [u8]) {
-    let mut step = Step {
-        clock: clock::new(),
-        window: input::start(),
-        at: 0,
-        more: true,
-    };
+    let mut step = first();
+    let mut window = input::start();
     let mut calls = u64::MAX;
     while 0 < calls && step.more {
-        let clock = step.clock;
-        let window = step.window;
-        step = one_call(clock, window, buffer, minutes, heights, page, step.at);
+        let heard = reading::next_call(buffer, window, minutes.len(), heights.len());
+        let next = heard.window;
+        window = next;
+        step = answer_call(heard, step.clock, buffer, minutes, heights, page, step.at);
         calls -= 1;
     }
     output::flush(page, step.at);

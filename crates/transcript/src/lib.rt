@@ -1,4 +1,4 @@
-// transcript: say here in a sentence what the crate is for.
-pub mod input; // Reading standard input by lines and by counts of bytes, in one lent buffer
-pub mod reading; // The parts of a script, read from the window
-pub mod answers; // The lines that answer a script
+// A replay's two ends: the calls of a script, read whole from standard input, and the lines that answer them.
+pub mod input; // lines and counts of bytes
+pub mod reading; // a call, read whole
+pub mod answers; // the lines that answer

@@ -1,10 +1,10 @@
-// The parts of a script, read from the window: a call's line, a card file, the records of a station.
+// A call of a script, read whole from the input: its line, and behind it a card file's bytes or a station's lines.
 ghost use mathlib.Core.Path.{_≡_};
 ghost use Prim.Native.Nat.{_+_, _≤_, _<_};
 ghost use lib.ListN.{length};
 ghost use Rattle.transcript.specs.inner.Window.{Within};
 ghost use Rattle.station.specs.inner.Rows.{noRows};
-ghost use Rattle.transcript.specs.inner.Posts.{FilePost, keptRow};
+ghost use Rattle.transcript.specs.inner.Posts.{FilePost, HeardPost, Lent, keptRow};
 use crate::input;
 use crate::input::Window;
 use script::Call;
@@ -12,37 +12,58 @@ use script::Entry;
 use station::records::Rows;
 use std::num::wrapping_add_u64;
 
-// The call of a line, the number of that line, and the window behind it.
+// What a call asks. A card file stands in the buffer from the first place to the second; a station has a latitude and so many records; a series and
+// a search end with how many places they are lent. Stop: the input is not of the form.
+pub enum Asked {
+    Cards(usize, usize),
+    Station(i32, usize),
+    Date(u32, u32),
+    Height(u32),
+    Series(u32, u32, usize),
+    Turns(u32, u32, usize, usize),
+    End,
+    Stop,
+}
+
+// What a call asks, the input line of the call or of what is wrong, a station's first 146 records, and the window behind it all.
 pub struct Heard {
-    pub call: Call,
+    pub asked: Asked,
     pub line: u64,
-    pub window: Window,
-}
-
-// Whether a card file came whole, where it stands, the line of its last byte or of what is wrong, and the window behind it.
-pub struct CardFile {
-    pub good: bool,
-    pub from: usize,
-    pub end: usize,
-    pub line: u64,
-    pub window: Window,
-}
-
-// A station's line; where it is bad the window still begins with it.
-pub struct Told {
-    pub entry: Entry,
-    pub window: Window,
-}
-
-// Whether a station's lines were all of the form, the first 146 records, and the window behind them, or at the bad line.
-pub struct Records {
-    pub good: bool,
     pub rows: Rows,
     pub window: Window,
 }
 
+// The call of a line, the number of that line, and the window behind it.
+struct CallLine {
+    call: Call,
+    line: u64,
+    window: Window,
+}
+
+// Whether a card file came whole, where it stands, the line of its last byte or of what is wrong, and the window behind it.
+struct CardFile {
+    good: bool,
+    from: usize,
+    end: usize,
+    line: u64,
+    window: Window,
+}
+
+// A station's line; where it is bad the window still begins with it.
+struct Told {
+    entry: Entry,
+    window: Window,
+}
+
+// Whether a station's lines were all of the form, the first 146 records, and the window behind them, or at the bad line.
+struct Records {
+    good: bool,
+    rows: Rows,
+    window: Window,
+}
+
 // The next line as a call. A line without LF is bad.
-pub fn read_call(buffer: &mut [u8], window: Window) -> Heard
+fn read_call(buffer: &mut [u8], window: Window) -> CallLine
     requires { ⌜ Within (length (now buffer)) window ⌝ }
     ensures { λ r. ⌜ Within (length (now (buffer .entry))) (r .window) ⌝ }
 {
@@ -51,7 +72,7 @@ pub fn read_call(buffer: &mut [u8], window: Window) -> Heard
     let from = held.from;
     let end = line.end;
     if held.to <= end {
-        return Heard {
+        return CallLine {
             call: Call::Bad,
             line: held.line,
             window: held,
@@ -59,7 +80,7 @@ pub fn read_call(buffer: &mut [u8], window: Window) -> Heard
     }
     let call = script::parse_call(&buffer[from..end]);
     let next = input::behind(held, end, held.line);
-    Heard {
+    CallLine {
         call,
         line: held.line,
         window: next,
@@ -67,7 +88,7 @@ pub fn read_call(buffer: &mut [u8], window: Window) -> Heard
 }
 
 // So many bytes and LF. Line feeds inside the card file count as input lines.
-pub fn read_file(buffer: &mut [u8], window: Window, bytes: usize) -> CardFile
+fn read_file(buffer: &mut [u8], window: Window, bytes: usize) -> CardFile
     requires { ⌜ bytes < length (now buffer) ⌝ }
     requires { ⌜ Within (length (now buffer)) window ⌝ }
     ensures { λ r. ⌜ FilePost (length (now (buffer .entry))) bytes (now (buffer .exit)) r ⌝ }
@@ -159,7 +180,7 @@ fn with_row(rows: Rows, k: usize, place: u8, amplitude: u32, phase: u32) -> Rows
 }
 
 // A station's lines, all of them, or up to the first that is bad.
-pub fn read_records(buffer: &mut [u8], window: Window, count: u32) -> Records
+fn read_records(buffer: &mut [u8], window: Window, count: u32) -> Records
     requires { ⌜ Within (length (now buffer)) window ⌝ }
     ensures { λ r. ⌜ Within (length (now (buffer .entry))) (r .window) ⌝ }
 {
@@ -193,4 +214,122 @@ pub fn read_records(buffer: &mut [u8], window: Window, count: u32) -> Records
         rows,
         window: held,
     }
+}
+
+// A call that is read whole, with no records.
+fn heard_line(asked: Asked, line: u64, window: Window) -> Heard
+    ensures { λ r. ⌜ (r .asked ≡ asked) × (r .window ≡ window) ⌝ }
+{
+    Heard {
+        asked,
+        line,
+        rows: no_rows(),
+        window,
+    }
+}
+
+// cards BYTES, and the file behind its line. One that the buffer cannot hold is not of the form.
+fn hear_cards(buffer: &mut [u8], window: Window, line: u64, bytes: usize) -> Heard
+    requires { ⌜ Within (length (now buffer)) window ⌝ }
+    ensures { λ r. ⌜ HeardPost (length (now (buffer .entry))) 0 0 r ⌝ }
+{
+    if buffer.len() <= bytes {
+        return heard_line(Asked::Stop, line, window);
+    }
+    let file = read_file(buffer, window, bytes);
+    if file.good {
+        return heard_line(Asked::Cards(file.from, file.end), line, file.window);
+    }
+    heard_line(Asked::Stop, file.line, file.window)
+}
+
+// station LATITUDE COUNT, and the records behind its line.
+fn hear_station(buffer: &mut [u8], window: Window, line: u64, latitude: i32, count: u32) -> Heard
+    requires { ⌜ Within (length (now buffer)) window ⌝ }
+    ensures { λ r. ⌜ HeardPost (length (now (buffer .entry))) 0 0 r ⌝ }
+{
+    let records = read_records(buffer, window, count);
+    let next = records.window;
+    if !records.good {
+        return heard_line(Asked::Stop, next.line, next);
+    }
+    let rows = records.rows;
+    Heard {
+        asked: Asked::Station(latitude, count as usize),
+        line,
+        rows,
+        window: next,
+    }
+}
+
+// series START STEP COUNT, where so many places can be lent.
+fn asked_series(places: usize, start: u32, step: u32, count: u32) -> Asked
+    ensures { λ r. ⌜ Lent 0 0 places r ⌝ }
+{
+    let n = count as usize;
+    if places < n {
+        return Asked::Stop;
+    }
+    Asked::Series(start, step, n)
+}
+
+// turns FIRST LAST MINUTES HEIGHTS, where so many places can be lent.
+fn asked_turns(minutes: usize, heights: usize, first: u32, last: u32, m: u32, h: u32) -> Asked
+    ensures { λ r. ⌜ Lent 0 minutes heights r ⌝ }
+{
+    let a = m as usize;
+    let b = h as usize;
+    if minutes < a || heights < b {
+        return Asked::Stop;
+    }
+    Asked::Turns(first, last, a, b)
+}
+
+// What a line's call asks, with what stands behind the line, for a program that can lend so many places for minutes and for heights.
+fn hear(buffer: &mut [u8], told: CallLine, minutes: usize, heights: usize) -> Heard
+    requires { ⌜ Within (length (now buffer)) (told .window) ⌝ }
+    ensures { λ r. ⌜ HeardPost (length (now (buffer .entry))) minutes heights r ⌝ }
+{
+    let line = told.line;
+    let call = told.call;
+    match call {
+        Call::Cards(bytes) => {
+            return hear_cards(buffer, told.window, line, bytes as usize);
+        }
+        Call::Station(latitude, count) => {
+            return hear_station(buffer, told.window, line, latitude, count);
+        }
+        Call::Date(year, month) => {
+            return heard_line(Asked::Date(year, month), line, told.window);
+        }
+        Call::Height(minute) => {
+            return heard_line(Asked::Height(minute), line, told.window);
+        }
+        Call::Series(start, step, count) => {
+            return heard_line(asked_series(heights, start, step, count), line, told.window);
+        }
+        Call::Turns(first, last, m, h) => {
+            return heard_line(
+                asked_turns(minutes, heights, first, last, m, h),
+                line,
+                told.window,
+            );
+        }
+        Call::Bad => {
+            return heard_line(Asked::Stop, line, told.window);
+        }
+    }
+}
+
+// The next call, for a program that can lend so many places for minutes and for heights. At the end of the input there is none.
+pub fn next_call(buffer: &mut [u8], window: Window, minutes: usize, heights: usize) -> Heard
+    requires { ⌜ Within (length (now buffer)) window ⌝ }
+    ensures { λ r. ⌜ HeardPost (length (now (buffer .entry))) minutes heights r ⌝ }
+{
+    let held = input::gather(buffer, window, 1);
+    if held.to <= held.from {
+        return heard_line(Asked::End, held.line, held);
+    }
+    let told = read_call(buffer, held);
+    hear(buffer, told, minutes, heights)
 }

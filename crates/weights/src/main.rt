@@ -5,20 +5,20 @@ ghost use mathlib.Core.Path.{_≡_};
 ghost use mathlib.Core.Bool.{true};
 ghost use lib.ListN.{length};
 ghost use Rattle.calendar.specs.Calendar.{inRange};
-ghost use Rattle.transcript.specs.inner.Window.{Within};
+ghost use Rattle.transcript.specs.inner.Posts.{Lent};
 use card_file::reader;
 use month::Preparation;
 use month_prepared::Month;
 use refusals::Answer;
 use refusals::Refusal;
-use script::Call;
 use station::Station;
 use station::records::Rows;
 use table::Table;
 use transcript::answers;
 use transcript::input;
-use transcript::input::Window;
 use transcript::reading;
+use transcript::reading::Asked;
+use transcript::reading::Heard;
 
 // What the calls leave: a table and a station, each there or not.
 struct Kept {
@@ -34,10 +34,9 @@ struct After {
     kept: Kept,
 }
 
-// What a line of the script leaves: the table and the station, what is left of the input, the next place on the page, and whether the run goes on.
+// What a line of the script leaves: the table and the station, the next place on the page, and whether the run goes on.
 struct Step {
     kept: Kept,
-    window: Window,
     at: usize,
     more: bool,
 }
@@ -52,43 +51,65 @@ fn nothing() -> Kept {
     }
 }
 
+// A new table, and no station.
+fn with_table(kept: Kept, table: Table) -> After {
+    let mut next = kept;
+    next.tabled = true;
+    next.table = table;
+    next.stationed = false;
+    After {
+        answer: Answer::Accepted,
+        kept: next,
+    }
+}
+
+// A new station.
+fn with_station(kept: Kept, station: Station) -> After {
+    let mut next = kept;
+    next.stationed = true;
+    next.station = station;
+    After {
+        answer: Answer::Accepted,
+        kept: next,
+    }
+}
+
 // A card file: its table takes the place of the old one, with no station; or it is refused.
 fn load_cards(kept: Kept, file: &[u8]) -> After {
     let read = reader::read_cards(file);
     let answer = read.answer;
     match answer {
         Answer::Accepted => {
-            let table = read.table;
-            let mut next = kept;
-            next.tabled = true;
-            next.table = table;
-            next.stationed = false;
-            After { answer, kept: next }
+            return with_table(kept, read.table);
         }
-        Answer::Refused(_, _) => After { answer, kept },
+        Answer::Refused(_, _) => {
+            return After { answer, kept };
+        }
     }
 }
 
-// A station of n records, of which the first 146 are in the rows; or it is refused.
-fn place_station(kept: Kept, latitude: i32, n: usize, rows: Rows) -> After {
-    if !kept.tabled {
-        return After {
-            answer: Answer::Refused(Refusal::NoTable, 0),
-            kept,
-        };
-    }
-    let table = kept.table;
-    let taken = station::take_station(table.frequencies, latitude, n, rows);
+// A station of n records, of which the first 146 are in the rows, over a table; or it is refused.
+fn take_station(kept: Kept, latitude: i32, n: usize, rows: Rows) -> After {
+    let taken = station::take_station(kept.table.frequencies, latitude, n, rows);
     let answer = taken.answer;
     match answer {
         Answer::Accepted => {
-            let station = taken.station;
-            let mut next = kept;
-            next.stationed = true;
-            next.station = station;
-            After { answer, kept: next }
+            return with_station(kept, taken.station);
         }
-        Answer::Refused(_, _) => After { answer, kept },
+        Answer::Refused(_, _) => {
+            return After { answer, kept };
+        }
+    }
+}
+
+// A station, where there is a table.
+fn place_station(kept: Kept, latitude: i32, n: usize, rows: Rows) -> After {
+    if kept.tabled {
+        return take_station(kept, latitude, n, rows);
+    }
+    After {
+        answer: Answer::Refused(Refusal::NoTable, 0),
+        kept,
     }
 }
 
@@ -123,16 +144,15 @@ fn put_prepared(page: &mut [u8], at: usize, kept: Kept, year: u32, month: u32) -
     requires { ⌜ inRange year month ≡ true ⌝ }
 {
     let cosines = cosine::cosines();
-    let table = kept.table;
-    let station = kept.station;
-    let prepared = month::prepare(&cosines, table, station, year, month);
+    let prepared = month::prepare(&cosines, kept.table, kept.station, year, month);
     let answer = prepared.answer;
     match answer {
         Preparation::Ready => {
-            let constituents = prepared.month;
-            put_month(page, at, constituents)
+            return put_month(page, at, prepared.month);
         }
-        Preparation::TooLarge(place) => { answers::put_refused(page, at, Refusal::TooLarge, place) }
+        Preparation::TooLarge(place) => {
+            return answers::put_refused(page, at, Refusal::TooLarge, place);
+        }
     }
 }
 
@@ -150,163 +170,70 @@ fn put_date(page: &mut [u8], at: usize, kept: Kept, year: u32, month: u32) -> us
     put_prepared(page, at, kept, year, month)
 }
 
-// cards BYTES
-fn cards_call(
-    kept: Kept,
-    window: Window,
-    buffer: &mut [u8],
-    page: &mut [u8],
-    at: usize,
-    line: u64,
-    bytes: u32,
-) -> Step
-    requires { ⌜ Within (length (now buffer)) window ⌝ }
-    ensures { λ r. ⌜ Within (length (now (buffer .entry))) (r .window) ⌝ }
-{
-    let n = bytes as usize;
-    if buffer.len() <= n {
-        let stopped = answers::put_script(page, at, line);
-        return Step {
-            kept,
-            window,
-            at: stopped,
-            more: false,
-        };
-    }
-    let file = reading::read_file(buffer, window, n);
-    let next = file.window;
-    if !file.good {
-        let stopped = answers::put_script(page, at, file.line);
-        return Step {
-            kept,
-            window: next,
-            at: stopped,
-            more: false,
-        };
-    }
-    let from = file.from;
-    let end = file.end;
-    let after = load_cards(kept, &buffer[from..end]);
-    let left = after.kept;
-    let answer = after.answer;
-    let place = answers::put_answer(page, at, answer);
+// What is kept, with the next place on the page, for the next call.
+fn left(kept: Kept, at: usize) -> Step {
     Step {
-        kept: left,
-        window: next,
-        at: place,
+        kept,
+        at,
         more: true,
     }
 }
 
-// station LATITUDE COUNT
-fn station_call(
-    kept: Kept,
-    window: Window,
-    buffer: &mut [u8],
-    page: &mut [u8],
-    at: usize,
-    latitude: i32,
-    count: u32,
-) -> Step
-    requires { ⌜ Within (length (now buffer)) window ⌝ }
-    ensures { λ r. ⌜ Within (length (now (buffer .entry))) (r .window) ⌝ }
-{
-    let records = reading::read_records(buffer, window, count);
-    let next = records.window;
-    if !records.good {
-        let stopped = answers::put_script(page, at, next.line);
-        return Step {
-            kept,
-            window: next,
-            at: stopped,
-            more: false,
-        };
-    }
-    let rows = records.rows;
-    let after = place_station(kept, latitude, count as usize, rows);
-    let left = after.kept;
-    let answer = after.answer;
-    let place = answers::put_answer(page, at, answer);
+// The run ends at an input line.
+fn stop(kept: Kept, page: &mut [u8], at: usize, line: u64) -> Step {
+    let next = answers::put_script(page, at, line);
     Step {
-        kept: left,
-        window: next,
-        at: place,
-        more: true,
+        kept,
+        at: next,
+        more: false,
     }
 }
 
-// The answer to the call of a line.
-fn answer_call(
-    call: Call,
-    line: u64,
-    kept: Kept,
-    window: Window,
-    buffer: &mut [u8],
-    page: &mut [u8],
-    at: usize,
-) -> Step
-    requires { ⌜ Within (length (now buffer)) window ⌝ }
-    ensures { λ r. ⌜ Within (length (now (buffer .entry))) (r .window) ⌝ }
+// The line of a card file or a station, and what it leaves.
+fn put_after(after: After, page: &mut [u8], at: usize) -> Step {
+    let answer = after.answer;
+    let next = answers::put_answer(page, at, answer);
+    left(after.kept, next)
+}
+
+// The answer to a call. At the end of the input the run ends with no word.
+fn answer_call(heard: Heard, kept: Kept, buffer: &[u8], page: &mut [u8], at: usize) -> Step
+    requires { ⌜ Lent (length (now buffer)) 0 0 (heard .asked) ⌝ }
 {
-    match call {
-        Call::Cards(bytes) => cards_call(kept, window, buffer, page, at, line, bytes),
-        Call::Station(latitude, count) => {
-            station_call(kept, window, buffer, page, at, latitude, count)
+    let asked = heard.asked;
+    match asked {
+        Asked::Cards(from, end) => {
+            return put_after(load_cards(kept, &buffer[from..end]), page, at);
         }
-        Call::Date(year, month) => {
-            let place = put_date(page, at, kept, year, month);
-            Step {
+        Asked::Station(latitude, count) => {
+            return put_after(place_station(kept, latitude, count, heard.rows), page, at);
+        }
+        Asked::Date(year, month) => {
+            return left(kept, put_date(page, at, kept, year, month));
+        }
+        Asked::End => {
+            return Step {
                 kept,
-                window,
-                at: place,
-                more: true,
-            }
+                at,
+                more: false,
+            };
         }
         _ => {
-            let place = answers::put_script(page, at, line);
-            Step {
-                kept,
-                window,
-                at: place,
-                more: false,
-            }
+            return stop(kept, page, at, heard.line);
         }
     }
-}
-
-// One call is read and answered. At the end of the input the run ends with no word.
-fn one_call(kept: Kept, window: Window, buffer: &mut [u8], page: &mut [u8], at: usize) -> Step
-    requires { ⌜ Within (length (now buffer)) window ⌝ }
-    ensures { λ r. ⌜ Within (length (now (buffer .entry))) (r .window) ⌝ }
-{
-    let held = input::gather(buffer, window, 1);
-    if held.to <= held.from {
-        return Step {
-            kept,
-            window: held,
-            at,
-            more: false,
-        };
-    }
-    let heard = reading::read_call(buffer, held);
-    let next = heard.window;
-    let call = heard.call;
-    answer_call(call, heard.line, kept, next, buffer, page, at)
 }
 
 // Calls until the run ends. A proved loop has to end, and nothing says that the input does, so the calls are counted down from a number that no run uses up.
 fn run(buffer: &mut [u8], page: &mut [u8]) {
-    let mut step = Step {
-        kept: nothing(),
-        window: input::start(),
-        at: 0,
-        more: true,
-    };
+    let mut step = left(nothing(), 0);
+    let mut window = input::start();
     let mut calls = u64::MAX;
     while 0 < calls && step.more {
-        let kept = step.kept;
-        let window = step.window;
-        step = one_call(kept, window, buffer, page, step.at);
+        let heard = reading::next_call(buffer, window, 0, 0);
+        let next = heard.window;
+        window = next;
+        step = answer_call(heard, step.kept, buffer, page, step.at);
         calls -= 1;
     }
     output::flush(page, step.at);

@@ -12,7 +12,8 @@ use Rattle.faults.specs.declared.Fault.{Fault}
 use Rattle.faults.specs.declared.Fault.the-variants.{Unsaid, Of}
 use Rattle.faults.specs.declared.What.the-variants.{Coefficient, PartName}
 use Rattle.faults.specs.declared.Trouble.the-variants as trouble
-use Rattle.faults.specs.Faults.{fieldFault, found, orElse}
+use Rattle.faults.specs.Faults.{fieldFault, orElse}
+use Rattle.faults.specs.inner.Found.{found}
 use Rattle.faults.specs.declared.cardlines.Kind.{Kind}
 use Rattle.faults.specs.Stands.{start, named}
 use Rattle.faults.specs.Fields.{cardField, coefficientAt}

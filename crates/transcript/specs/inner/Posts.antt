@@ -1,4 +1,4 @@
--- Only inner contracts cite this: what the readers of a card file and of a station's lines hand on. Assumes nothing.
+-- Only inner contracts cite this: what the readers of a call, of a card file and of a station's lines hand on. Assumes nothing.
 use Prim.Native.Nat.{ℕ, _+_, _≤_}
 use mathlib.Core.Path.{_≡_}
 use mathlib.Core.Bool.{true, cond}
@@ -9,6 +9,9 @@ use Rattle.transcript.specs.inner.Window.{Within}
 use Rattle.station.specs.declared.records.Rows.{Rows}
 use Rattle.station.specs.inner.Rows.{putRow}
 use Rattle.transcript.specs.declared.reading.CardFile.{CardFile}
+use Rattle.transcript.specs.declared.reading.Asked.{Asked}
+use Rattle.transcript.specs.declared.reading.Asked.the-variants.{Cards, Station, Date, Height, Series, Turns, End, Stop}
+use Rattle.transcript.specs.declared.reading.Heard.{Heard}
 
 -- the card file stands in the buffer of n bytes; one that came whole has the bytes asked for, and LF (10) behind them
 pub record FilePost (n bytes : ℕ) (left : List ℕ) (f : CardFile) : Type 0 where
@@ -20,3 +23,21 @@ pub record FilePost (n bytes : ℕ) (left : List ℕ) (f : CardFile) : Type 0 wh
 -- the rows with record k, from 0: 146 are kept
 abbrev pub keptRow : Rows → ℕ → ℕ → ℕ → ℕ → Rows
 keptRow rows k place amplitude phase = cond (ltb k 146) (putRow rows k place amplitude phase) rows
+
+-- what a call asks can be lent: a card file's bytes in a buffer of n, and places in buffers of m minutes and h heights
+abbrev pub Fits : ℕ → ℕ → ℕ → Asked → Type 0
+Fits n m h (Cards from end) = (from ≤ end) × (end ≤ n)
+Fits n m h (Station latitude count) = Unit {0}
+Fits n m h (Date year month) = Unit {0}
+Fits n m h (Height minute) = Unit {0}
+Fits n m h (Series start step count) = count ≤ h
+Fits n m h (Turns first last minutes heights) = (minutes ≤ m) × (heights ≤ h)
+Fits n m h End = Unit {0}
+Fits n m h Stop = Unit {0}
+
+pub record Lent (n m h : ℕ) (a : Asked) : Type 0 where
+  pub fits : Fits n m h a
+
+pub record HeardPost (n m h : ℕ) (r : Heard) : Type 0 where
+  pub within : Within n (r .window)
+  pub lent : Lent n m h (r .asked)

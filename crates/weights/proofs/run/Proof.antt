@@ -1,29 +1,37 @@
 -- `weights::run` is safe and ends. What holds before each call: the window stands in the buffer. The measure is the calls left. Assumes nothing.
-use mathlib.Core.Path.{_≡_, refl}
+use mathlib.Core.Path.{_≡_, refl, sym, subst, _∙_}
+use Prim.Native.Nat.{ℕ}
 use native.Mathlib.Omega.{arith}
 use lib.ListN.{length}
-use borrow.Author.Needs.{needs}
 use Rattle.transcript.specs.inner.Window.{Within}
+use Rattle.transcript.specs.inner.Posts.{Lent}
+use borrow.Author.Needs.{needs}
 use Rattle.weights.proofs.run.Statement.{statement}
 use Rattle.weights.proofs.run.Tie as tie
 
 abbrev Inv-loop : tie.InvT-loop
-Inv-loop buffer₀ page₀ step₀ calls₀ buffer page step calls = (length buffer ≡ length buffer₀) × (length page ≡ length page₀) × Within (length buffer₀) (step .window)
+Inv-loop buffer₀ page₀ step₀ window₀ calls₀ buffer page step window calls = (length buffer ≡ length buffer₀) × (length page ≡ length page₀) × Within (length buffer₀) window
 
 abbrev μ-loop : tie.MeasureT-loop
-μ-loop buffer₀ page₀ step₀ calls₀ buffer page step calls = calls
+μ-loop buffer₀ page₀ step₀ window₀ calls₀ buffer page step window calls = calls
 
 nothing-requires : tie.Need-nothing-requires Inv-loop μ-loop
-nothing-requires c κs = search needs
+nothing-requires c κs = tt
+
+left-requires : tie.Need-left-requires Inv-loop μ-loop
+left-requires c κs = tt
 
 start-requires : tie.Need-start-requires Inv-loop μ-loop
-start-requires c κs = search needs
+start-requires c κs = tt
 
 loop-holds : tie.Need-loop-holds Inv-loop μ-loop
 loop-holds c = (refl, refl, record { ordered = c .start .ensures .ordered; inside = omega (arith, c .start .ensures .inside) })
 
-one-call-requires : tie.Need-one-call-requires Inv-loop μ-loop
-one-call-requires c κs = search needs
+next-call-requires : tie.Need-next-call-requires Inv-loop μ-loop
+next-call-requires c κs = search needs
+
+answer-call-requires : tie.Need-answer-call-requires Inv-loop μ-loop
+answer-call-requires c κs = let n = c .before .before .before .before .before .next-call in subst (λ (k : ℕ). Lent k 0 0 (n .result .asked)) (sym (n .kept .0)) (n .ensures .lent)
 
 sub-calls : tie.Need-sub-calls Inv-loop μ-loop
 sub-calls c = search needs
@@ -32,7 +40,11 @@ loop-less : tie.Need-loop-less Inv-loop μ-loop
 loop-less c = search needs
 
 loop-again : tie.Need-loop-again Inv-loop μ-loop
-loop-again c = search needs
+loop-again c =
+    let s = c .before .before .before .before .before .before .before .before .before .before .before .before .loop .inv in
+    let n = c .before .before .before .before .before .before .before .before .next-call in
+    let a = c .before .before .answer-call in
+    (n .kept .0 ∙ s .0, a .kept .1 .1 .1 .0 ∙ s .1, subst (λ (k : ℕ). Within k (n .result .window)) (s .0) (n .ensures .within))
 
 flush-requires : tie.Need-flush-requires Inv-loop μ-loop
 flush-requires c κs = search needs
@@ -53,9 +65,11 @@ run-spec =
     Inv-loop
     μ-loop
     nothing-requires
+    left-requires
     start-requires
     loop-holds
-    one-call-requires
+    next-call-requires
+    answer-call-requires
     sub-calls
     loop-less
     loop-again

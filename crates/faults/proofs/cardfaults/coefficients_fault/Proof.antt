@@ -7,7 +7,7 @@ use Prim.Native.Nat.{_-_, _+_, _≤_}
 use native.Mathlib.Omega.{arith}
 use Rattle.card.specs.Card.{number}
 use Rattle.card.specs.Formats.{partCountField}
-use Rattle.faults.specs.Faults.{found}
+use Rattle.faults.specs.inner.Found.{found}
 use Rattle.faults.specs.Stands.{sizeGiven}
 use Rattle.faults.specs.Card.{coefficientsFrom, coefficientsFault}
 use Rattle.faults.proofs.Found.{found-first, found-next}

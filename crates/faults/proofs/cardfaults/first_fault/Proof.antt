@@ -5,7 +5,7 @@ use mathlib.Core.Path.{_≡_, sym, _∙_}
 use mathlib.Core.Bool.{true, false}
 use Prim.Native.Nat.{_-_, _+_}
 use native.Mathlib.Omega.{arith}
-use Rattle.faults.specs.Faults.{found}
+use Rattle.faults.specs.inner.Found.{found}
 use Rattle.faults.specs.Fields.{fieldCount}
 use Rattle.faults.specs.Card.{faultFrom}
 use Rattle.faults.proofs.Found.{found-first, found-next}
