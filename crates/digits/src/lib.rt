@@ -1,11 +1,11 @@
-// The figures on a sheet: a height's rounded size, decimal digits as short rows of bytes, and the day and the time of day of a minute.
+// The figures on a sheet as short rows of bytes: heights, rounded, with their decimals; days and times of day; dates and names of months; texts.
 ghost use mathlib.Core.Path.{_≡_};
 ghost use lib.ListN.{getD};
 ghost use lib.IntN.{pos};
 ghost use Rattle.digits.specs.Digits.{thousandths, lastDigit, dayOf, hourOf, timeOfDay, timeOnDay, latitudeEnd, threeDecimals, fourDecimals};
 
-pub mod dates; // Dates on a sheet
-pub mod texts; // Texts
+pub mod dates; // dates, and names of months
+pub mod texts; // texts of a station card
 
 // A height's size in thousandths of the unit, from tenths of thousandths; a half is rounded up.
 pub fn thousandths(size: u64) -> u64

@@ -1,6 +1,6 @@
 // What the program says of a refusal or of a command line that it cannot follow: one line on standard error each.
-mod pieces;
-mod phrases; // Which words say what
+mod pieces; // pieces of a line
+mod phrases; // which words say what
 
 use commandline::Wrong;
 use faults::Fault;
