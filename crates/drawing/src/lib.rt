@@ -15,7 +15,6 @@ use page::shown;
 use page::shown::Date;
 use page::shown::Turns;
 use refusals::Answer;
-use swings::monthturns;
 
 // Room for a day's heights, five minutes apart. (Each a function's result, so that its length is known as a fact.)
 fn day_places() -> [i64; 289]

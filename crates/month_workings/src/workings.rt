@@ -86,6 +86,32 @@ fn sum_of<'a>(
     main_sum(cosines, angles, ratios, first, count, given.factors, l)
 }
 
+// Works out the main in row k, and keeps it there.
+fn keep_main<'a>(
+    cosines: &'a [u32; 1025],
+    cards: &'a [u16; 192],
+    angles: &'a [i8; 448],
+    satelliteangles: &'a [i8; 1024],
+    ratios: &'a [u32; 512],
+    k: usize,
+    given: Given,
+    kept: &mut [i64; 192],
+)
+    requires { ⌜ IsTable (now cosines) ⌝ }
+    requires { ⌜ IsGiven given ⌝ }
+    requires { ⌜ KeptBy given (now cards) (now angles) (now satelliteangles) (now ratios) (now kept) ⌝ }
+    requires { ⌜ k < 64 ⌝ }
+    ensures { λ _. ⌜ WithMain (argumentBy given (now (angles .entry))) (correctedBy given (now (cards .entry)) (now (satelliteangles .entry)) (now (ratios .entry))) k (now (kept .entry)) (now (kept .exit)) ⌝ }
+{
+    let p = sum_of(cosines, cards, satelliteangles, ratios, k, given);
+    let v = argument_of(angles, given.mains, k, given.longitudes) as i64;
+    let x = p.x;
+    let y = p.y;
+    kept[3 * k] = v;
+    kept[3 * k + 1] = x;
+    kept[3 * k + 2] = y;
+}
+
 // Works out the main in row k, if it is not yet.
 pub fn work_main<'a>(
     cosines: &'a [u32; 1025],
@@ -108,13 +134,16 @@ pub fn work_main<'a>(
     if argument_at(kept, k) < TURN {
         return;
     }
-    let p = sum_of(cosines, cards, satelliteangles, ratios, k, given);
-    let v = argument_of(angles, given.mains, k, given.longitudes) as i64;
-    let x = p.x;
-    let y = p.y;
-    kept[3 * k] = v;
-    kept[3 * k + 1] = x;
-    kept[3 * k + 2] = y;
+    keep_main(
+        cosines,
+        cards,
+        angles,
+        satelliteangles,
+        ratios,
+        k,
+        given,
+        kept,
+    );
 }
 
 // Works out the mains of the parts of the shallow constituent in a row, those that are not yet.

@@ -1,3 +1,1 @@
 pub mod Swings
-pub mod Month
-pub mod inner

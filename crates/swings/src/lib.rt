@@ -2,9 +2,6 @@
 ghost use mathlib.Core.Path.{_≡_};
 ghost use Prim.Native.Nat.{_+_, _-_, _≤_, max};
 ghost use Rattle.swings.specs.Swings.{apart, swing, largestSwing, barLength, isHigh, turnFrom, dayEnd};
-
-pub mod monthturns; // The turns of a whole month, for sheets and drawings
-
 use drawing_plots::scale;
 
 // How far two heights lie apart.

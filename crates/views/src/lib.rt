@@ -17,7 +17,6 @@ use sheets::daysheet;
 use sheets::daysheet::Next;
 use sheets::daysheet::Water;
 use sheets::monthsheet;
-use swings::monthturns;
 
 // Says that the clock refused the day.
 fn say_day(date: Date, refusal: Refusal) {

@@ -1,16 +1,15 @@
 // Shows what prepared months are made of: plays the card files, stations and dates of a script, and writes V, P and Q of each record for each date.
 //
-// It works without the clock, so that the months can be compared with the second code where no height is. Any other call ends the run.
+// It keeps a table and a station beside the clock's own questions (`calls`), so that the months can be compared with the second code where no height is. Any other call ends the run.
 ghost use mathlib.Core.Path.{_≡_};
 ghost use mathlib.Core.Bool.{true};
 ghost use lib.ListN.{length};
 ghost use Rattle.calendar.specs.Calendar.{inRange};
 ghost use Rattle.transcript.specs.inner.Posts.{Lent};
+use calls::settings;
 use card_file::reader;
-use month::Preparation;
 use month_prepared::Month;
 use refusals::Answer;
-use refusals::Refusal;
 use station::Station;
 use station::records::Rows;
 use table::Table;
@@ -88,9 +87,9 @@ fn load_cards(kept: Kept, file: &[u8]) -> After {
     }
 }
 
-// A station of n records, of which the first 146 are in the rows, over a table; or it is refused.
-fn take_station(kept: Kept, latitude: i32, n: usize, rows: Rows) -> After {
-    let taken = station::take_station(kept.table.frequencies, latitude, n, rows);
+// A station of n records, of which the first 146 are in the rows; or it is refused.
+fn place_station(kept: Kept, latitude: i32, n: usize, rows: Rows) -> After {
+    let taken = settings::station_answer(kept.tabled, kept.table, latitude, n, rows);
     let answer = taken.answer;
     match answer {
         Answer::Accepted => {
@@ -99,17 +98,6 @@ fn take_station(kept: Kept, latitude: i32, n: usize, rows: Rows) -> After {
         Answer::Refused(_, _) => {
             return After { answer, kept };
         }
-    }
-}
-
-// A station, where there is a table.
-fn place_station(kept: Kept, latitude: i32, n: usize, rows: Rows) -> After {
-    if kept.tabled {
-        return take_station(kept, latitude, n, rows);
-    }
-    After {
-        answer: Answer::Refused(Refusal::NoTable, 0),
-        kept,
     }
 }
 
@@ -145,29 +133,20 @@ fn put_prepared(page: &mut [u8], at: usize, kept: Kept, year: u32, month: u32) -
 {
     let cosines = cosine::cosines();
     let prepared = month::prepare(&cosines, kept.table, kept.station, year, month);
-    let answer = prepared.answer;
+    let answer = settings::month_answer(prepared);
     match answer {
-        Preparation::Ready => {
-            return put_month(page, at, prepared.month);
-        }
-        Preparation::TooLarge(place) => {
-            return answers::put_refused(page, at, Refusal::TooLarge, place);
-        }
+        Answer::Accepted => put_month(page, at, prepared.month),
+        Answer::Refused(refusal, place) => answers::put_refused(page, at, refusal, place),
     }
 }
 
 // What a date says: its month, or refused NUMBER PLACE.
 fn put_date(page: &mut [u8], at: usize, kept: Kept, year: u32, month: u32) -> usize {
-    if !kept.tabled {
-        return answers::put_refused(page, at, Refusal::NoTable, 0);
+    let answer = settings::date_answer(kept.tabled, kept.stationed, year, month);
+    match answer {
+        Answer::Accepted => put_prepared(page, at, kept, year, month),
+        Answer::Refused(refusal, place) => answers::put_refused(page, at, refusal, place),
     }
-    if !kept.stationed {
-        return answers::put_refused(page, at, Refusal::NoStation, 0);
-    }
-    if !calendar::in_range(year, month) {
-        return answers::put_refused(page, at, Refusal::BadDate, 0);
-    }
-    put_prepared(page, at, kept, year, month)
 }
 
 // What is kept, with the next place on the page, for the next call.

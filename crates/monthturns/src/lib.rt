@@ -5,8 +5,8 @@
 // minutes alone, as long as each of 01's strides, find it.
 ghost use Prim.Native.Nat.{_+_, _≤_};
 ghost use Rattle.clock.specs.View.{Made};
-ghost use Rattle.swings.specs.inner.Kept.{Kept};
-ghost use Rattle.swings.specs.Month.{MonthTurns, FoundTurns};
+ghost use Rattle.monthturns.specs.inner.Kept.{Kept};
+ghost use Rattle.monthturns.specs.Month.{MonthTurns, FoundTurns};
 use clock::Clock;
 use clock::TurnsAnswer;
 use page::shown::TURNS;
@@ -50,7 +50,7 @@ fn last_of<'a>(count: usize, first: bool, minutes: &'a [u32], heights: &'a [i64]
     }
     Turn {
         found: true,
-        high: crate::is_high(first, count - 1),
+        high: swings::is_high(first, count - 1),
         minute: digits::minute_at(minutes, count - 1),
         height: digits::height_at(heights, count - 1),
     }

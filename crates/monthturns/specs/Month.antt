@@ -11,8 +11,8 @@ use Rattle.clock.specs.Posts.{TurnsPost}
 use Rattle.page.specs.declared.shown.Turns.{Turns as Shown}
 use Rattle.refusals.specs.declared.Answer.{Answer}
 use Rattle.refusals.specs.declared.Answer.the-variants.{Accepted, Refused as Declined}
-use Rattle.swings.specs.declared.monthturns.Found.{Found}
-use Rattle.swings.specs.inner.Kept.{Kept}
+use Rattle.monthturns.specs.declared.Found.{Found}
+use Rattle.monthturns.specs.inner.Kept.{Kept}
 
 -- so many turns and at most three more
 pub record More (count : ℕ) (answer : TurnsAnswer) : Type 0 where

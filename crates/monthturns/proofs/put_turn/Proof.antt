@@ -1,8 +1,8 @@
--- `swings::monthturns::put_turn` meets its contract: what stands before the place is kept. Assumes nothing.
-use Rattle.swings.proofs.monthturns.Kept.{kept-set}
+-- `monthturns::put_turn` meets its contract: what stands before the place is kept. Assumes nothing.
+use Rattle.monthturns.proofs.Kept.{kept-set}
 use borrow.Author.Needs.{needs}
-use Rattle.swings.proofs.monthturns.put_turn.Statement.{statement}
-use Rattle.swings.proofs.monthturns.put_turn.Tie as tie
+use Rattle.monthturns.proofs.put_turn.Statement.{statement}
+use Rattle.monthturns.proofs.put_turn.Tie as tie
 
 returns : tie.Need-returns
 returns c = search needs

@@ -9,10 +9,10 @@ use Rattle.clock.specs.declared.Clock.{Clock}
 use Rattle.clock.specs.declared.TurnsAnswer.{TurnsAnswer}
 use Rattle.clock.specs.declared.TurnsAnswer.the-variants.{Turns, Refused}
 use Rattle.clock.specs.Posts.{TurnsPost}
-use Rattle.swings.specs.inner.Kept.{Kept}
+use Rattle.monthturns.specs.inner.Kept.{Kept}
 use Rattle.refusals.specs.declared.Answer.the-variants.{Accepted, Refused as Declined}
-use Rattle.swings.specs.Month.{More, Beside, countOf, MonthTurns, FoundTurns}
-use Rattle.swings.proofs.monthturns.Kept.{kept-all}
+use Rattle.monthturns.specs.Month.{More, Beside, countOf, MonthTurns, FoundTurns}
+use Rattle.monthturns.proofs.Kept.{kept-all}
 
 module _ {c : Clock} {last : ℕ} {minutes own-minutes : List ℕ} {heights own-heights : List ℤ} (own : TurnsAnswer) (p : TurnsPost c 0 last minutes own-minutes heights own-heights own) where
   pub month-found : {count all : ℕ} {first high : Bool} {minutes-left : List ℕ} {heights-left : List ℤ} → own ≡ Turns count first → (count ≤ all) × (all ≤ count + 3)

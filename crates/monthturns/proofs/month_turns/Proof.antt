@@ -1,8 +1,8 @@
--- `swings::monthturns::month_turns` meets its contract: the clock's own answer, and the turns put behind its. Assumes nothing.
-use Rattle.swings.proofs.monthturns.Month.{month-found, month-refused}
+-- `monthturns::month_turns` meets its contract: the clock's own answer, and the turns put behind its. Assumes nothing.
+use Rattle.monthturns.proofs.Month.{month-found, month-refused}
 use borrow.Author.Needs.{needs}
-use Rattle.swings.proofs.monthturns.month_turns.Statement.{statement}
-use Rattle.swings.proofs.monthturns.month_turns.Tie as tie
+use Rattle.monthturns.proofs.month_turns.Statement.{statement}
+use Rattle.monthturns.proofs.month_turns.Tie as tie
 
 turns-requires : tie.Need-turns-requires
 turns-requires c κs = search needs

@@ -1,9 +1,9 @@
--- `swings::monthturns::with_ends` meets its contract: each turn is put behind those that are there. Assumes nothing.
+-- `monthturns::with_ends` meets its contract: each turn is put behind those that are there. Assumes nothing.
 use native.Mathlib.Omega.{arith}
-use Rattle.swings.proofs.monthturns.Kept.{kept-fewer, kept-on}
+use Rattle.monthturns.proofs.Kept.{kept-fewer, kept-on}
 use borrow.Author.Needs.{needs}
-use Rattle.swings.proofs.monthturns.with_ends.Statement.{statement}
-use Rattle.swings.proofs.monthturns.with_ends.Tie as tie
+use Rattle.monthturns.proofs.with_ends.Statement.{statement}
+use Rattle.monthturns.proofs.with_ends.Tie as tie
 
 with-turn-requires : tie.Need-with-turn-requires
 with-turn-requires c κs = search needs

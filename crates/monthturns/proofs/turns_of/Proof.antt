@@ -1,8 +1,8 @@
--- `swings::monthturns::turns_of` meets its contract: what it gives is what the lent rows hold after the search. Assumes nothing.
+-- `monthturns::turns_of` meets its contract: what it gives is what the lent rows hold after the search. Assumes nothing.
 use borrow.Author.Needs.{needs}
-use Rattle.swings.proofs.monthturns.Month.{found-turns, found-refusal}
-use Rattle.swings.proofs.monthturns.turns_of.Statement.{statement}
-use Rattle.swings.proofs.monthturns.turns_of.Tie as tie
+use Rattle.monthturns.proofs.Month.{found-turns, found-refusal}
+use Rattle.monthturns.proofs.turns_of.Statement.{statement}
+use Rattle.monthturns.proofs.turns_of.Tie as tie
 
 slice-aggregate-month-turns : tie.Need-slice-aggregate-month-turns
 slice-aggregate-month-turns c = search needs

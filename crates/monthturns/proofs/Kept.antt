@@ -6,7 +6,7 @@ use lib.IntN.{ℤ}
 use lib.ListN.{take, set}
 use lib.Seq.{take-take, take-set-le}
 use native.Mathlib.Nat.{le-refl}
-use Rattle.swings.specs.inner.Kept.{Kept}
+use Rattle.monthturns.specs.inner.Kept.{Kept}
 
 fewer : {A : Type 0} (n m : ℕ) (l left : List A) → n ≤ m → take m left ≡ take m l → take n left ≡ take n l
 fewer n m l left h e = sym (take-take n m left h) ∙ ap (take n) e ∙ take-take n m l h
