@@ -14,20 +14,21 @@ enum-told c = search needs
 
 put-prepared-requires : tie.Need-put-prepared-requires
 put-prepared-requires c κs =
-    let a = c .before .before .before .args in
-    date-passed (a .kept .tabled) (a .kept .stationed) (a .year) (a .month) (sym (c .before .before .date-answer .ensures) ∙ ap outcomeOf (c .enum-told .given .1)) .2
+    let said = c .before .before .before in
+    let a = said .before .before .args in
+    date-passed (a .kept .tabled) (a .kept .stationed) (a .year) (a .month) (sym (said .date-answer .ensures) ∙ ap outcomeOf (c .before .enum-told .given .1)) .2
+
+enum-known-answer : tie.Need-enum-known-answer
+enum-known-answer c = search needs
+
+put-refused-requires : tie.Need-put-refused-requires
+put-refused-requires c κs = search needs
 
 same-length : tie.Need-same-length
 same-length c = search needs
 
 returns : tie.Need-returns
 returns c = search needs
-
-enum-told-2 : tie.Need-enum-told-2
-enum-told-2 c = search needs
-
-put-refused-requires : tie.Need-put-refused-requires
-put-refused-requires c κs = search needs
 
 same-length-2 : tie.Need-same-length-2
 same-length-2 c = search needs
@@ -42,9 +43,9 @@ put-date-spec =
     date-answer-requires
     enum-told
     put-prepared-requires
+    enum-known-answer
+    put-refused-requires
     same-length
     returns
-    enum-told-2
-    put-refused-requires
     same-length-2
     returns-2)
