@@ -195,21 +195,13 @@ pub fn set_station(clock: Clock, latitude: i32, records: &[Record]) -> After
     place_station(clock, latitude, n, rows)
 }
 
-// The month of a date that is in range, worked out.
-fn prepared_month(clock: Clock, year: u32, month: u32) -> Prepared
-    requires { ⌜ Made clock × (inRange year month ≡ true) ⌝ }
-    ensures { λ r. ⌜ preparedOf r ≡ monthOf (tableOf (clock .table)) (stationOf (clock .station)) year month ⌝ }
-{
-    month::prepare(&clock.cosines, clock.table, clock.station, year, month)
-}
-
 // The month of a date that is in range.
 fn prepare_month(clock: Clock, year: u32, month: u32) -> After
     requires { ⌜ Made clock × (inRange year month ≡ true) ⌝ }
     ensures { λ r. ⌜ PreparedPost clock year month (r .answer) (r .clock) ⌝ }
 {
     let last = calendar::month_minutes(year, month) as u64;
-    let prepared = prepared_month(clock, year, month);
+    let prepared = month::prepare(&clock.cosines, clock.table, clock.station, year, month);
     let answer = settings::month_answer(prepared);
     match answer {
         Answer::Accepted => {

@@ -15,6 +15,7 @@ use station::Station;
 use table::Table;
 use table::at_u64;
 use table::definitions::find;
+use table::definitions::first_rows;
 ghost use mathlib.Core.Path.{_≡_};
 ghost use mathlib.Core.Bool.{true};
 ghost use Prim.Native.Nat.{_≤_, _^_};
@@ -69,18 +70,14 @@ fn prepare_records(cosines: &[u32; 1025], table: Table, station: Station, given:
     ensures { λ r. ⌜ preparedOf r ≡ rowsPrepared table (factorsOf (given .factors)) (longitudesOf (given .longitudes)) 1 (stationOf station .records) ⌝ }
 {
     let n = held(station.count);
+    let mains = first_rows(&table.maincards, 3, table.mains);
+    let shallows = first_rows(&table.shallowcards, 6, table.shallows);
     let mut kept = none_kept();
     let mut month = no_constituents();
     let mut k = 0;
     while k < n {
         let place = station.places[k];
-        let found = find(
-            &table.maincards,
-            table.mains,
-            &table.shallowcards,
-            table.shallows,
-            place,
-        );
+        let found = find(&mains, table.mains, &shallows, table.shallows, place);
         work_mains(
             found,
             cosines,

@@ -3,7 +3,7 @@ use crate::entries::natural_at;
 ghost use mathlib.Core.Path.{_≡_};
 ghost use Prim.Native.Nat.{_≤_};
 ghost use lib.ListN.{length};
-ghost use Rattle.table.specs.inner.Found.{placeIn, firstRow, Finds};
+ghost use Rattle.table.specs.inner.Found.{placeIn, FirstRows, FindsBy};
 
 // The row of a main or of a shallow-water constituent, or neither.
 pub enum Found {
@@ -12,36 +12,38 @@ pub enum Found {
     Nothing,
 }
 
-// The first of so many rows with a place, or their number.
-fn first_row(cards: &[u16], width: usize, rows: usize, place: u8) -> usize
+// For each place the first of so many rows that has it, or their number. (From the last row to the first, so that the first stays.)
+pub fn first_rows(cards: &[u16], width: usize, rows: usize) -> [usize; 256]
     requires { ⌜ (width ≤ 8) × (length (now cards) ≤ 1024) ⌝ }
-    ensures { λ r. ⌜ r ≡ firstRow (placeIn width (now (cards .entry))) place 0 rows ⌝ }
+    ensures { λ r. ⌜ FirstRows (placeIn width (now (cards .entry))) rows r ⌝ }
 {
-    let mut row = 0;
-    while row < rows {
-        if natural_at(cards, width, row, 0) == place as u16 {
-            return row;
+    let mut first = [rows; 256];
+    let mut row = rows;
+    while 0 < row {
+        row -= 1;
+        let place = natural_at(cards, width, row, 0) as usize;
+        if place < 256 {
+            first[place] = row;
         }
-        row += 1;
     }
-    row
+    first
 }
 
-// What stands at a place.
+// What stands at a place, by the first rows of so many mains and of so many shallow-water constituents.
 pub fn find<'a>(
-    maincards: &'a [u16; 192],
+    mainrows: &'a [usize; 256],
     mains: usize,
-    shallowcards: &'a [u16; 768],
+    shallowrows: &'a [usize; 256],
     shallows: usize,
     place: u8,
 ) -> Found
-    ensures { λ r. ⌜ Finds (now (maincards .entry)) mains (now (shallowcards .entry)) shallows place r ⌝ }
+    ensures { λ r. ⌜ FindsBy (now (mainrows .entry)) mains (now (shallowrows .entry)) shallows place r ⌝ }
 {
-    let main = first_row(maincards, 3, mains, place);
+    let main = mainrows[place as usize];
     if main < mains {
         return Found::Main(main);
     }
-    let shallow = first_row(shallowcards, 6, shallows, place);
+    let shallow = shallowrows[place as usize];
     if shallow < shallows {
         return Found::Shallow(shallow);
     }

@@ -1,4 +1,4 @@
--- Only inner contracts cite this: what a row that is found stands for, and the first row with a place.
+-- Only inner contracts cite this: what a row that is found stands for, and the first row with each place.
 use Prim.Native.Nat.{ℕ, zero, suc, _<_}
 use mathlib.Core.Path.{_≡_}
 use mathlib.Core.Bool.{cond}
@@ -38,3 +38,12 @@ pub record Finds (maincards : List ℕ) (mains : ℕ) (shallowcards : List ℕ) 
   pub definition : (angles satelliteangles : List ℤ) (ratios : List ℕ) (coefficients : List ℤ)
       → definitionOf (mainOf maincards angles satelliteangles ratios) (shallowOf shallowcards coefficients) r ≡ definitionAt (listed (mainOf maincards angles satelliteangles ratios) 0 mains) (listed (shallowOf shallowcards coefficients) 0 shallows) place
   pub within : Within mains r
+
+-- for each place the first of so many rows that has it, or their number
+abbrev pub FirstRows : (ℕ → ℕ) → ℕ → List ℕ → Type 0
+FirstRows placeOf rows first = (place : ℕ) → place < 256 → getD first place 0 ≡ firstRow placeOf place 0 rows
+
+-- what is found by the first rows of any cards is what stands there
+abbrev pub FindsBy : List ℕ → ℕ → List ℕ → ℕ → ℕ → Found → Type 0
+FindsBy mainrows mains shallowrows shallows place r =
+    (maincards shallowcards : List ℕ) → FirstRows (placeIn 3 maincards) mains mainrows → FirstRows (placeIn 6 shallowcards) shallows shallowrows → Finds maincards mains shallowcards shallows place r
