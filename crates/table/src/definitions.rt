@@ -1,6 +1,5 @@
 // What stands at a place of the table: a main, a shallow-water constituent, or nothing, by its row.
 use crate::entries::natural_at;
-ghost use mathlib.Core.Path.{_≡_};
 ghost use Prim.Native.Nat.{_≤_};
 ghost use lib.ListN.{length};
 ghost use Rattle.table.specs.inner.Found.{placeIn, FirstRows, FindsBy};
