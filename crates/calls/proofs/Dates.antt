@@ -1,15 +1,15 @@
 -- A date's cases, by the flags of the state: refused by 21, 22 or 8, and the month that is prepared, or refused by 11. Assumes nothing.
-use mathlib.Core.Path.{_≡_, refl, sym, ap, _∙_}
+use mathlib.Core.Path.{_≡_, refl, sym, ap}
 use Prim.Native.Nat.{ℕ}
 use native.Mathlib.Omega.{arith}
 use mathlib.Core.Bool.{Bool, true, false, not, cond}
 use Rattle.refusals.specs.Outcome as outcome
-use Rattle.refusals.specs.Outcome.{Outcome, refuseIf}
+use Rattle.refusals.specs.Outcome.{refuseIf}
 use Rattle.table.specs.Table.{Table}
 use Rattle.station.specs.Station.{Station}
 use Rattle.calendar.specs.Calendar.{inRange, monthMinutes}
-use Rattle.month.specs.Month.{Prepared, monthOf}
-use Rattle.calls.specs.State.{Maybe, Month, State}
+use Rattle.month.specs.Month.{monthOf}
+use Rattle.calls.specs.State.{Month, State}
 use Rattle.calls.specs.inner.Flags.{stateOf}
 use Rattle.calls.specs.Returned.{Returned, refused, told, onAccepted}
 use Rattle.calls.specs.Calls.{dateAsked, preparedReturns, monthLeft, monthFor, dateReturns, dateLeaves}

@@ -1,9 +1,9 @@
 -- 01, "Turned down by the state": "State comes first, 21 to 23, then the order 8, 11 or 9, 10": what comes before a height, a series and turns.
 -- Assumes nothing.
 use Prim.Native.Nat.{ℕ, _+_, _-_, _*_}
-use mathlib.Core.Bool.{Bool, true, false, not, _||_}
+use mathlib.Core.Bool.{Bool, not, _||_}
 use lib.Dec.{ltb}
-use Rattle.refusals.specs.Outcome.{Outcome, accepted, refused, refuseIf, andThen}
+use Rattle.refusals.specs.Outcome.{Outcome, accepted, refuseIf, andThen}
 
 -- "heights, series and turns [ask] all three": "21 no table; 22 no station; 23 no month"
 unfoldable pub stateOutcome : Bool → Bool → Bool → Outcome

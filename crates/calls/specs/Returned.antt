@@ -1,8 +1,7 @@
 -- 01: what a call returns, in its own numbers and values, for each answer of the code.
 -- Assumes nothing.
 use Prim.Native.Nat.{ℕ}
-use mathlib.Core.Bool.{Bool, true, false}
-use mathlib.Core.List.{List}
+use mathlib.Core.Bool.{Bool}
 use lib.IntN.{ℤ}
 use Rattle.refusals.specs.Outcome as outcome
 use Rattle.refusals.specs.Outcome.{Outcome, numberOf}

@@ -2,7 +2,7 @@
 -- call, each known by its contract alone; so all that the calls give is what the document gives. Rests on `Calls`' contracts, and on the
 -- distance of each height (`Points`). Assumes nothing.
 use Prim.Native.Nat.{ℕ}
-use mathlib.Core.List.{List, [], _∷_}
+use mathlib.Core.List.{List, _∷_}
 use mathlib.Core.Path.{_≡_, refl, ap, ap₂, sym, subst, _∙_}
 use mathlib.Core.Logic.{∥∥₁-map, ∥∥₁-elim, ∥∥₁-prop}
 use base.Logic.{id⊢}
@@ -20,8 +20,8 @@ use Rattle.calls.specs.Returned.{Returned, accepted, heightIs, turnsAre, refuse
 use Rattle.calls.specs.Calls.{cardsReturns, cardsLeaves, fileReturns, fileLeaves, stationReturns, stationLeaves, dateReturns, dateLeaves, heightReturns, seriesGives, turnsGives}
 use Rattle.clock.specs.View.{view, Made}
 use Rattle.clock.specs.Posts.{NewPost, CardsPost, StationPost, DatePost, HeightPost, SeriesPost, TurnsPost}
-use Rattle.claim.specs.Calls.{Keeps, New, news, Call, loads, stations, placed, dates, heights, serieses, searches, Calls, done, _then_}
-use Rattle.claim.specs.Document.{Request, Cards, Station, Date, Height, Series, Turns, Gave, told, wrote, found, Last, nothing, tableIn, workedOut, after, gives, givesAll, lastAfter, EachNear}
+use Rattle.claim.specs.Calls.{New, news, Call, loads, stations, placed, dates, heights, serieses, searches, Calls, done, _then_}
+use Rattle.claim.specs.Document.{Request, Cards, Station, Date, Gave, told, wrote, found, Last, nothing, workedOut, after, gives, givesAll, lastAfter, EachNear}
 use Rattle.claim.proofs.Points.{near-calls}
 use Rattle.claim.proofs.Decided.{same-once}
 

@@ -1,9 +1,9 @@
 -- Each height that the document gives for a list of calls is near the exact sum at its own minute. Rests on the distance of one height
 -- (`height-is-near` of heights), over the cases of what a call returns. Assumes nothing.
-use Prim.Native.Nat.{ℕ, zero, suc, _+_, _*_, _≤_}
+use Prim.Native.Nat.{ℕ, zero, suc, _+_, _*_}
 use mathlib.Core.Bool.{Bool, true, false, cond, _||_}
-use mathlib.Core.List.{List, [], _∷_, _++_, map}
-use mathlib.Core.Path.{_≡_, refl, ap, sym, subst, _∙_}
+use mathlib.Core.List.{List, [], _∷_, map}
+use mathlib.Core.Path.{_≡_, subst, _∙_}
 use native.Mathlib.Omega.{arith}
 use lib.ListN.{length, take, drop, length-map}
 use lib.Dec.{ltb}
@@ -12,7 +12,6 @@ use lib.IntN.{ℤ}
 use Rattle.table.specs.Table.{Table}
 use Rattle.station.specs.Station as station
 use Rattle.month_prepared.specs.Prepared.{Constituent}
-use Rattle.heights.specs.Exact.{Near}
 use Rattle.heights.specs.Height.{heightAt}
 use Rattle.heights.specs.Series.{seriesFrom, seriesOf}
 use Rattle.heights.proofs.distance.Distance.{height-is-near}
@@ -22,11 +21,11 @@ use Rattle.turns.specs.Strides.{stationStride}
 use Rattle.turns.specs.Written as written
 use Rattle.turns.specs.Search.{firstHigh, minutesOf}
 use Rattle.calls.specs.State as state
-use Rattle.calls.specs.State.{Maybe, State}
-use Rattle.calls.specs.Returned.{Returned, accepted, heightIs, turnsAre, refused}
+use Rattle.calls.specs.State.{Maybe}
+use Rattle.calls.specs.Returned.{accepted, heightIs, refused}
 use Rattle.calls.specs.Calls.{heightReturns, SeriesGiven, seriesRefused, seriesGives, TurnsGiven, turnsRefused, turnsGives, searched}
 use Rattle.calls.specs.Asked.{stepOutside, lastMinute}
-use Rattle.claim.specs.Document.{Request, Cards, Station, Date, Height, Series, Turns, Gave, told, wrote, found, Last, workedOut, after, gives, givesAll, Point, heightPoints, pointsFrom, seriesPoints, pointsOf, turnsPoints, points, constituentsIn, constituentsOf, AllNear, nil, cons, EachNear, end, next}
+use Rattle.claim.specs.Document.{Request, Cards, Station, Date, Height, Series, Turns, found, Last, workedOut, after, gives, givesAll, heightPoints, pointsFrom, seriesPoints, pointsOf, turnsPoints, points, constituentsIn, constituentsOf, AllNear, nil, cons, EachNear, end, next}
 
 -- ---- a height
 

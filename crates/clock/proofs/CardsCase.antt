@@ -1,5 +1,5 @@
 -- A card file's two cases, accepted and refused, from what the reader promises. Assumes nothing.
-use mathlib.Core.Path.{_≡_, refl, sym, ap, subst, _∙_}
+use mathlib.Core.Path.{_≡_, sym}
 use Prim.Native.Nat.{ℕ}
 use mathlib.Core.List.{List}
 use Rattle.refusals.specs.Outcome.{numberOf}

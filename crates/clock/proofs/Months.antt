@@ -1,12 +1,10 @@
 -- A prepared month's two cases, ready and refused by 11, and a date's, from what the preparation promises. Assumes nothing.
-use mathlib.Core.Path.{_≡_, refl, sym, ap, subst, _∙_}
-use Prim.Native.Nat.{ℕ, zero, suc, _+_, _≤_, _<_, min}
-use mathlib.Core.Bool.{true, false}
-use mathlib.Core.List.{List, [], _∷_}
+use mathlib.Core.Path.{_≡_, refl, sym, ap, _∙_}
+use Prim.Native.Nat.{ℕ, zero, suc, _+_, _<_, min}
+use mathlib.Core.List.{List}
 use native.Mathlib.Omega.{arith}
 use native.Mathlib.Nat.{zero-add, add-zero}
-use native.Mathlib.Numerals.{add-one}
-use lib.ListN.{length, getD}
+use lib.ListN.{getD}
 use lib.IntN.{ℤ, pos}
 use Rattle.refusals.specs.Outcome as outcome
 use Rattle.refusals.specs.Outcome.{outcomeOf, numberOf}
@@ -17,7 +15,7 @@ use Rattle.table.specs.inner.View.{tableOf}
 use Rattle.station.specs.inner.Station.{stationOf}
 use Rattle.month_prepared.specs.Prepared.{Constituent}
 use Rattle.month_prepared.specs.declared.Month.{Month}
-use Rattle.month_prepared.specs.inner.View.{constituentAt, constituentsAfter, constituentsFrom, constituentsOf}
+use Rattle.month_prepared.specs.inner.View.{constituentsAfter, constituentsOf}
 use Rattle.calendar.specs.Calendar.{monthMinutes}
 use Rattle.calendar.proofs.Months.{minutes-short}
 use Rattle.month.specs.Month.{monthOf, prepared}
@@ -26,7 +24,6 @@ use Rattle.month.specs.declared.Prepared.{Prepared}
 use Rattle.month.specs.declared.Preparation.{Preparation}
 use Rattle.month.specs.declared.Preparation.the-variants as preparation
 use Rattle.month.proofs.Ranges.{prepared-in-range}
-use Rattle.turns.specs.inner.Lists.{InRange}
 use Rattle.clock.specs.declared.Clock.{Clock}
 use Rattle.calls.specs.Returned.{accepted, answerReturned}
 use Rattle.calls.specs.Calls.{preparedReturns, dateAsked}

@@ -1,6 +1,6 @@
 -- The state that the code's struct stands for, and what a clock call makes sure of for the next.
 -- Assumes nothing.
-use Prim.Native.Nat.{ℕ, _≤_, min}
+use Prim.Native.Nat.{_≤_}
 use mathlib.Core.List.{List}
 use Rattle.cosine.specs.Fixed.{IsTable}
 use Rattle.table.specs.inner.View.{tableOf}

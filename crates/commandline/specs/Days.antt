@@ -1,5 +1,5 @@
 -- What holds of the numbers that a command line asks with. Assumes nothing.
-use Prim.Native.Nat.{ℕ, _≤_}
+use Prim.Native.Nat.{_≤_}
 use Rattle.commandline.specs.declared.Asked.{Asked}
 use Rattle.commandline.specs.declared.Asked.the-variants.{Help, Refusals, Month, Day, Heights, Series, MonthDrawing, DayDrawing, Wrong}
 

@@ -1,8 +1,6 @@
 -- What the structs that cross to other languages say, from what 01's definitions return.
 -- Assumes nothing.
-use Prim.Native.Nat.{ℕ}
-use mathlib.Core.Bool.{Bool, false}
-use lib.IntN.{ℤ}
+use mathlib.Core.Bool.{false}
 use Rattle.calls.specs.Returned.{Returned, accepted, heightIs, turnsAre, refused}
 use Rattle.cuvalimodo_c.specs.declared.Verdict.{Verdict}
 use Rattle.cuvalimodo_c.specs.declared.Turnings.{Turnings}

@@ -1,7 +1,6 @@
 // Texts: the same bytes, the blanks at an end, and the names of Greenwich's time.
 ghost use mathlib.Core.Path.{_≡_};
-ghost use Prim.Native.Nat.{_≤_};
-ghost use lib.ListN.{length, take};
+ghost use lib.ListN.{take};
 ghost use Rattle.columns.specs.Names.{same};
 ghost use Rattle.digits.specs.Texts.{trimmed, namesGreenwich, greenwich};
 

@@ -5,7 +5,7 @@ use mathlib.Core.Bool.{cond}
 use lib.Dec.{leb}
 use Rattle.fields.specs.declared.Format.the-variants.{Fixed}
 use Rattle.columns.specs.Lines.{linesOf}
-use Rattle.card.specs.Formats.{Number, upTo}
+use Rattle.card.specs.Formats.{upTo}
 use Rattle.station_file.specs.Formats.{degreesField, minutesField, constituentName}
 use Rattle.refusals.specs.declared.Refusal.{Refusal}
 use Rattle.refusals.specs.declared.Refusal.the-variants.{BadLine, Malformed, OutOfRange, BadName, Missing, TooMany, Ended, BadDate, BadMinutes, TooManyTurns, TooLarge, NoTable, NoStation, NoMonth}

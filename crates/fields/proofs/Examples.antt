@@ -1,12 +1,11 @@
 -- What the definition of a number says of fields that stand at its edges, one statement over their list, by computing.
 -- Assumes nothing.
 use mathlib.Core.Path.{_≡_, refl}
-use Prim.Native.Nat.{ℕ}
-use mathlib.Core.List.{List, [], _∷_, map}
+use mathlib.Core.List.{[], _∷_, map}
 use lib.IntN.{pos, negsuc}
 use Rattle.columns.specs.Bytes.{every, leading, behind}
 use Rattle.fields.specs.Numerals.{begins, numeral, wholeGood, wholeSize, fixedGood, fixedSize}
-use Rattle.fields.specs.Number.{Number, number, malformed, unsigned, unblanked, numberOf}
+use Rattle.fields.specs.Number.{number, malformed, unsigned, unblanked, numberOf}
 use Rattle.fields.specs.declared.Format.the-variants.{Whole, Fixed}
 
 -- I3: " 12", "-9 ", " -1", "   ", " - ", "1 2", "- 1", "+12", "1.2"

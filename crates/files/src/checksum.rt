@@ -1,6 +1,5 @@
 // CRC-32: the checksum by which two files that differ show it.
 ghost use mathlib.Core.Path.{_≡_};
-ghost use lib.ListN.{length};
 ghost use Rattle.files.specs.Crc as crc;
 ghost use Rattle.files.specs.Crc.{bitsOf, divided};
 

@@ -5,7 +5,6 @@ use mathlib.Core.List.{List, [], _∷_}
 use lib.IntN.{ℤ}
 use lib.ListN.{length}
 use native.Mathlib.Omega.{arith}
-use Rattle.month_prepared.specs.Prepared.{Constituent}
 use Rattle.month_prepared.specs.inner.View.{constituentAt, constituentsAfter, constituentsFrom, constituentsOf}
 use Rattle.month_prepared.specs.declared.Month.{Month}
 

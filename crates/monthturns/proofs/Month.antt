@@ -11,7 +11,7 @@ use Rattle.clock.specs.declared.TurnsAnswer.the-variants.{Turns, Refused}
 use Rattle.clock.specs.Posts.{TurnsPost}
 use Rattle.monthturns.specs.inner.Kept.{Kept}
 use Rattle.refusals.specs.declared.Answer.the-variants.{Accepted, Refused as Declined}
-use Rattle.monthturns.specs.Month.{More, Beside, countOf, MonthTurns, FoundTurns}
+use Rattle.monthturns.specs.Month.{MonthTurns, FoundTurns}
 use Rattle.monthturns.proofs.Kept.{kept-all}
 
 module _ {c : Clock} {last : ℕ} {minutes own-minutes : List ℕ} {heights own-heights : List ℤ} (own : TurnsAnswer) (p : TurnsPost c 0 last minutes own-minutes heights own-heights own) where

@@ -6,11 +6,10 @@ use mathlib.Core.List.{List}
 use lib.ListN.{getD, set}
 use lib.IntN.{ℤ, pos}
 use Rattle.station.specs.declared.records.Record.{Record}
-use Rattle.station.specs.declared.records.Rows.{Rows}
 use Rattle.station.specs.Records.{recordsOf}
 use Rattle.calls.specs.State.{State, nothing}
 use Rattle.calls.specs.Returned.{Returned, accepted, heightIs, turnsAre, refused}
-use Rattle.calls.specs.Calls.{cardsLeaves, stationLeaves, dateLeaves, heightReturns, SeriesGiven, seriesGives, TurnsGiven, turnsGives}
+use Rattle.calls.specs.Calls.{cardsLeaves, stationLeaves, dateLeaves, heightReturns, seriesGives, TurnsGiven, turnsGives}
 
 -- a station's records, the first n of the lent arrays
 abbrev pub recordsIn : List ℕ → List ℕ → List ℕ → ℕ → List Record

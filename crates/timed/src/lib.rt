@@ -5,7 +5,7 @@ ghost use Prim.Native.Nat.{min};
 ghost use lib.ListN.{length};
 ghost use Rattle.station.specs.Records.{recordsOf};
 ghost use Rattle.calls.specs.State.{nothing};
-ghost use Rattle.calls.specs.Calls.{stationLeaves, dateLeaves, seriesGives, turnsGives};
+ghost use Rattle.calls.specs.Calls.{stationLeaves, dateLeaves, seriesGives};
 ghost use Rattle.clock.specs.View.{view, Made};
 ghost use Rattle.timed.specs.Often.{recordsIn, readOften, datedOften, seriesOften, lastTurns, heightsAt, stationed, dated, firstHigh};
 

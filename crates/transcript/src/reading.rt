@@ -1,6 +1,6 @@
 // A call of a script, read whole from the input: its line, and behind it a card file's bytes or a station's lines.
 ghost use mathlib.Core.Path.{_≡_};
-ghost use Prim.Native.Nat.{_+_, _≤_, _<_};
+ghost use Prim.Native.Nat.{_+_, _<_};
 ghost use lib.ListN.{length};
 ghost use Rattle.transcript.specs.inner.Window.{Within};
 ghost use Rattle.station.specs.inner.Rows.{noRows};

@@ -1,6 +1,6 @@
 -- Stores from the front of a list: one more, none left, and what the list is at the end. And what a search gives, by the buffers' room.
 -- By the laws of `sets` and the definition's tests. Assumes nothing.
-use mathlib.Core.Path.{_≡_, _∙_}
+use mathlib.Core.Path.{_≡_}
 use mathlib.Core.Bool.{Bool}
 use mathlib.Core.List.{List, map}
 use Prim.Native.Nat.{ℕ, _+_, _≤_, _<_}
@@ -8,7 +8,7 @@ use native.Mathlib.Numerals.{add-one}
 use native.Mathlib.Omega.{arith}
 use lib.IntN.{ℤ}
 use lib.ListN.{length, getD, set, take, drop, length-map, drop-of-length-le}
-use lib.Seq.{sets, sets-eq, drop-cons, length-take-le, getD-take}
+use lib.Seq.{sets, drop-cons, length-take-le, getD-take}
 use borrow.Author.Tests.{lt-ltb, le-ltb}
 use Rattle.turns.specs.Search.{Turn, firstHigh, minutesOf}
 use Rattle.turns.specs.inner.Search.{Minutes, FoundPost}

@@ -1,5 +1,5 @@
 -- What a card file's check counts are the lengths of its table's lists. Rests on the laws of rows. Assumes nothing.
-use mathlib.Core.Path.{_≡_, refl, sym, ap, _∙_}
+use mathlib.Core.Path.{_≡_, sym, ap, _∙_}
 use Prim.Native.Nat.{ℕ}
 use mathlib.Core.List.{List}
 use lib.ListN.{length}
@@ -10,7 +10,7 @@ use Rattle.refusals.specs.declared.Answer.the-variants.{Accepted, Refused}
 use Rattle.table.specs.inner.View.{tableOf, listed, frequencyOf, mainOf, shallowOf}
 use Rattle.table.specs.declared.Table.{Table}
 use Rattle.table.proofs.Rows.{listed-length}
-use Rattle.card_file.specs.Cards.{Outcome, accepted, refused, readCards}
+use Rattle.card_file.specs.Cards.{accepted, refused, readCards}
 use Rattle.card_file.specs.inner.Read.{gives, outcomeOf}
 use Rattle.card_file.specs.declared.reader.Read.{Read}
 use Rattle.card_file.specs.Satellites.{satellitesIn}

@@ -1,17 +1,15 @@
 -- The satellites of all mains together, main by main. A row past the array's end counts none.
 -- Rests on the laws of rows. Assumes nothing.
-use mathlib.Core.Path.{_≡_, refl, sym, ap, ap₂, _∙_}
+use mathlib.Core.Path.{_≡_, refl, _∙_}
 use Prim.Native.Nat.{ℕ, zero, suc, _+_, _-_, _*_, _≤_, _<_, min}
 use mathlib.Core.Bool.{Bool, true, false}
 use lib.Dec.{ltb}
 use borrow.Author.Tests.{ltb-true, ltb-false}
-use mathlib.Core.List.{List, [], _∷_}
+use mathlib.Core.List.{List}
 use native.Mathlib.Omega.{arith}
-use native.Mathlib.Nat.{zero-add}
 use lib.ListN.{length, getD, List·getD-eq-default}
-use lib.IntN.{ℤ}
 use Rattle.table.specs.Table.{Main}
-use Rattle.table.specs.inner.View.{listed, rowOf, naturals, mainOf, satelliteOf, tableOf}
+use Rattle.table.specs.inner.View.{listed, rowOf, mainOf, satelliteOf, tableOf}
 use Rattle.table.specs.declared.Table.{Table}
 use Rattle.table.proofs.Rows.{listed-length, listed-at, listed-next, listed-end}
 use Rattle.card_file.specs.Satellites.{satellitesIn}

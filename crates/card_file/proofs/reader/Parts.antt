@@ -1,5 +1,5 @@
 -- Parts 3 and 4 as their readers are asked for them, by the rows of names and places, are those of the document's table. Assumes nothing.
-use mathlib.Core.Path.{_≡_, refl, sym, ap, ap₂, _∙_}
+use mathlib.Core.Path.{_≡_, sym, ap, ap₂, _∙_}
 use Prim.Native.Nat.{ℕ}
 use mathlib.Core.List.{List, [], _++_}
 use Rattle.columns.specs.Names.{namesFrom}
@@ -12,9 +12,8 @@ use Rattle.card_file.specs.Cards.{allDefined}
 use Rattle.card_file.specs.inner.Answers.{definedGives}
 use Rattle.card_file.specs.declared.defined.Defined.{Defined}
 use Rattle.card_file.specs.inner.Rest.{withShallows}
-use Rattle.table.specs.inner.View.{tableOf, listed, frequencyOf, mainOf, shallowOf}
+use Rattle.table.specs.inner.View.{tableOf, listed, frequencyOf, shallowOf}
 use Rattle.table.specs.declared.Table.{Table}
-use Rattle.card.specs.Card.{Reading}
 use Rattle.card_frequencies.specs.Frequencies.{namesOf}
 use Rattle.card_mains.specs.Mains.{mainPlaces}
 use Rattle.card_constituents.specs.Constituents.{mainsFrom}

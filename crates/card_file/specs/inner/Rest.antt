@@ -2,7 +2,7 @@
 -- Assumes nothing.
 use Prim.Native.Nat.{ℕ}
 use mathlib.Core.List.{List, [], _++_}
-use Rattle.table.specs.Table.{Frequency, Main, Shallow, Table}
+use Rattle.table.specs.Table.{Main, Shallow, Table}
 use Rattle.card.specs.Formats.{longitudeField, increaseField}
 use Rattle.card_frequencies.specs.Frequencies.{namesOf}
 use Rattle.card_frequencies.specs.Longitudes.{fiveFrom}

@@ -1,6 +1,6 @@
 -- A card file, a station and a date, one call after another: what the three calls promise, put together.
 -- Assumes nothing.
-use mathlib.Core.Path.{_≡_, refl, sym, ap, ap₂, subst, _∙_}
+use mathlib.Core.Path.{_≡_, sym, ap, ap₂, _∙_}
 use Prim.Native.Nat.{ℕ, min}
 use native.Mathlib.Omega.{arith}
 use mathlib.Core.Bool.{Bool, true, false}
@@ -16,7 +16,7 @@ use Rattle.station.proofs.records.Copies.{records-length}
 use Rattle.clock.specs.declared.Clock.{Clock}
 use Rattle.calls.specs.State.{State, nothing}
 use Rattle.calls.specs.Returned.{accepted, refused, answerReturned}
-use Rattle.calls.specs.Calls.{cardsReturns, cardsLeaves, stationReturns, stationLeaves, dateReturns, dateLeaves}
+use Rattle.calls.specs.Calls.{cardsLeaves, stationReturns, stationLeaves, dateReturns, dateLeaves}
 use Rattle.clock.specs.View.{view}
 use Rattle.clock.specs.Posts.{NewPost, CardsPost, StationPost, DatePost}
 use Rattle.clock.proofs.Stations.{lent-post}

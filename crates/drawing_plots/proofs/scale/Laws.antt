@@ -1,22 +1,22 @@
 -- Laws of the scale: a height raised by its sign, the table of round steps, the search in it, and a share within its length.
 -- Assumes nothing.
-use mathlib.Core.Path.{_≡_, refl, sym, _∙_, ap}
+use mathlib.Core.Path.{_≡_, refl}
 use mathlib.Core.Bool.{Bool, true, false, _&&_, cond, false≢true}
 use mathlib.Core.List.{List, [], _∷_}
 use Prim.Native.Nat.{ℕ, zero, suc, _+_, _-_, _*_, _/_, _≤_, _<_, _^_, min, max}
 use native.Mathlib.Nat.{mul-le-mul, mul-le-mul-right, div-le-of-le-mul}
 use native.Mathlib.Numerals.{add-one}
 use native.Mathlib.Omega.{arith}
-use borrow.Author.Tests.{ltb-true, leb-true, leb-false, le-leb, lt-leb}
+use borrow.Author.Tests.{ltb-true, leb-true, leb-false}
 use lib.Dec.{leb, ltb, lit<}
-use lib.IntN.{ℤ, pos, negsuc, natAbs}
+use lib.IntN.{ℤ, pos, natAbs}
 use lib.ListN.{getD, length, drop}
 use lib.Seq.{drop-cons}
 use lib.Signed.{ltZ}
 use Rattle.angles.proofs.Machine.{if-negative, if-not-negative}
 use Rattle.drawing_plots.specs.declared.scale.Extent.{Extent}
 use Rattle.drawing_plots.specs.Heights.{zeroAt, raised, leastOf, mostOf}
-use Rattle.drawing_plots.specs.Lines.{fits, roundSteps, firstFit, roundStep}
+use Rattle.drawing_plots.specs.Lines.{fits, roundSteps, firstFit}
 
 -- ---- a height raised
 

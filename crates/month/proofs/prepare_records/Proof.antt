@@ -1,7 +1,7 @@
 -- `month::prepare_records` meets its contract. The invariant: what is done before what is left gives the whole, and what is kept of the mains
 -- is theirs. Each arm of the match cites what was worked out at the record (`Structs`).
 use mathlib.Core.Path.{_≡_, sym, ap, subst, _∙_}
-use Prim.Native.Nat.{ℕ, _+_, _-_, _≤_, _^_, _<_, min}
+use Prim.Native.Nat.{ℕ, _-_, _≤_, _^_, _<_, min}
 use native.Mathlib.Omega.{arith}
 use lib.IntN.{ℤ, natAbs}
 use lib.ListN.{length, getD}

@@ -2,12 +2,11 @@
 -- `arguments`, `nodal` and `workings`.
 use mathlib.Core.Path.{_≡_, refl, sym, ap, subst, _∙_}
 use mathlib.Core.List.{List}
-use Prim.Native.Nat.{ℕ, _<_}
+use Prim.Native.Nat.{ℕ}
 use lib.IntN.{ℤ}
-use lib.ListN.{getD}
 use Rattle.table.specs.inner.View.{listed, naturals, mainOf, shallowOf}
 use Rattle.table.proofs.entries.Beyond.{entry-at}
-use Rattle.table.specs.Definitions.{Definition, main, shallow, undefined, definitionAt}
+use Rattle.table.specs.Definitions.{Definition, main, shallow}
 use Rattle.table.specs.inner.Found.{definitionOf, Within, Finds}
 use Rattle.table.specs.declared.definitions.Found.{Found}
 use Rattle.table.specs.declared.definitions.Found.the-variants as found

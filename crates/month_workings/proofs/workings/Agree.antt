@@ -3,7 +3,7 @@ use mathlib.Core.Path.{_≡_, refl, ap, _∙_}
 use mathlib.Core.List.{List}
 use Prim.Native.Nat.{ℕ, zero, suc, _+_, _≤_, _<_}
 use native.Mathlib.Omega.{arith}
-use lib.IntN.{ℤ, pos, _+ℤ_, _*ℤ_}
+use lib.IntN.{ℤ}
 use lib.ListN.{getD}
 use Rattle.angles.specs.Floor.{modTurn}
 use Rattle.table.specs.inner.View.{listed, partOf, naturals, integers, shallowOf}
@@ -15,7 +15,7 @@ use Rattle.month_pairs.specs.Pairs.{Corrected, tooLarge, pair, one, andThen}
 use Rattle.month_pairs.specs.Shallow as nodal
 use Rattle.month_pairs.specs.Shallow.{timesPart, timesParts}
 use Rattle.month_pairs.specs.inner.Rows.{pairsOf}
-use Rattle.month_workings.specs.inner.Kept.{Kept, WithParts}
+use Rattle.month_workings.specs.inner.Kept.{WithParts}
 
 -- ---- parts whose mains stand alike in two lists
 

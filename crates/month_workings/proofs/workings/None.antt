@@ -1,25 +1,24 @@
 -- Before any main is worked out: no V is below a turn, and past the table's rows V is 0 and the pair (2^20, 0). By the lengths of its arrays.
 use mathlib.Core.Path.{_≡_, refl, sym, ap, subst, _∙_}
 use mathlib.Core.Bool.{Bool, true, false}
-use mathlib.Core.List.{List, [], _∷_}
-use Prim.Native.Nat.{ℕ, zero, suc, _+_, _*_, _≤_, _<_}
+use mathlib.Core.List.{List}
+use Prim.Native.Nat.{ℕ, zero, _+_, _*_, _≤_, _<_}
 use native.Mathlib.Omega.{arith}
 use native.Mathlib.Nat.{lt-irrefl, zero-mul}
 use borrow.Author.Tests.{ltb-true, ltb-false}
 use lib.Dec.{ltb}
 use lib.IntN.{ℤ, pos, natAbs, zero-*ℤ}
 use lib.ListN.{length, getD, replicate, getD-replicate, length-replicate, List·getD-eq-default}
-use Rattle.angles.specs.Ticks.{turn, centicycle}
-use Rattle.angles.specs.Floor.{modTurn}
-use Rattle.table.specs.inner.View.{listed, rowOf, naturals, integers}
+use Rattle.angles.specs.Ticks.{turn}
+use Rattle.table.specs.inner.View.{listed, rowOf, naturals}
 use Rattle.table.proofs.entries.Beyond.{past-rows, past-entries, entry-at}
 use Rattle.month_arguments.specs.Longitudes.{Longitudes, times}
-use Rattle.month_arguments.specs.Arguments.{astronomical, argument}
+use Rattle.month_arguments.specs.Arguments.{argument}
 use Rattle.month_arguments.specs.inner.Rows.{rowArgument, argumentsIn}
 use Rattle.month_satellites.specs.Latitude.{Factors}
 use Rattle.month_satellites.specs.Satellites.{sumOver, mainPair}
-use Rattle.month_pairs.specs.Pairs.{Corrected, checked, pair, one}
-use Rattle.month_pairs.specs.inner.Rows.{pairsOf, rowSatellites, rowCorrected}
+use Rattle.month_pairs.specs.Pairs.{checked, pair, one}
+use Rattle.month_pairs.specs.inner.Rows.{rowSatellites, rowCorrected}
 use Rattle.month_workings.specs.inner.Kept.{argumentAt, correctedAt, Has, noneKept, Kept}
 
 -- V of a row past the array

@@ -3,7 +3,7 @@ use Prim.Native.Nat.{ℕ}
 use mathlib.Core.List.{List}
 use mathlib.Core.Path.{_≡_}
 use lib.IntN.{ℤ}
-use lib.ListN.{length, take}
+use lib.ListN.{take}
 
 -- both rows keep their first entries, as many as are said
 pub record Kept (count : ℕ) (minutes minutesLeft : List ℕ) (heights heightsLeft : List ℤ) : Type 0 where

@@ -1,7 +1,6 @@
 -- `output::put_bytes` meets its contract: the page keeps its length, and the next place stays on it. Assumes nothing.
-use mathlib.Core.Path.{_≡_, _∙_}
+use mathlib.Core.Path.{_≡_}
 use Prim.Native.Nat.{_-_, _≤_}
-use native.Mathlib.Omega.{arith}
 use lib.ListN.{length}
 use borrow.Author.Needs.{needs}
 use Rattle.output.proofs.put_bytes.Statement.{statement}

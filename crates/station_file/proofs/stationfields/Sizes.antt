@@ -1,8 +1,8 @@
 -- Laws of the latitude: the size of the degrees keeps to two digits, and a size in minutes stands in 32 bits with either sign.
 -- By cases on the sign. Rests on the ranges of number fields.
 use mathlib.Core.Path.{_≡_, _∙_}
-use Prim.Native.Nat.{ℕ, zero, suc, _+_, _*_, _^_, _≤_, _<_}
-use mathlib.Core.Bool.{Bool, true, false, false≢true}
+use Prim.Native.Nat.{ℕ, zero, suc, _+_, _^_, _≤_, _<_}
+use mathlib.Core.Bool.{true}
 use lib.IntN.{ℤ, pos, negsuc, negℤ, natAbs, _-ℤ_, +ℤ-idl}
 use lib.Signed.{leZ}
 use mir.Syntax.{w32}

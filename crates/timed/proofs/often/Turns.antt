@@ -1,5 +1,5 @@
 -- No turn, and one turn more, of each repeated call. Assumes nothing.
-use mathlib.Core.Path.{_≡_, refl, ap, ap₂, _∙_}
+use mathlib.Core.Path.{_≡_, refl, ap, ap₂}
 use mathlib.Core.List.{List}
 use Prim.Native.Nat.{ℕ, _+_, _%_}
 use native.Mathlib.Numerals.{unary-clauses}
@@ -7,7 +7,7 @@ use lib.ListN.{getD, set}
 use lib.IntN.{ℤ}
 use Rattle.calls.specs.State.{State}
 use Rattle.calls.specs.Returned.{Returned}
-use Rattle.calls.specs.Calls.{cardsLeaves, dateLeaves, heightReturns, SeriesGiven, seriesGives, TurnsGiven, turnsGives}
+use Rattle.calls.specs.Calls.{cardsLeaves, dateLeaves, heightReturns, seriesGives, turnsGives}
 use Rattle.timed.specs.Often.{readOften, datedOften, seriesOften, turnsOften, heightOrZero, heightsAt}
 
 module _ (k : State) (file : List ℕ) where

@@ -1,5 +1,4 @@
 -- `calls::asked::turns_outside` meets its contract: the two tests. Assumes nothing.
-use mathlib.Core.Path.{refl}
 use borrow.Author.Tests.{lt-ltb, le-ltb}
 use Rattle.calls.proofs.asked.turns_outside.Statement.{statement}
 use Rattle.calls.proofs.asked.turns_outside.Tie as tie

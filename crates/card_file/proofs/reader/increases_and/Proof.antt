@@ -7,8 +7,7 @@ use Rattle.card_file.proofs.reader.increases_and.Lts as lts
 use Rattle.card_file.proofs.reader.mains_and.Reads as mains-and-reads
 use Rattle.card_file.proofs.reader.refused.Reads as refused-reads
 use Rattle.card_frequencies.proofs.longitudes.read_five.Reads as read-five-reads
-use mathlib.Core.Path.{_≡_, refl, sym, ap, _∙_}
-use native.Mathlib.Omega.{arith}
+use mathlib.Core.Path.{sym, _∙_}
 use Rattle.card_file.specs.inner.Rest.{increasesAnd}
 use Rattle.card_file.proofs.reader.Followed.{part-refused, part-reached}
 use Rattle.table.specs.inner.View.{tableOf}

@@ -7,7 +7,7 @@ use Rattle.card_file.proofs.reader.longitudes_and.Lts as lts
 use Rattle.card_file.proofs.reader.increases_and.Reads as increases-and-reads
 use Rattle.card_file.proofs.reader.refused.Reads as refused-reads
 use Rattle.card_frequencies.proofs.longitudes.read_five.Reads as read-five-reads
-use mathlib.Core.Path.{_≡_, refl, sym, ap, _∙_}
+use mathlib.Core.Path.{sym, _∙_}
 use Rattle.table.specs.inner.View.{tableOf}
 use Rattle.card_file.specs.inner.Rest.{longitudesAnd}
 use Rattle.card_file.proofs.reader.Followed.{part-refused, part-reached, reached-within}

@@ -7,9 +7,7 @@ use Rattle.card_file.proofs.reader.mains_and.Lts as lts
 use Rattle.card_file.proofs.reader.refused.Reads as refused-reads
 use Rattle.card_file.proofs.reader.shallows_and.Reads as shallows-and-reads
 use Rattle.card_constituents.proofs.constituents.constituent_reader.Reads as constituent-reader-reads
-use mathlib.Core.Path.{_≡_, refl, sym, ap, _∙_}
-use mathlib.Core.List.{List, []}
-use Prim.Native.Nat.{ℕ}
+use mathlib.Core.Path.{sym, _∙_}
 use lib.ListN.{drop}
 use Rattle.columns.specs.Lines.{linesOf}
 use Rattle.table.specs.inner.View.{tableOf, listed}

@@ -8,7 +8,7 @@ use Rattle.card_file.proofs.reader.longitudes_and.Reads as longitudes-a
 use Rattle.card_file.proofs.reader.refused.Reads as refused-reads
 use Rattle.card_frequencies.proofs.frequencies.read_frequencies.Reads as read-frequencies-reads
 use Rattle.table.proofs.no_cards.Reads as no-cards-reads
-use mathlib.Core.Path.{_≡_, refl, sym, ap, _∙_}
+use mathlib.Core.Path.{sym, _∙_}
 use mathlib.Core.List.{List, []}
 use Prim.Native.Nat.{ℕ}
 use Rattle.table.specs.Table.{Frequency}

@@ -7,9 +7,7 @@ use Rattle.card_file.proofs.reader.shallows_and.Lts as lts
 use Rattle.card_file.proofs.reader.refused.Reads as refused-reads
 use Rattle.card_file.proofs.defined.undefined.Reads as undefined-reads
 use Rattle.card_shallows.proofs.shallows.read_shallows.Reads as read-shallows-reads
-use mathlib.Core.Path.{_≡_, refl, sym, ap, _∙_}
-use mathlib.Core.List.{List, []}
-use Prim.Native.Nat.{ℕ}
+use mathlib.Core.Path.{sym, ap, _∙_}
 use lib.ListN.{drop}
 use Rattle.columns.specs.Lines.{linesOf}
 use Rattle.table.specs.Table as document

@@ -1,5 +1,4 @@
 -- `card_mains::satellitecard::at_most_three` meets its contract: the smaller of the count and three.
-use borrow.Author.Needs.{needs}
 use Rattle.card_mains.proofs.satellitecard.at_most_three.Statement.{statement}
 use Rattle.card_mains.proofs.satellitecard.at_most_three.Tie as tie
 use native.Mathlib.Omega.{arith}

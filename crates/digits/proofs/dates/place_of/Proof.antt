@@ -1,5 +1,4 @@
 -- `digits::dates::place_of` meets its contract: a case for each answer of the test. Assumes nothing.
-use mathlib.Core.Path.{refl}
 use native.Mathlib.Omega.{arith}
 use borrow.Author.Tests.{lt-ltb, le-ltb}
 use Rattle.digits.proofs.dates.place_of.Statement.{statement}

@@ -2,7 +2,7 @@
 use borrow.Author.Needs.{needs}
 use Rattle.drawing_plots.proofs.scale.down.Statement.{statement}
 use Rattle.drawing_plots.proofs.scale.down.Tie as tie
-use mathlib.Core.Path.{_≡_, _∙_, ap}
+use mathlib.Core.Path.{_∙_, ap}
 use Prim.Native.Nat.{ℕ, _+_, _-_}
 use native.Mathlib.Omega.{arith}
 use Rattle.drawing_plots.specs.Places.{share}

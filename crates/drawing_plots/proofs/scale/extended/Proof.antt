@@ -1,8 +1,8 @@
 -- `drawing_plots::scale::extended` meets its contract: the heights that are left give what all of them give. Assumes nothing.
 use Rattle.drawing_plots.proofs.scale.extended.Statement.{statement}
 use Rattle.drawing_plots.proofs.scale.extended.Tie as tie
-use mathlib.Core.Path.{_≡_, refl, sym, _∙_}
-use Prim.Native.Nat.{_+_, _-_, _≤_, _<_}
+use mathlib.Core.Path.{_≡_, refl, _∙_}
+use Prim.Native.Nat.{_-_, _≤_, _<_}
 use lib.ListN.{drop, getD, length}
 use native.Mathlib.Omega.{arith}
 use mir.Syntax.{w64}
@@ -11,7 +11,7 @@ use Rattle.drawing_plots.specs.Heights.{raised, leastOf, mostOf}
 use Rattle.drawing_plots.proofs.scale.Laws.{least-more, most-more}
 use borrow.Author.Needs.{needs}
 use mathlib.Core.Path.{ap}
-use lib.IntN.{ℤ, pos}
+use lib.IntN.{pos}
 use mir.Val.{SFits}
 use lib.Seq.{drop-length}
 

@@ -2,10 +2,8 @@
 use borrow.Author.Needs.{needs}
 use Rattle.drawing_plots.proofs.scale.fits.Statement.{statement}
 use Rattle.drawing_plots.proofs.scale.fits.Tie as tie
-use mathlib.Core.Path.{_≡_, sym, _∙_, ap}
-use Prim.Native.Nat.{ℕ, _+_, _-_, _*_, _/_, _<_, _^_}
+use Prim.Native.Nat.{_-_, _<_, _^_}
 use native.Mathlib.Omega.{arith}
-use lib.Dec.{leb}
 use Rattle.drawing_plots.proofs.scale.Laws.{product-small}
 use native.Mathlib.Nat.{mul-comm}
 

@@ -2,7 +2,7 @@
 use borrow.Author.Needs.{needs}
 use Rattle.drawing_plots.proofs.scale.is_free.Statement.{statement}
 use Rattle.drawing_plots.proofs.scale.is_free.Tie as tie
-use mathlib.Core.Path.{_≡_, sym}
+use mathlib.Core.Path.{sym}
 use Prim.Native.Nat.{_≤_, _<_, _+_, _-_}
 use native.Mathlib.Omega.{arith}
 use borrow.Author.Tests.{lt-leb}

@@ -3,7 +3,7 @@ use borrow.Author.Needs.{needs}
 use Rattle.drawing_plots.proofs.scale.line_above.Statement.{statement}
 use Rattle.drawing_plots.proofs.scale.line_above.Tie as tie
 use mathlib.Core.Path.{refl}
-use Prim.Native.Nat.{_+_, _-_, _<_}
+use Prim.Native.Nat.{_+_, _-_}
 use native.Mathlib.Nat.{div-mul-le-self, lt-div-mul-add}
 use native.Mathlib.Omega.{arith}
 

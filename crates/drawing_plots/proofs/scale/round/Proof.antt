@@ -2,7 +2,6 @@
 use borrow.Author.Needs.{needs}
 use Rattle.drawing_plots.proofs.scale.round.Statement.{statement}
 use Rattle.drawing_plots.proofs.scale.round.Tie as tie
-use mathlib.Core.Path.{refl}
 use Rattle.drawing_plots.specs.Lines.{roundSteps}
 use Rattle.drawing_plots.proofs.scale.Laws.{step-some, at-within}
 use native.Mathlib.Omega.{arith}

@@ -1,9 +1,9 @@
 -- `drawing_plots::scale::round_step` meets its contract: the steps that are left give what all of them give. Assumes nothing.
 use Rattle.drawing_plots.proofs.scale.round_step.Statement.{statement}
 use Rattle.drawing_plots.proofs.scale.round_step.Tie as tie
-use mathlib.Core.Path.{_≡_, refl, sym, _∙_}
-use Prim.Native.Nat.{_+_, _-_, _≤_, _<_}
-use lib.ListN.{drop, getD}
+use mathlib.Core.Path.{_≡_, refl}
+use Prim.Native.Nat.{_-_, _≤_, _<_}
+use lib.ListN.{drop}
 use native.Mathlib.Omega.{arith}
 use Rattle.drawing_plots.specs.Lines.{roundSteps, roundStep, firstFit, fits}
 use Rattle.drawing_plots.proofs.scale.Laws.{fit-more}

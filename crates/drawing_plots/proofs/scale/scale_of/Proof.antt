@@ -2,7 +2,6 @@
 use borrow.Author.Needs.{needs}
 use Rattle.drawing_plots.proofs.scale.scale_of.Statement.{statement}
 use Rattle.drawing_plots.proofs.scale.scale_of.Tie as tie
-use mathlib.Core.Path.{_≡_, refl}
 use native.Mathlib.Omega.{arith}
 use borrow.Author.Tests.{lt-ltb, le-ltb}
 

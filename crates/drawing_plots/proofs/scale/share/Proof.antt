@@ -2,8 +2,7 @@
 use borrow.Author.Needs.{needs}
 use Rattle.drawing_plots.proofs.scale.share.Statement.{statement}
 use Rattle.drawing_plots.proofs.scale.share.Tie as tie
-use mathlib.Core.Path.{_≡_, refl, sym}
-use Prim.Native.Nat.{_≤_, _<_, _+_, _-_, _*_, _/_}
+use Prim.Native.Nat.{_-_}
 use native.Mathlib.Omega.{arith}
 use borrow.Author.Tests.{lt-leb, le-leb}
 use Rattle.drawing_plots.proofs.scale.Laws.{share-within, product-small}

@@ -3,7 +3,7 @@ use Rattle.faults.proofs.cardfaults.coefficients_fault.Statement.{state
 use borrow.Author.Needs.{needs}
 use mathlib.Core.Path.{_≡_, sym, _∙_}
 use mathlib.Core.Bool.{true, false}
-use Prim.Native.Nat.{_-_, _+_, _≤_}
+use Prim.Native.Nat.{_-_, _≤_}
 use native.Mathlib.Omega.{arith}
 use Rattle.card.specs.Card.{number}
 use Rattle.card.specs.Formats.{partCountField}

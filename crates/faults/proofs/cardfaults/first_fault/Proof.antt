@@ -3,7 +3,7 @@ use Rattle.faults.proofs.cardfaults.first_fault.Statement.{statement}
 use borrow.Author.Needs.{needs}
 use mathlib.Core.Path.{_≡_, sym, _∙_}
 use mathlib.Core.Bool.{true, false}
-use Prim.Native.Nat.{_-_, _+_}
+use Prim.Native.Nat.{_-_}
 use native.Mathlib.Omega.{arith}
 use Rattle.faults.specs.inner.Found.{found}
 use Rattle.faults.specs.Fields.{fieldCount}

@@ -2,7 +2,7 @@
 use Rattle.faults.proofs.cardfaults.part_fault.Statement.{statement}
 use borrow.Author.Needs.{needs}
 use mathlib.Core.Path.{_≡_, refl}
-use Prim.Native.Nat.{_-_, _+_}
+use Prim.Native.Nat.{_-_}
 use native.Mathlib.Omega.{arith}
 use Rattle.columns.specs.Lines.{linesOf}
 use Rattle.faults.specs.Card.{partFrom}

@@ -4,7 +4,6 @@ use Rattle.files.proofs.checksum.byte.Statement.{statement}
 use Rattle.files.proofs.checksum.byte.Tie as tie
 use mathlib.Core.Path.{_≡_, refl}
 use Prim.Native.Nat.{_-_}
-use native.Mathlib.Omega.{arith}
 use Rattle.files.specs.Crc.{bitsOf, divided}
 use Rattle.files.proofs.checksum.Division.{bits-more, bits-none}
 

@@ -1,6 +1,5 @@
 -- `month_arguments::arguments::lunar_time` meets its contract: h once, and s minus once.
 use mathlib.Core.Path.{ap, ap₂, _∙_}
-use Prim.Native.Nat.{_%_}
 use lib.Dec.{lit<}
 use lib.IntN.{pos, negsuc, _+ℤ_}
 use Rattle.angles.specs.Floor.{modTurn}

@@ -1,6 +1,6 @@
 -- `month_arguments::arguments::main_argument` meets its contract: seven terms, added step by step in registers, are the sum that V is (`Chain`).
 use mathlib.Core.Path.{_≡_, ap, _∙_}
-use Prim.Native.Nat.{ℕ, _+_, _*_, _^_, _≤_}
+use Prim.Native.Nat.{_+_, _*_, _^_, _≤_}
 use lib.Dec.{lit<}
 use lib.IntN.{ℤ, natAbs, _+ℤ_}
 use Rattle.angles.specs.Floor.{modTurn}

@@ -1,5 +1,5 @@
 -- `month_workings::workings::argument_of` meets its contract: V of the row that stands there, or none.
-use mathlib.Core.Path.{_≡_, sym, subst, _∙_}
+use mathlib.Core.Path.{sym, subst, _∙_}
 use mathlib.Core.List.{List}
 use Prim.Native.Nat.{ℕ, _<_}
 use lib.Dec.{lit<}

@@ -1,7 +1,5 @@
 -- `month_workings::workings::keep_main` meets its contract: three stores (`Storing`).
-use mathlib.Core.Path.{_≡_, sym, _∙_}
 use lib.Dec.{lit<}
-use lib.IntN.{ℤ}
 use native.Mathlib.Omega.{arith}
 use mir.Syntax.{w64}
 use mir.Val.{SFits}

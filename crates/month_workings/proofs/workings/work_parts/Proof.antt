@@ -1,5 +1,5 @@
 -- `month_workings::workings::work_parts` meets its contract. The invariant: the mains of the parts so far are worked out.
-use mathlib.Core.Path.{_≡_, sym, subst, _∙_}
+use mathlib.Core.Path.{_∙_}
 use Prim.Native.Nat.{ℕ, _+_, _-_, _<_, _^_}
 use native.Mathlib.Nat.{not-suc-le-zero}
 use native.Mathlib.Omega.{arith}

@@ -1,13 +1,12 @@
 -- The rows of three arrays: the loop keeps the rows of the records passed (`rowsUpto`), at most 146.
 use Rattle.station.proofs.recordarrays.Records.{rows-more}
 use Rattle.station.specs.Arrays.{recordsIn}
-use Rattle.station.specs.inner.Rows.{rowsUpto, putRow}
-use Rattle.station.specs.declared.records.Rows.{Rows}
+use Rattle.station.specs.inner.Rows.{rowsUpto}
 use borrow.Author.Needs.{needs}
 use lib.ListN.{length}
 use native.Mathlib.Omega.{arith}
-use Prim.Native.Nat.{_+_, _-_, _≤_, _<_, min}
-use mathlib.Core.Path.{_≡_, refl, sym, ap, _∙_}
+use Prim.Native.Nat.{_-_, _≤_, _<_, min}
+use mathlib.Core.Path.{_≡_, ap, _∙_}
 use Rattle.station.proofs.recordarrays.rows_in.Statement.{statement}
 use Rattle.station.proofs.recordarrays.rows_in.Tie as tie
 use Rattle.station.proofs.recordarrays.rows_in.Reads as reads

@@ -2,7 +2,6 @@
 use borrow.Author.Needs.{needs}
 use Rattle.station_file.proofs.stationcards.station_name.Statement.{statement}
 use Rattle.station_file.proofs.stationcards.station_name.Tie as tie
-use mathlib.Core.Path.{_≡_}
 
 first-line-requires : tie.Need-first-line-requires
 first-line-requires c κs = search needs

@@ -2,7 +2,7 @@
 use borrow.Author.Needs.{needs}
 use Rattle.station_file.proofs.stationfields.latitude_fields.Statement.{statement}
 use Rattle.station_file.proofs.stationfields.latitude_fields.Tie as tie
-use mathlib.Core.Path.{_≡_, ap}
+use mathlib.Core.Path.{ap}
 use mir.Syntax.{w32}
 use mir.Val.{SFits}
 use mir.ValLaws.{toZ-ofZ}

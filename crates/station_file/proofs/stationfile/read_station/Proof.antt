@@ -2,8 +2,8 @@
 use borrow.Author.Needs.{needs}
 use Rattle.station_file.proofs.stationfile.read_station.Statement.{statement}
 use Rattle.station_file.proofs.stationfile.read_station.Tie as tie
-use mathlib.Core.Path.{_≡_, sym, _∙_}
-use Prim.Native.Nat.{_≤_, _<_, min}
+use mathlib.Core.Path.{sym, _∙_}
+use Prim.Native.Nat.{_<_, min}
 use native.Mathlib.Omega.{arith}
 use mir.Syntax.{w32}
 use mir.Val.{SFits}

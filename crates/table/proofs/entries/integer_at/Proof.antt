@@ -1,6 +1,6 @@
 -- `table::entries::integer_at` meets its contract: inside the rows the read is the row's number, past them the default stands (`Beyond`).
 -- Assumes nothing.
-use mathlib.Core.Path.{_≡_, sym, subst, _∙_}
+use mathlib.Core.Path.{sym, subst, _∙_}
 use native.Mathlib.Omega.{arith}
 use borrow.Author.Needs.{needs}
 use lib.Dec.{lit≤}
@@ -8,7 +8,7 @@ use Prim.Native.Nat.{_^_, _≤_}
 use lib.IntN.{ℤ, pos, natAbs}
 use lib.ListN.{length}
 use mir.Syntax.{w8}
-use mir.Val.{SFits, toZ, ofZ}
+use mir.Val.{SFits}
 use Rattle.angles.proofs.Known.{read-narrow}
 use Rattle.table.proofs.Rows.{row-at}
 use Rattle.table.proofs.entries.Beyond.{past-columns, past-rows, far, near}

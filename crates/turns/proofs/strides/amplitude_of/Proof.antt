@@ -2,8 +2,6 @@
 use borrow.Author.Needs.{needs}
 use Rattle.turns.proofs.strides.amplitude_of.Statement.{statement}
 use Rattle.turns.proofs.strides.amplitude_of.Tie as tie
-use mathlib.Core.Path.{_≡_, refl, sym, ap, _∙_}
-use Rattle.columns.specs.Names.{placeOf, namesFrom}
 use Rattle.station.specs.inner.Station.{stationOf}
 use Rattle.columns.specs.Columns.{columns}
 use Rattle.turns.proofs.strides.Names.{amplitude-by}

@@ -3,7 +3,7 @@ use borrow.Author.Needs.{needs}
 use Rattle.turns.proofs.strides.station_stride.Statement.{statement}
 use Rattle.turns.proofs.strides.station_stride.Tie as tie
 use Rattle.turns.specs.Strides.{stationStride}
-use mathlib.Core.Path.{_≡_, _∙_}
+use mathlib.Core.Path.{_≡_}
 use mathlib.Core.List.{[], _∷_}
 use Rattle.columns.specs.Columns.{padded}
 use Rattle.table.specs.inner.View.{tableOf}
