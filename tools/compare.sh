@@ -29,6 +29,7 @@ compare() {
     fi
 }
 
+shopt -s nullglob # none where COUNT is 0
 for script in "$folder"/scripts/*.replay; do
     compare "$script" "seed $seed script $(basename "$script" .replay)"
 done
