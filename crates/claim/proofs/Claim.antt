@@ -6,9 +6,10 @@ use mathlib.Core.List.{List, _∷_}
 use mathlib.Core.Path.{_≡_, refl, ap, ap₂, sym, subst, _∙_}
 use mathlib.Core.Logic.{∥∥₁-map, ∥∥₁-elim, ∥∥₁-prop}
 use base.Logic.{id⊢}
-use contract.Monad.{top}
+use contract.Monad.{top, fact}
 use denote.Ref.{now}
 use lib.IntN.{ℤ}
+use Rattle.refusals.specs.declared.Answer.{Answer}
 use Rattle.card_file.specs.Cards as cards
 use Rattle.card_file.specs.Cards.{readCards}
 use Rattle.station.specs.declared.records.Record.{Record}
@@ -16,12 +17,13 @@ use Rattle.station.specs.Records.{recordsOf}
 use Rattle.clock.specs.declared.Clock.{Clock}
 use Rattle.calls.specs.State as state
 use Rattle.calls.specs.State.{State, some, none}
-use Rattle.calls.specs.Returned.{Returned, accepted, heightIs, turnsAre, refused, onAccepted}
+use Rattle.calls.specs.Returned.{Returned, accepted, heightIs, turnsAre, refused, onAccepted, answerReturned}
 use Rattle.calls.specs.Calls.{cardsReturns, cardsLeaves, fileReturns, fileLeaves, stationReturns, stationLeaves, dateReturns, dateLeaves, heightReturns, seriesGives, turnsGives}
 use Rattle.clock.specs.View.{view, Made}
 use Rattle.clock.specs.Posts.{NewPost, CardsPost, StationPost, DatePost, HeightPost, SeriesPost, TurnsPost}
-use Rattle.claim.specs.Calls.{New, news, Call, loads, stations, placed, dates, heights, serieses, searches, Calls, done, _then_}
+use Rattle.claim.specs.Calls.{Keeps, New, news, Call, loads, stations, placed, dates, heights, serieses, searches, Calls, done, _then_}
 use Rattle.claim.specs.Document.{Request, Cards, Station, Date, Gave, told, wrote, found, Last, nothing, workedOut, after, gives, givesAll, lastAfter, EachNear}
+use Rattle.claim.specs.Claim.{Claim, OfAnyCalls}
 use Rattle.claim.proofs.Points.{near-calls}
 use Rattle.claim.proofs.Decided.{same-once}
 
@@ -62,43 +64,49 @@ date-works l year month =
 
 -- ---- call by call
 
-new-agrees : {c : Clock} → New c → ∥ Agrees c nothing ∥₁
-unfolding workedOut
-new-agrees (news κs a r s k) =
-    ∥∥₁-map (k .keeps (Unit {0}) (NewPost r) (λ w. top (w .𝓤) _) (λ w. id⊢ (w .𝓤) _) tt) (λ p. record { made = p .made; keeps = p .leaves })
+-- the contract of a call whose `requires` is the fact φ and whose `ensures` is the fact ψ
+holds : {φ ψ : Type 0} → Keeps (λ w. fact (w .𝓤) φ) (λ w. fact (w .𝓤) ψ) → φ → ∥ ψ ∥₁
+holds {φ} {ψ} k = k .keeps φ ψ (λ w. id⊢ (w .𝓤) (fact (w .𝓤) φ)) (λ w. id⊢ (w .𝓤) (fact (w .𝓤) ψ))
 
-call-agrees : {c c′ : Clock} {q : Request} {g : Gave} (l : Last) → Agrees c l → Call c q g c′ → ∥ ((g ≡ gives l q) × Agrees c′ (after l q)) ∥₁
+pub new-agrees : {c : Clock} → New c → ∥ Agrees c nothing ∥₁
+unfolding workedOut
+new-agrees (news {r} x) =
+    ∥∥₁-map (x .contract .keeps (Unit {0}) (NewPost r) (λ w. top (w .𝓤) _) (λ w. id⊢ (w .𝓤) _) tt) (λ p. record { made = p .made; keeps = p .leaves })
+
+pub station-agrees : {c c′ : Clock} {latitude : ℤ} {records : List Record} {answer : Answer} (l : Last) → Agrees c l → ∥ StationPost c latitude records answer c′ ∥₁
+    → ∥ ((told (answerReturned answer) ≡ gives l (Station latitude records)) × Agrees c′ (after l (Station latitude records))) ∥₁
+unfolding gives
+station-agrees {latitude = latitude} {records = records} l h post =
+    ∥∥₁-map post (λ p. (
+      ap told (p .returns ∙ ap (λ (k : State). stationReturns k latitude records) (h .keeps)),
+      record { made = p .made; keeps = p .leaves ∙ ap (λ (k : State). stationLeaves k latitude records) (h .keeps) ∙ station-works l latitude records },
+    ))
+
+pub call-agrees : {c c′ : Clock} {q : Request} {g : Gave} (l : Last) → Agrees c l → Call c q g c′ → ∥ ((g ≡ gives l q) × Agrees c′ (after l q)) ∥₁
 unfolding gives after
-call-agrees l h (loads κs a r s k) =
-    ∥∥₁-map (k .keeps (Made (a .0)) (CardsPost (a .0) (now (a .1 .0)) (r .answer) (r .clock)) (λ w. id⊢ (w .𝓤) _) (λ w. id⊢ (w .𝓤) _) (h .made)) (λ p. (
+call-agrees l h (loads {c = c} {file = file} {r = r} x) =
+    ∥∥₁-map (holds {φ = Made c} {ψ = CardsPost c (now file) (r .answer) (r .clock)} (x .contract) (h .made)) (λ p. (
       ap told (p .returns),
-      record { made = p .made; keeps = p .leaves ∙ ap (λ (x : State). cardsLeaves x (now (a .1 .0))) (h .keeps) ∙ cards-works l (now (a .1 .0)) },
+      record { made = p .made; keeps = p .leaves ∙ ap (λ (k : State). cardsLeaves k (now file)) (h .keeps) ∙ cards-works l (now file) },
     ))
-call-agrees l h (stations κs a r s k) =
-    ∥∥₁-map (k .keeps (Made (a .0)) (StationPost (a .0) (a .1 .0) (now (a .1 .1 .0)) (r .answer) (r .clock)) (λ w. id⊢ (w .𝓤) _) (λ w. id⊢ (w .𝓤) _) (h .made)) (λ p. (
-      ap told (p .returns ∙ ap (λ (x : State). stationReturns x (a .1 .0) (now (a .1 .1 .0))) (h .keeps)),
-      record { made = p .made; keeps = p .leaves ∙ ap (λ (x : State). stationLeaves x (a .1 .0) (now (a .1 .1 .0))) (h .keeps) ∙ station-works l (a .1 .0) (now (a .1 .1 .0)) },
+call-agrees l h (stations {c = c} {latitude = latitude} {records = records} {r = r} x) =
+    station-agrees l h (holds {φ = Made c} {ψ = StationPost c latitude (now records) (r .answer) (r .clock)} (x .contract) (h .made))
+call-agrees l h (placed {c = c} {latitude = latitude} {n = n} {rows = rows} {r = r} x) =
+    station-agrees l h (holds {φ = Made c} {ψ = StationPost c latitude (recordsOf rows n) (r .answer) (r .clock)} (x .contract) (h .made))
+call-agrees l h (dates {c = c} {year = year} {month = month} {r = r} x) =
+    ∥∥₁-map (holds {φ = Made c} {ψ = DatePost c year month (r .answer) (r .clock)} (x .contract) (h .made)) (λ p. (
+      ap told (p .returns ∙ ap (λ (k : State). dateReturns k year month) (h .keeps)),
+      record { made = p .made; keeps = p .leaves ∙ ap (λ (k : State). dateLeaves k year month) (h .keeps) ∙ date-works l year month },
     ))
-call-agrees l h (placed κs a r s k) =
-    let records = recordsOf (a .1 .1 .1 .0) (a .1 .1 .0) in
-    ∥∥₁-map (k .keeps (Made (a .0)) (StationPost (a .0) (a .1 .0) records (r .answer) (r .clock)) (λ w. id⊢ (w .𝓤) _) (λ w. id⊢ (w .𝓤) _) (h .made)) (λ p. (
-      ap told (p .returns ∙ ap (λ (x : State). stationReturns x (a .1 .0) records) (h .keeps)),
-      record { made = p .made; keeps = p .leaves ∙ ap (λ (x : State). stationLeaves x (a .1 .0) records) (h .keeps) ∙ station-works l (a .1 .0) records },
-    ))
-call-agrees l h (dates κs a r s k) =
-    ∥∥₁-map (k .keeps (Made (a .0)) (DatePost (a .0) (a .1 .0) (a .1 .1 .0) (r .answer) (r .clock)) (λ w. id⊢ (w .𝓤) _) (λ w. id⊢ (w .𝓤) _) (h .made)) (λ p. (
-      ap told (p .returns ∙ ap (λ (x : State). dateReturns x (a .1 .0) (a .1 .1 .0)) (h .keeps)),
-      record { made = p .made; keeps = p .leaves ∙ ap (λ (x : State). dateLeaves x (a .1 .0) (a .1 .1 .0)) (h .keeps) ∙ date-works l (a .1 .0) (a .1 .1 .0) },
-    ))
-call-agrees l h (heights κs a r s k) =
-    ∥∥₁-map (k .keeps (Made (a .0)) (HeightPost (a .0) (a .1 .0) r) (λ w. id⊢ (w .𝓤) _) (λ w. id⊢ (w .𝓤) _) (h .made)) (λ p.
-    (ap told (p .returns ∙ ap (λ (x : State). heightReturns x (a .1 .0)) (h .keeps)), h))
-call-agrees l h (serieses κs a r s k) =
-    ∥∥₁-map (k .keeps (Made (a .0)) (SeriesPost (a .0) (a .1 .0) (a .1 .1 .0) (now (a .1 .1 .1 .0)) (now (s .1 .1 .1 .0)) r) (λ w. id⊢ (w .𝓤) _) (λ w. id⊢ (w .𝓤) _) (h .made)) (λ p.
-    (ap wrote (p .gives ∙ ap (λ (x : State). seriesGives x (a .1 .0) (a .1 .1 .0) (now (a .1 .1 .1 .0))) (h .keeps)), h))
-call-agrees l h (searches κs a r s k) =
-    ∥∥₁-map (k .keeps (Made (a .0)) (TurnsPost (a .0) (a .1 .0) (a .1 .1 .0) (now (a .1 .1 .1 .0)) (now (s .1 .1 .1 .0)) (now (a .1 .1 .1 .1 .0)) (now (s .1 .1 .1 .1 .0)) r) (λ w. id⊢ (w .𝓤) _) (λ w. id⊢ (w .𝓤) _) (h .made)) (λ p.
-    (ap found (p .gives ∙ ap (λ (x : State). turnsGives x (a .1 .0) (a .1 .1 .0) (now (a .1 .1 .1 .0)) (now (a .1 .1 .1 .1 .0))) (h .keeps)), h))
+call-agrees l h (heights {c = c} {minute = minute} {r = r} x) =
+    ∥∥₁-map (holds {φ = Made c} {ψ = HeightPost c minute r} (x .contract) (h .made)) (λ p.
+    (ap told (p .returns ∙ ap (λ (k : State). heightReturns k minute) (h .keeps)), h))
+call-agrees l h (serieses {c = c} {start = start} {step = step} {before = hs} {after = hs′} {r = r} x) =
+    ∥∥₁-map (holds {φ = Made c} {ψ = SeriesPost c start step (now hs) hs′ r} (x .contract) (h .made)) (λ p.
+    (ap wrote (p .gives ∙ ap (λ (k : State). seriesGives k start step (now hs)) (h .keeps)), h))
+call-agrees l h (searches {c = c} {first = first} {last = last} {ms = ms} {hs = hs} {ms′ = ms′} {hs′ = hs′} {r = r} x) =
+    ∥∥₁-map (holds {φ = Made c} {ψ = TurnsPost c first last (now ms) ms′ (now hs) hs′ r} (x .contract) (h .made)) (λ p.
+    (ap found (p .gives ∙ ap (λ (k : State). turnsGives k first last (now ms) (now hs)) (h .keeps)), h))
 
 calls-agree : {c c′ : Clock} {qs : List Request} {gs : List Gave} (l : Last) → Agrees c l → Calls c qs gs c′ → ∥ ((gs ≡ givesAll l qs) × Agrees c′ (lastAfter l qs)) ∥₁
 unfolding givesAll lastAfter
@@ -106,16 +114,7 @@ calls-agree l h done = ∣ (refl, h) ∣₁
 calls-agree l h (_then_ {q = q} x xs) =
     ∥∥₁-elim (call-agrees l h x) ∥∥₁-prop (λ one. ∥∥₁-map (calls-agree (after l q) (one .1) xs) (λ all. (ap₂ _∷_ (one .0) (all .0), all .1)))
 
--- Take any list of calls, given one after another to a clock that starts with no table, each known by its contract alone.
--- `exactly`: what they return and write is what the document gives for the list, all of it and no other: each call accepted or refused by
--- 01's number and place, each height and turn as 01 defines it.
--- `near`: each height among it is within the allowed distance of the exact sum at its own minute, which follows from the card file, the
--- station and the date last accepted before that call, as they were lent.
-pub record Claim (qs : List Request) (gs : List Gave) : Type 0 where
-  pub exactly : gs ≡ givesAll nothing qs
-  pub near : EachNear nothing qs gs
-
-pub claim : (c c′ : Clock) (qs : List Request) (gs : List Gave) → New c → Calls c qs gs c′ → Claim qs gs
+pub claim : OfAnyCalls
 claim c c′ qs gs new x =
     let all : ∥ (gs ≡ givesAll nothing qs) ∥₁ = ∥∥₁-elim (new-agrees new) ∥∥₁-prop (λ h. ∥∥₁-map (calls-agree nothing h x) (λ e. e .0)) in
     let same : gs ≡ givesAll nothing qs = ∥∥₁-elim all (same-once gs (givesAll nothing qs)) (λ e. e) in

@@ -1,4 +1,5 @@
 mod Points
 mod Decided
+pub mod Near
+pub mod Controls
 pub mod Claim
-pub mod Backed

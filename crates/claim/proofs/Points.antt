@@ -22,10 +22,10 @@ use Rattle.turns.specs.Written as written
 use Rattle.turns.specs.Search.{firstHigh, minutesOf}
 use Rattle.calls.specs.State as state
 use Rattle.calls.specs.State.{Maybe}
-use Rattle.calls.specs.Returned.{accepted, heightIs, refused}
+use Rattle.calls.specs.Returned.{accepted, heightIs, turnsAre, refused}
 use Rattle.calls.specs.Calls.{heightReturns, SeriesGiven, seriesRefused, seriesGives, TurnsGiven, turnsRefused, turnsGives, searched}
 use Rattle.calls.specs.Asked.{stepOutside, lastMinute}
-use Rattle.claim.specs.Document.{Request, Cards, Station, Date, Height, Series, Turns, found, Last, workedOut, after, gives, givesAll, heightPoints, pointsFrom, seriesPoints, pointsOf, turnsPoints, points, constituentsIn, constituentsOf, AllNear, nil, cons, EachNear, end, next}
+use Rattle.claim.specs.Document.{Request, Cards, Station, Date, Height, Series, Turns, Last, workedOut, after, gives, givesAll, Point, heightPoints, pointsFrom, seriesPoints, pointsOf, turnsPoints, points, constituentsIn, constituentsOf, AllNear, nil, cons, EachNear, end, next}
 
 -- ---- a height
 
@@ -73,40 +73,51 @@ unfolding pointsOf
 pairs-near cs [] = nil
 pairs-near cs (m ∷ ms) = cons (height-is-near cs m) (pairs-near cs ms)
 
+abbrev foundPoints : TurnsGiven → List Point
+foundPoints g = turnsPoints (g .returned) (g .minutes) (g .heights)
+
 -- what stands in front of a buffer is what was put there
 front-is : {A : Type 0} (new old : List A) (n : ℕ) → length new ≡ n → take n (written.inFront new old) ≡ new
 front-is new old n e = take-at new (drop (length new) old) n e
 
-turns-near : (first last : ℕ) (minutes : List ℕ) (heights : List ℤ) (t : Maybe Table) (s : Maybe station.Station) (m : Maybe state.Month)
-    → AllNear (constituentsIn m) (turnsPoints (turnsGives (record { table = t; station = s; month = m }) first last minutes heights .returned)
-    (turnsGives (record { table = t; station = s; month = m }) first last minutes heights .minutes) (turnsGives (record { table = t; station = s; month = m }) first last minutes heights .heights))
+-- what a search for turns gives: a refusal, with both buffers as they were, or what was found, in front of both
+pub turns-give : (P : Maybe state.Month → TurnsGiven → Type 0) (first last : ℕ) (ms : List ℕ) (hs : List ℤ)
+    → ((m : Maybe state.Month) (number : ℕ) → P m (turnsRefused ms hs number))
+    → ((m : state.Month) (ts : List Turn) → P (state.some m) (record {
+      returned = turnsAre (length ts) (firstHigh ts);
+      minutes = written.inFront (minutesOf ts) ms;
+      heights = written.inFront (map (heightAt (m .constituents)) (minutesOf ts)) hs;
+    }))
+    → (t : Maybe Table) (s : Maybe station.Station) (m : Maybe state.Month) → P m (turnsGives (record { table = t; station = s; month = m }) first last ms hs)
 unfolding turnsGives written.given
-turns-near first last minutes heights state.none s m = nil
-turns-near first last minutes heights (state.some t) state.none m = nil
-turns-near first last minutes heights (state.some t) (state.some s) state.none = nil
-turns-near first last minutes heights (state.some t) (state.some s) (state.some m) =
+turns-give P first last ms hs none-found all-found state.none s m = none-found m 21
+turns-give P first last ms hs none-found all-found (state.some t) state.none m = none-found m 22
+turns-give P first last ms hs none-found all-found (state.some t) (state.some s) state.none = none-found state.none 23
+turns-give P first last ms hs none-found all-found (state.some t) (state.some s) (state.some m) =
     asked (ltb (m .last) last || ltb last first) (turnsOf (slopeAt (m .constituents)) (stationStride t s) first last)
   where
-    cs : List Constituent
-    cs = m .constituents
-
     given : Bool → List Turn → TurnsGiven
     given short ts =
-        searched (cond short (record { returned = written.refused 10; minutes = minutes; heights = heights })
-        (record { returned = written.found (length ts) (firstHigh ts); minutes = written.inFront (minutesOf ts) minutes; heights = written.inFront (map (heightAt cs) (minutesOf ts)) heights }))
+        searched (cond short (record { returned = written.refused 10; minutes = ms; heights = hs })
+        (record { returned = written.found (length ts) (firstHigh ts); minutes = written.inFront (minutesOf ts) ms; heights = written.inFront (map (heightAt (m .constituents)) (minutesOf ts)) hs }))
 
-    room : (short : Bool) (ts : List Turn) → AllNear cs (turnsPoints (given short ts .returned) (given short ts .minutes) (given short ts .heights))
-    room true ts = nil
-    room false ts =
-        let many : length (minutesOf ts) ≡ length ts = length-map ts (λ (u : Turn). u .minute) in
-        rw (front-is (minutesOf ts) minutes (length ts) many, front-is (map (heightAt cs) (minutesOf ts)) heights (length ts) (length-map (minutesOf ts) (heightAt cs) ∙ many)) (pairs-near cs (minutesOf ts))
+    room : (short : Bool) (ts : List Turn) → P (state.some m) (given short ts)
+    room true ts = none-found (state.some m) 10
+    room false ts = all-found m ts
 
-    sought : Bool → List Turn → TurnsGiven
-    sought outside ts = cond outside (turnsRefused minutes heights 9) (searched (written.given (heightAt cs) ts minutes heights))
+    asked : (outside : Bool) (ts : List Turn) → P (state.some m) (cond outside (turnsRefused ms hs 9) (given (ltb (length ms) (length ts) || ltb (length hs) (length ts)) ts))
+    asked true ts = none-found (state.some m) 9
+    asked false ts = room (ltb (length ms) (length ts) || ltb (length hs) (length ts)) ts
 
-    asked : (outside : Bool) (ts : List Turn) → AllNear cs (turnsPoints (sought outside ts .returned) (sought outside ts .minutes) (sought outside ts .heights))
-    asked true ts = nil
-    asked false ts = room (ltb (length minutes) (length ts) || ltb (length heights) (length ts)) ts
+pub as-many : (ts : List Turn) → length (minutesOf ts) ≡ length ts
+as-many ts = length-map ts (λ (u : Turn). u .minute)
+
+turns-near : (first last : ℕ) (ms : List ℕ) (hs : List ℤ) (t : Maybe Table) (s : Maybe station.Station) (m : Maybe state.Month)
+    → AllNear (constituentsIn m) (foundPoints (turnsGives (record { table = t; station = s; month = m }) first last ms hs))
+turns-near first last ms hs =
+    turns-give (λ m g. AllNear (constituentsIn m) (foundPoints g)) first last ms hs (λ m number. nil) (λ m ts.
+    rw (front-is (minutesOf ts) ms (length ts) (as-many ts), front-is (map (heightAt (m .constituents)) (minutesOf ts)) hs (length ts) (length-map (minutesOf ts) (heightAt (m .constituents)) ∙ as-many ts))
+    (pairs-near (m .constituents) (minutesOf ts)))
 
 -- ---- the list
 

@@ -1,0 +1,143 @@
+-- The claim's premises can be met (specs/Controls.antt): a call whose contract is a fact that holds keeps it, and a clock with no table
+-- refuses each kind of call. Rests on what an empty card file comes to, by computing. Assumes nothing.
+use Prim.Native.Nat.{ℕ}
+use mathlib.Core.List.{List, [], _∷_}
+use mathlib.Core.Logic.{∥∥₁-map}
+use mathlib.Core.Path.{_≡_, refl, sym, ap, _∙_}
+use lib.IntN.{ℤ, pos}
+use base.Logic.{SProp, sep, via, snd∗, fst∗}
+use prog.Memory.{Memory}
+use contract.Monad.{fact}
+use contract.Adequate.{Satisfies, sat-fact}
+use denote.Ref.{RefT}
+use borrow.Fn.World.{World, w₀}
+use Rattle.refusals.specs.declared.Answer.{Answer}
+use Rattle.refusals.specs.declared.Answer.the-variants.{Refused}
+use Rattle.refusals.specs.declared.Refusal.the-variants.{NoTable, Ended}
+use Rattle.columns.specs.Lines.{linesOf}
+use Rattle.card_frequencies.specs.Frequencies.{frequenciesFrom}
+use Rattle.card_file.specs.Cards.{readCards}
+use Rattle.station.specs.declared.records.Record.{Record}
+use Rattle.station.specs.declared.records.Rows.{Rows}
+use Rattle.station.specs.Records.{recordsFrom, recordsOf}
+use Rattle.station.specs.inner.Rows.{noRows}
+use Rattle.clock.specs.declared.Clock.{Clock}
+use Rattle.clock.specs.declared.HeightAnswer.{HeightAnswer}
+use Rattle.clock.specs.declared.HeightAnswer.the-variants as height
+use Rattle.clock.specs.declared.TurnsAnswer.{TurnsAnswer}
+use Rattle.clock.specs.declared.TurnsAnswer.the-variants as turns
+use Rattle.calls.specs.State.{State}
+use Rattle.calls.specs.Returned.{refused, answerReturned}
+use Rattle.clock.specs.Returned.{heightReturned, turnsReturned}
+use Rattle.calls.specs.Calls.{cardsReturns, cardsLeaves, stationReturns, stationLeaves, dateReturns, dateLeaves, heightReturns, seriesGives, turnsGives}
+use Rattle.clock.specs.Posts.{NewPost, CardsPost, StationPost, DatePost, HeightPost, SeriesPost, TurnsPost}
+use Rattle.claim.specs.Document.{Cards, Station, Date, Height, Series, Turns, told, wrote, found}
+use Rattle.claim.specs.Calls.{Keeps, New, news, Call, loads, stations, placed, dates, heights, serieses, searches, Calls, done, _then_}
+use Rattle.claim.specs.Controls.{Controls, eachKind, eachRefused}
+
+-- Wherever some memory satisfies what a call's `ensures` says, in the closed model, the call keeps its contract in the sense of `Calls`.
+pub backed : (P Q : (w : World) → SProp (w .𝓤)) (σ : Memory) (F : SProp (w₀ .𝓤)) → Satisfies (w₀ .𝓤) (w₀ .H) (w₀ .𝓜) σ (sep (w₀ .𝓤) (Q w₀) F) → Keeps P Q
+backed P Q σ F s =
+    record {
+      keeps = λ φ ψ p q x.
+          sat-fact (w₀ .𝓤) (w₀ .H) (w₀ .𝓜) σ (sep (w₀ .𝓤) (Q w₀) F) ψ
+          (via (w₀ .𝓤) (sep (w₀ .𝓤) (Q w₀) F) (snd∗ (w₀ .𝓤) (w₀ .𝓜 .mem σ) (sep (w₀ .𝓤) (Q w₀) F)) (via (w₀ .𝓤) (Q w₀) (fst∗ (w₀ .𝓤) (Q w₀) F) (q w₀))) s;
+    }
+
+-- A call whose `ensures` is a fact that holds keeps its contract.
+kept : (P : (w : World) → SProp (w .𝓤)) (χ : Type 0) → χ → Keeps P (λ w. fact (w .𝓤) χ)
+kept P χ y = record { keeps = λ φ ψ p q x. ∥∥₁-map (q w₀ .apply (w₀ .𝓤 .one) ∣ (y, tt) ∣₁) (λ t. t .0) }
+
+-- a lent buffer, by what it holds
+abbrev lent : {X : Type 0} → List X → RefT (List X)
+lent xs = record { ptr = (0, 0); name = 0; now = xs }
+
+-- ---- what a clock with no table says
+
+no-file : cardsReturns [] ≡ refused 7 1
+unfolding cardsReturns readCards linesOf frequenciesFrom
+no-file = refl
+
+no-file-leaves : (k : State) → cardsLeaves k [] ≡ k
+unfolding cardsLeaves readCards linesOf frequenciesFrom
+no-file-leaves k = refl
+
+no-station : (c : Clock) (latitude : ℤ) (records : List Record) → NewPost c → StationPost c latitude records (Refused NoTable 0) c
+unfolding stationReturns stationLeaves
+no-station c latitude records p =
+    record {
+      made = p .made;
+      returns = sym (ap (λ (k : State). stationReturns k latitude records) (p .leaves));
+      leaves = p .leaves ∙ sym (ap (λ (k : State). stationLeaves k latitude records) (p .leaves));
+    }
+
+no-month : (c : Clock) (year month : ℕ) → NewPost c → DatePost c year month (Refused NoTable 0) c
+unfolding dateReturns dateLeaves
+no-month c year month p =
+    record {
+      made = p .made;
+      returns = sym (ap (λ (k : State). dateReturns k year month) (p .leaves));
+      leaves = p .leaves ∙ sym (ap (λ (k : State). dateLeaves k year month) (p .leaves));
+    }
+
+-- ---- each kind of call is there
+
+new-there : (c : Clock) → NewPost c → New c
+new-there c p = news (record { bound = λ w. tt; contract = kept _ (NewPost c) p })
+
+cards-there : (c c′ : Clock) (file : List ℕ) (answer : Answer) → CardsPost c file answer c′ → Call c (Cards file) (told (answerReturned answer)) c′
+cards-there c c′ file answer p =
+    loads {κs = ([], tt)} {file = lent file} {r = record { answer = answer; clock = c′ }} (record { bound = λ w. tt; contract = kept _ (CardsPost c file answer c′) p })
+
+station-there : (c c′ : Clock) (latitude : ℤ) (records : List Record) (answer : Answer) → StationPost c latitude records answer c′
+    → Call c (Station latitude records) (told (answerReturned answer)) c′
+station-there c c′ latitude records answer p =
+    stations {κs = ([], tt)} {records = lent records} {r = record { answer = answer; clock = c′ }} (record { bound = λ w. tt; contract = kept _ (StationPost c latitude records answer c′) p })
+
+placing-there : (c c′ : Clock) (latitude : ℤ) (n : ℕ) (rows : Rows) (answer : Answer) → StationPost c latitude (recordsOf rows n) answer c′
+    → Call c (Station latitude (recordsOf rows n)) (told (answerReturned answer)) c′
+placing-there c c′ latitude n rows answer p =
+    placed {n = n} {rows = rows} {r = record { answer = answer; clock = c′ }} (record { bound = λ w. tt; contract = kept _ (StationPost c latitude (recordsOf rows n) answer c′) p })
+
+date-there : (c c′ : Clock) (year month : ℕ) (answer : Answer) → DatePost c year month answer c′ → Call c (Date year month) (told (answerReturned answer)) c′
+date-there c c′ year month answer p =
+    dates {r = record { answer = answer; clock = c′ }} (record { bound = λ w. tt; contract = kept _ (DatePost c year month answer c′) p })
+
+height-there : (c : Clock) (minute : ℕ) (answer : HeightAnswer) → HeightPost c minute answer → Call c (Height minute) (told (heightReturned answer)) c
+height-there c minute answer p = heights (record { bound = λ w. tt; contract = kept _ (HeightPost c minute answer) p })
+
+series-there : (c : Clock) (start step : ℕ) (hs hs′ : List ℤ) (answer : Answer) → SeriesPost c start step hs hs′ answer
+    → Call c (Series start step hs) (wrote (record { returned = answerReturned answer; heights = hs′ })) c
+series-there c start step hs hs′ answer p =
+    serieses {κs = ([], tt)} {before = lent hs} (record { bound = λ w. tt; contract = kept _ (SeriesPost c start step hs hs′ answer) p })
+
+turns-there : (c : Clock) (first last : ℕ) (ms ms′ : List ℕ) (hs hs′ : List ℤ) (answer : TurnsAnswer) → TurnsPost c first last ms ms′ hs hs′ answer
+    → Call c (Turns first last ms hs) (found (record { returned = turnsReturned answer; minutes = ms′; heights = hs′ })) c
+turns-there c first last ms ms′ hs hs′ answer p =
+    searches {κs = ([], ([], tt))} {ms = lent ms} {hs = lent hs} (record { bound = λ w. tt; contract = kept _ (TurnsPost c first last ms ms′ hs hs′ answer) p })
+
+each-kind : (c : Clock) → NewPost c → Calls c eachKind eachRefused c
+unfolding heightReturns seriesGives turnsGives recordsFrom
+each-kind c p =
+    _then_ (cards-there c c [] (Refused Ended 1) (record { made = p .made; returns = sym no-file; leaves = sym (no-file-leaves _) }))
+    (_then_ (station-there c c (pos 0) [] (Refused NoTable 0) (no-station c (pos 0) [] p))
+    (_then_ (placing-there c c (pos 0) 0 noRows (Refused NoTable 0) (no-station c (pos 0) [] p))
+    (_then_ (date-there c c 1976 7 (Refused NoTable 0) (no-month c 1976 7 p))
+    (_then_ (height-there c 0 (height.Refused NoTable 0) (record { returns = sym (ap (λ (k : State). heightReturns k 0) (p .leaves)) }))
+    (_then_ (series-there c 0 1 (pos 5 ∷ []) (pos 5 ∷ []) (Refused NoTable 0) (record { gives = sym (ap (λ (k : State). seriesGives k 0 1 (pos 5 ∷ [])) (p .leaves)) }))
+    (_then_ (turns-there c 0 1 (9 ∷ []) (9 ∷ []) (pos 5 ∷ []) (pos 5 ∷ []) (turns.Refused NoTable 0)
+    (record { gives = sym (ap (λ (k : State). turnsGives k 0 1 (9 ∷ []) (pos 5 ∷ [])) (p .leaves)) })) done))))))
+
+pub controls : Controls
+controls =
+    record {
+      new = new-there;
+      cards = cards-there;
+      station = station-there;
+      placing = placing-there;
+      date = date-there;
+      height = height-there;
+      series = series-there;
+      turns = turns-there;
+      each-kind = each-kind;
+    }

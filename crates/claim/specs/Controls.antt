@@ -1,0 +1,45 @@
+-- The claim speaks of something: each of its premises can be met. Whatever meets what a function of the clock ensures is a call of it, with
+-- any values and any buffers; and there are lists with each kind of call in them. (proofs/Controls.antt. That the clock's own functions make
+-- such calls, accepted ones too, is shown of their runs: crate claim_runs.)
+-- Assumes nothing.
+use Prim.Native.Nat.{ℕ}
+use mathlib.Core.List.{List, [], _∷_}
+use lib.IntN.{ℤ, pos}
+use Rattle.refusals.specs.declared.Answer.{Answer}
+use Rattle.station.specs.declared.records.Record.{Record}
+use Rattle.station.specs.declared.records.Rows.{Rows}
+use Rattle.station.specs.Records.{recordsOf}
+use Rattle.clock.specs.declared.Clock.{Clock}
+use Rattle.clock.specs.declared.HeightAnswer.{HeightAnswer}
+use Rattle.clock.specs.declared.TurnsAnswer.{TurnsAnswer}
+use Rattle.calls.specs.Returned.{refused, answerReturned}
+use Rattle.clock.specs.Returned.{heightReturned, turnsReturned}
+use Rattle.clock.specs.Posts.{NewPost, CardsPost, StationPost, DatePost, HeightPost, SeriesPost, TurnsPost}
+use Rattle.claim.specs.Document.{Request, Cards, Station, Date, Height, Series, Turns, Gave, told, wrote, found}
+use Rattle.claim.specs.Calls.{New, Call, Calls}
+
+-- a list with each kind of call in it (a station twice, its records lent as a row and in arrays), and what a clock with no table gives for
+-- it: an empty card file ends inside its first part, 7 at line 1; the others find no table, 21, and leave the lent places as they were
+abbrev pub eachKind : List Request
+eachKind = Cards [] ∷ Station (pos 0) [] ∷ Station (pos 0) [] ∷ Date 1976 7 ∷ Height 0 ∷ Series 0 1 (pos 5 ∷ []) ∷ Turns 0 1 (9 ∷ []) (pos 5 ∷ []) ∷ []
+
+abbrev pub eachRefused : List Gave
+eachRefused =
+    told (refused 7 1) ∷ told (refused 21 0) ∷ told (refused 21 0) ∷ told (refused 21 0) ∷ told (refused 21 0)
+    ∷ wrote (record { returned = refused 21 0; heights = pos 5 ∷ [] })
+    ∷ found (record { returned = refused 21 0; minutes = 9 ∷ []; heights = pos 5 ∷ [] }) ∷ []
+
+pub record Controls : Type 2 where
+  pub new : (c : Clock) → NewPost c → New c
+  pub cards : (c c′ : Clock) (file : List ℕ) (answer : Answer) → CardsPost c file answer c′ → Call c (Cards file) (told (answerReturned answer)) c′
+  pub station : (c c′ : Clock) (latitude : ℤ) (records : List Record) (answer : Answer) → StationPost c latitude records answer c′
+      → Call c (Station latitude records) (told (answerReturned answer)) c′
+  pub placing : (c c′ : Clock) (latitude : ℤ) (n : ℕ) (rows : Rows) (answer : Answer) → StationPost c latitude (recordsOf rows n) answer c′
+      → Call c (Station latitude (recordsOf rows n)) (told (answerReturned answer)) c′
+  pub date : (c c′ : Clock) (year month : ℕ) (answer : Answer) → DatePost c year month answer c′ → Call c (Date year month) (told (answerReturned answer)) c′
+  pub height : (c : Clock) (minute : ℕ) (answer : HeightAnswer) → HeightPost c minute answer → Call c (Height minute) (told (heightReturned answer)) c
+  pub series : (c : Clock) (start step : ℕ) (hs hs′ : List ℤ) (answer : Answer) → SeriesPost c start step hs hs′ answer
+      → Call c (Series start step hs) (wrote (record { returned = answerReturned answer; heights = hs′ })) c
+  pub turns : (c : Clock) (first last : ℕ) (ms ms′ : List ℕ) (hs hs′ : List ℤ) (answer : TurnsAnswer) → TurnsPost c first last ms ms′ hs hs′ answer
+      → Call c (Turns first last ms hs) (found (record { returned = turnsReturned answer; minutes = ms′; heights = hs′ })) c
+  pub each-kind : (c : Clock) → NewPost c → Calls c eachKind eachRefused c

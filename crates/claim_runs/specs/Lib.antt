@@ -1,0 +1,4 @@
+pub mod Handed
+pub mod Values
+pub mod Runs
+pub mod OnMachine

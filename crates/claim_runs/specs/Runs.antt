@@ -1,0 +1,79 @@
+-- A list of runs of the clock's routines on the machine, and what they give, in the document's words. No contract is named here: only the
+-- routines, as they are built, the machine's runs, values and memories, and the document.
+-- Assumes nothing.
+use Prim.Native.Nat.{ℕ}
+use mathlib.Core.List.{List, [], _∷_}
+use mathlib.Core.Path.{_≡_}
+use lib.IntN.{ℤ}
+use mir.Val.{Val}
+use base.Fml.{Share}
+use denote.Builtin.{u8, u32, i32, i64, usize}
+use Rattle.station.specs.declared.records.Record.{Record}
+use Rattle.station.specs.declared.records.Rows.{Rows}
+use Rattle.station.specs.Records.{recordsOf}
+use Rattle.station.proofs.records.Record as RecordType
+use Rattle.station.proofs.records.Rows as RowsType
+use Rattle.clock.proofs.new.Symbol as newCode
+use Rattle.clock.proofs.load_cards.Symbol as loadCode
+use Rattle.clock.proofs.set_station.Symbol as stationCode
+use Rattle.clock.proofs.place_station.Symbol as placingCode
+use Rattle.clock.proofs.set_date.Symbol as dateCode
+use Rattle.clock.proofs.height.Symbol as heightCode
+use Rattle.clock.proofs.series.Symbol as seriesCode
+use Rattle.clock.proofs.turns.Symbol as turnsCode
+use Rattle.claim.specs.Document.{Request, Cards, Station, Date, Height, Series, Turns, Gave, told, wrote, found}
+use Rattle.claim_runs.specs.Handed.{value, reads, writes, Ran, Leaves}
+use Rattle.claim_runs.specs.Values.{answerIn, heightIn, turnsIn, answerPart, clockIn}
+
+-- "The first gets a clock with no table, station or month": a clock's value that a run of `new` returned, from any memory
+pub record Started (vc : Val) : Type 2 where
+  pub ran : Ran newCode.routine [] []
+  pub value-is : ran .value ≡ vc
+
+-- One call, run: the machine's value of the clock that it gets, the call with all that is lent to it, and the machine's value of the clock
+-- that it leaves.
+pub data Run : Val → Request → Val → Type 2 where
+  loads : {vc : Val} {file : List ℕ} {q : Share} {b o : ℕ}
+      → (x : Ran loadCode.routine (vc ∷ []) (reads u8 q file b o ∷ []))
+      → Run vc (Cards file) (clockIn (x .value))
+  stations : {vc : Val} {latitude : ℤ} {vl : Val} {records : List Record} {q : Share} {b o : ℕ}
+      → (x : Ran stationCode.routine (vc ∷ []) (value i32 latitude vl ∷ reads RecordType.the-row q records b o ∷ []))
+      → Run vc (Station latitude records) (clockIn (x .value))
+  placed : {vc : Val} {latitude : ℤ} {n : ℕ} {rows : Rows} {vl vn vr : Val}
+      → (x : Ran placingCode.routine (vc ∷ []) (value i32 latitude vl ∷ value usize n vn ∷ value RowsType.the-row rows vr ∷ []))
+      → Run vc (Station latitude (recordsOf rows n)) (clockIn (x .value))
+  dates : {vc : Val} {year month : ℕ} {vy vm : Val}
+      → (x : Ran dateCode.routine (vc ∷ []) (value u32 year vy ∷ value u32 month vm ∷ []))
+      → Run vc (Date year month) (clockIn (x .value))
+  heights : {vc : Val} {minute : ℕ} {vm : Val}
+      → Ran heightCode.routine (vc ∷ []) (value u32 minute vm ∷ [])
+      → Run vc (Height minute) vc
+  serieses : {vc : Val} {start step : ℕ} {vs vt : Val} {hs : List ℤ} {b o : ℕ}
+      → Ran seriesCode.routine (vc ∷ []) (value u32 start vs ∷ value u32 step vt ∷ writes i64 hs b o ∷ [])
+      → Run vc (Series start step hs) vc
+  searches : {vc : Val} {first last : ℕ} {vf vl : Val} {ms : List ℕ} {b o : ℕ} {hs : List ℤ} {b₁ o₁ : ℕ}
+      → Ran turnsCode.routine (vc ∷ []) (value u32 first vf ∷ value u32 last vl ∷ writes u32 ms b o ∷ writes i64 hs b₁ o₁ ∷ [])
+      → Run vc (Turns first last ms hs) vc
+
+-- What a run gave is g: g is read off the value that it returned and off the buffers that it wrote to, as they lie in memory at its end.
+unfoldable pub Gives : {vc vc′ : Val} {q : Request} → Run vc q vc′ → Gave → Type 1
+Gives (loads x) g = Leaves x tt × (g ≡ told (answerIn (answerPart (x .value))))
+Gives (stations x) g = Leaves x tt × (g ≡ told (answerIn (answerPart (x .value))))
+Gives (placed x) g = Leaves x tt × (g ≡ told (answerIn (answerPart (x .value))))
+Gives (dates x) g = Leaves x tt × (g ≡ told (answerIn (answerPart (x .value))))
+Gives (heights x) g = Leaves x tt × (g ≡ told (heightIn (x .value)))
+Gives (serieses x) g = (hs′ : List ℤ) × Leaves x (hs′, tt) × (g ≡ wrote (record { returned = answerIn (x .value); heights = hs′ }))
+Gives (searches x) g =
+    (ms′ : List ℕ) × (hs′ : List ℤ) × Leaves x (ms′, (hs′, tt)) × (g ≡ found (record { returned = turnsIn (x .value); minutes = ms′; heights = hs′ }))
+
+-- "Each later one gets the clock as the one before it returned or left it." What is done to the memory between two calls is the caller's.
+pub data Runs : Val → List Request → Type 2 where
+  done : {vc : Val} → Runs vc []
+  _then_ : {vc vc′ : Val} {q : Request} {qs : List Request} → Run vc q vc′ → Runs vc′ qs → Runs vc (q ∷ qs)
+
+-- what each run of a list gave, the first one first
+unfoldable pub GiveAll : {vc : Val} {qs : List Request} → Runs vc qs → List Gave → Type 1
+GiveAll done [] = Unit {1}
+GiveAll done (g ∷ gs) = ⊥ × Unit {1}
+GiveAll (_then_ x xs) [] = ⊥ × Unit {1}
+GiveAll (_then_ x xs) (g ∷ gs) = Gives x g × GiveAll xs gs

@@ -1,0 +1,51 @@
+-- The machine's values for what the clock's calls return, read: a struct by its fields, an enum by its tag, which stands first, and the
+-- fields behind it.
+-- Assumes nothing.
+use Prim.Native.Nat.{ℕ}
+use mathlib.Core.Bool.{false, cond}
+use mathlib.Core.List.{List, [], _∷_}
+use lib.Dec.{eqb}
+use lib.ListN.{getD}
+use mir.Fields.{getV}
+use mir.Syntax.{w64}
+use mir.Val.{Val, vunit, vbool, vint, vfloat, vptr, vstruct, asInt, asBool, toZ}
+use Rattle.calls.specs.Returned.{Returned, accepted, heightIs, turnsAre, refused}
+
+abbrev pub partIn : ℕ → Val → Val
+partIn k vunit = vunit
+partIn k (vbool t) = vunit
+partIn k (vint w n) = vunit
+partIn k (vfloat f x) = vunit
+partIn k (vptr b o) = vunit
+partIn k (vstruct vs) = getV vs k
+
+abbrev pub numberIn : Val → ℕ
+numberIn v = asInt 0 v (λ w n. n)
+
+abbrev pub byTag : Val → Returned → Returned → Returned
+byTag v first second = cond (eqb (numberIn (partIn 0 v)) 0) first second
+
+-- the tags of the refusals are their places in 01's two tables
+abbrev pub refusalNumbers : List ℕ
+refusalNumbers = 1 ∷ 2 ∷ 3 ∷ 4 ∷ 5 ∷ 6 ∷ 7 ∷ 8 ∷ 9 ∷ 10 ∷ 11 ∷ 21 ∷ 22 ∷ 23 ∷ []
+
+-- "A refusal returns its number and a place"
+abbrev pub refusedIn : Val → Returned
+refusedIn v = refused (getD refusalNumbers (numberIn (partIn 0 (partIn 1 v))) 0) (numberIn (partIn 2 v))
+
+abbrev pub answerIn : Val → Returned
+answerIn v = byTag v accepted (refusedIn v)
+
+abbrev pub heightIn : Val → Returned
+heightIn v = byTag v (heightIs (toZ w64 (numberIn (partIn 1 v)))) (refusedIn v)
+
+-- "returned: how many, and whether the first is high"
+abbrev pub turnsIn : Val → Returned
+turnsIn v = byTag v (turnsAre (numberIn (partIn 1 v)) (asBool false (partIn 2 v) (λ t. t))) (refusedIn v)
+
+-- what a call that gives the clock back returns: its answer, then the clock
+abbrev pub answerPart : Val → Val
+answerPart = partIn 0
+
+abbrev pub clockIn : Val → Val
+clockIn = partIn 1
