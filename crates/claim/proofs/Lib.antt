@@ -1,4 +1,4 @@
-mod Points
+pub mod Points
 mod Decided
 pub mod Near
 pub mod Controls

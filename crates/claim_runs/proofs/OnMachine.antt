@@ -1,0 +1,125 @@
+-- THE CLAIM, OF THE MACHINE (specs/OnMachine.antt): each run is a call of `Calls`, so the clock that it leaves holds what the document works
+-- out, and what it gives is what the document gives. Rests on each function's theorem (`Handing`) and on the claim's step for a call.
+-- Assumes nothing.
+use Prim.Native.Nat.{ℕ}
+use mathlib.Core.List.{List, [], _∷_}
+use mathlib.Core.Logic.{∥∥₁-map, ∥∥₁-elim, ∥∥₁-prop}
+use mathlib.Core.Path.{_≡_, sym, ap, subst, _∙_}
+use lib.IntN.{ℤ}
+use mir.Val.{Val}
+use prog.Routine.{Routine}
+use denote.Laws.{Is}
+use denote.Triple.Clauses.{Ended}
+use borrow.Fn.World.{w₀}
+use Rattle.calls.specs.Returned.{Returned}
+use Rattle.clock.specs.declared.Clock.{Clock}
+use Rattle.clock.specs.declared.After.{After}
+use Rattle.clock.specs.View as view
+use Rattle.clock.proofs.Clock as ClockType
+use Rattle.clock.proofs.After as AfterType
+use Rattle.clock.proofs.new as new
+use Rattle.clock.proofs.new.Symbol as newCode
+use Rattle.clock.proofs.new.Met as newMet
+use Rattle.clock.proofs.load_cards as load
+use Rattle.clock.proofs.load_cards.Symbol as loadCode
+use Rattle.clock.proofs.load_cards.Met as loadMet
+use Rattle.clock.proofs.set_station as station
+use Rattle.clock.proofs.set_station.Symbol as stationCode
+use Rattle.clock.proofs.set_station.Met as stationMet
+use Rattle.clock.proofs.place_station as placing
+use Rattle.clock.proofs.place_station.Symbol as placingCode
+use Rattle.clock.proofs.place_station.Met as placingMet
+use Rattle.clock.proofs.set_date as date
+use Rattle.clock.proofs.set_date.Symbol as dateCode
+use Rattle.clock.proofs.set_date.Met as dateMet
+use Rattle.clock.proofs.height as height
+use Rattle.clock.proofs.height.Symbol as heightCode
+use Rattle.clock.proofs.height.Met as heightMet
+use Rattle.clock.proofs.series as series
+use Rattle.clock.proofs.series.Symbol as seriesCode
+use Rattle.clock.proofs.series.Met as seriesMet
+use Rattle.clock.proofs.turns as turns
+use Rattle.clock.proofs.turns.Symbol as turnsCode
+use Rattle.clock.proofs.turns.Met as turnsMet
+use Rattle.claim.specs.Document.{Request, Gave, told, wrote, found, Last, nothing, after, gives, givesAll, EachNear}
+use Rattle.claim.specs.Calls as call
+use Rattle.claim.specs.Calls.{ClausesOf, Call}
+use Rattle.claim.proofs.Points.{near-calls}
+use Rattle.claim.proofs.Claim.{Agrees, new-agrees, call-agrees}
+use Rattle.claim_runs.specs.Handed.{Handed, value, Ran}
+use Rattle.claim_runs.specs.Values.{clockIn}
+use Rattle.claim_runs.specs.Runs.{Run, loads, stations, placed, dates, heights, serieses, searches, Gives, Started, Runs, done, _then_, GiveAll}
+use Rattle.claim_runs.specs.OnMachine.{OfAnyRuns}
+use Rattle.claim_runs.proofs.Lending.{Made}
+use Rattle.claim_runs.proofs.Ran.{Theorem}
+use Rattle.claim_runs.proofs.Handing.{Takes, Came, every-comes}
+use Rattle.claim_runs.proofs.Parameters.{clock-makes, rows-make, u32-makes, usize-makes, i32-makes, new-takes, load-takes, station-takes, placing-takes, date-takes, height-takes, series-takes, turns-takes}
+use Rattle.claim_runs.proofs.Values.{answer-reads, height-reads, turns-reads, after-reads, clock-is}
+
+-- a clock with the machine's value vc, whose state is what is worked out from l
+pub record Holds (vc : Val) (l : Last) : Type 0 where
+  pub clock : Clock
+  pub is : Is ClockType.the-row clock (vc ∷ [])
+  pub agrees : Agrees clock l
+
+module _ {vc : Val} (l : Last) (h : Holds vc l) where
+  -- a run of a function of the clock on this value
+  ran : (T : Ended) (C : ClausesOf T) (f : Routine) → Theorem T C f → (hs : List Handed) (takes : Takes T C (value ClockType.the-row (h .clock) vc ∷ hs) (view.Made (h .clock)))
+      → Made (w₀ .𝓤) (w₀ .H) (w₀ .𝓖 .A) hs → (x : Ran f (vc ∷ []) hs) → ∥ Came T C (value ClockType.the-row (h .clock) vc ∷ hs) takes (x .value) (x .left) (x .rest) ∥₁
+  ran T C f met hs takes make x =
+      every-comes T C (value ClockType.the-row (h .clock) vc ∷ hs) takes f met (clock-makes, make) (h .agrees .made) (h .is, x .fit) (x .before) (x .rest) (x .lent) (x .routine) (x .below) (x .value) (x .left) (x .run)
+
+  -- what a call gives is what the document gives; it leaves another clock, in what it returns, or the one that it got
+  left-anew : {q : Request} {g : Gave} {v : Val} (r : After) → Is AfterType.the-row r (v ∷ []) → Call (h .clock) q g (r .clock) → ∥ ((gives l q ≡ g) × Holds (clockIn v) (after l q)) ∥₁
+  left-anew r is k = ∥∥₁-map (call-agrees l (h .agrees) k) (λ a. (sym (a .0), record { clock = r .clock; is = clock-is r _ is; agrees = a .1 }))
+
+  left-same : {q : Request} {g : Gave} → Call (h .clock) q g (h .clock) → ∥ ((gives l q ≡ g) × Holds vc (after l q)) ∥₁
+  left-same k = ∥∥₁-map (call-agrees l (h .agrees) k) (λ a. (sym (a .0), record { clock = h .clock; is = h .is; agrees = a .1 }))
+
+  -- a run gives what the document gives, and leaves a clock that holds what is worked out after it
+  run-gives : {vc′ : Val} {q : Request} (x : Run vc q vc′) → ∥ (Gives x (gives l q) × Holds vc′ (after l q)) ∥₁
+  unfolding Gives load-takes station-takes placing-takes date-takes height-takes series-takes turns-takes
+  run-gives (loads {file = file} {q = q} {b = b} {o = o} x) =
+      ∥∥₁-elim (ran load.ended (λ M. load.clauses) loadCode.routine (λ M. loadMet.met) _ (load-takes (h .clock) vc file q b o) tt x) ∥∥₁-prop (λ k.
+      ∥∥₁-map (left-anew (k .result) (k .is) (call.loads (k .once))) (λ a. ((k .leaves, a .0 ∙ ap told (sym (after-reads (k .result) (x .value) (k .is)))), a .1)))
+  run-gives (stations {latitude = latitude} {vl = vl} {records = records} {q = q} {b = b} {o = o} x) =
+      ∥∥₁-elim (ran station.ended (λ M. station.clauses) stationCode.routine (λ M. stationMet.met) _ (station-takes (h .clock) vc latitude vl records q b o) (i32-makes, tt) x) ∥∥₁-prop (λ k.
+      ∥∥₁-map (left-anew (k .result) (k .is) (call.stations (k .once))) (λ a. ((k .leaves, a .0 ∙ ap told (sym (after-reads (k .result) (x .value) (k .is)))), a .1)))
+  run-gives (placed {latitude = latitude} {n = n} {rows = rows} {vl = vl} {vn = vn} {vr = vr} x) =
+      ∥∥₁-elim (ran placing.ended (λ M. placing.clauses) placingCode.routine (λ M. placingMet.met) _ (placing-takes (h .clock) vc latitude n rows vl vn vr) (i32-makes, (usize-makes, (rows-make, tt))) x) ∥∥₁-prop (λ k.
+      ∥∥₁-map (left-anew (k .result) (k .is) (call.placed (k .once))) (λ a. ((k .leaves, a .0 ∙ ap told (sym (after-reads (k .result) (x .value) (k .is)))), a .1)))
+  run-gives (dates {year = year} {month = month} {vy = vy} {vm = vm} x) =
+      ∥∥₁-elim (ran date.ended (λ M. date.clauses) dateCode.routine (λ M. dateMet.met) _ (date-takes (h .clock) vc year month vy vm) (u32-makes, (u32-makes, tt)) x) ∥∥₁-prop (λ k.
+      ∥∥₁-map (left-anew (k .result) (k .is) (call.dates (k .once))) (λ a. ((k .leaves, a .0 ∙ ap told (sym (after-reads (k .result) (x .value) (k .is)))), a .1)))
+  run-gives (heights {minute = minute} {vm = vm} x) =
+      ∥∥₁-elim (ran height.ended (λ M. height.clauses) heightCode.routine (λ M. heightMet.met) _ (height-takes (h .clock) vc minute vm) (u32-makes, tt) x) ∥∥₁-prop (λ k.
+      ∥∥₁-map (left-same (call.heights (k .once))) (λ a. ((k .leaves, a .0 ∙ ap told (sym (height-reads (k .result) (x .value) (k .is)))), a .1)))
+  run-gives (serieses {start = start} {step = step} {vs = vs} {vt = vt} {hs = hs} {b = b} {o = o} x) =
+      ∥∥₁-elim (ran series.ended (λ M. series.clauses) seriesCode.routine (λ M. seriesMet.met) _ (series-takes (h .clock) vc start step vs vt hs b o) (u32-makes, (u32-makes, tt)) x) ∥∥₁-prop (λ k.
+      let hs′ : List ℤ = k .last .1 .1 .1 .0 in
+      ∥∥₁-map (left-same (call.serieses (k .once))) (λ a.
+      ((hs′, k .leaves, a .0 ∙ ap (λ (r : Returned). wrote (record { returned = r; heights = hs′ })) (sym (answer-reads (k .result) (x .value) (k .is)))), a .1)))
+  run-gives (searches {first = first} {last = last} {vf = vf} {vl = vl} {ms = ms} {b = b} {o = o} {hs = hs} {b₁ = b₁} {o₁ = o₁} x) =
+      ∥∥₁-elim (ran turns.ended (λ M. turns.clauses) turnsCode.routine (λ M. turnsMet.met) _ (turns-takes (h .clock) vc first last vf vl ms b o hs b₁ o₁) (u32-makes, (u32-makes, tt)) x) ∥∥₁-prop (λ k.
+      let ms′ : List ℕ = k .last .1 .1 .1 .0 in
+      let hs′ : List ℤ = k .last .1 .1 .1 .1 .0 in
+      ∥∥₁-map (left-same (call.searches (k .once))) (λ a.
+      ((ms′, hs′, k .leaves, a .0 ∙ ap (λ (r : Returned). found (record { returned = r; minutes = ms′; heights = hs′ })) (sym (turns-reads (k .result) (x .value) (k .is)))), a .1)))
+
+runs-give : {vc : Val} {qs : List Request} (l : Last) → Holds vc l → (xs : Runs vc qs) → ∥ GiveAll xs (givesAll l qs) ∥₁
+unfolding givesAll GiveAll
+runs-give l h done = ∣ tt ∣₁
+runs-give l h (_then_ {q = q} x xs) = ∥∥₁-elim (run-gives l h x) ∥∥₁-prop (λ k. ∥∥₁-map (runs-give (after l q) (k .1) xs) (λ all. (k .0, all)))
+
+-- the value that `new` returned holds nothing
+new-holds : {vc : Val} → Started vc → ∥ Holds vc nothing ∥₁
+unfolding new-takes
+new-holds {vc} s =
+    let x : Ran newCode.routine [] [] = s .ran in
+    ∥∥₁-elim (every-comes new.ended (λ M. new.clauses) [] new-takes newCode.routine (λ M. newMet.met) tt tt tt (x .before) (x .rest) (x .lent) (x .routine) (x .below) (x .value) (x .left) (x .run)) ∥∥₁-prop (λ k.
+    ∥∥₁-map (new-agrees (call.news (k .once))) (λ a.
+    record { clock = k .result; is = subst (λ (v : Val). Is ClockType.the-row (k .result) (v ∷ [])) (s .value-is) (k .is); agrees = a }))
+
+pub on-machine : OfAnyRuns
+on-machine vc started qs xs =
+    record { exactly = ∥∥₁-elim (new-holds started) ∥∥₁-prop (λ h. runs-give nothing h xs); near = near-calls nothing qs }

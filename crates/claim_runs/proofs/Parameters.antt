@@ -1,0 +1,162 @@
+-- The parameters of the clock's functions are what is handed over to their routines, clock first: each by computing. Assumes nothing.
+use Prim.Native.Nat.{ℕ}
+use mathlib.Core.List.{List, [], _∷_}
+use mathlib.Core.Path.{refl}
+use lib.IntN.{ℤ}
+use mir.Syntax.{w32, w64}
+use mir.Val.{Val}
+use base.Logic.{id⊢, monoR, emp}
+use base.Fml.{Share}
+use contract.Monad.{top, fact}
+use denote.Builtin.{u8, u32, i32, i64, usize}
+use denote.Laws.{Is, Makes}
+use denote.Plain.{uint-makes}
+use denote.Signed.{sint-makes}
+use denote.Struct.Laws as LL
+use borrow.Fn.World.{w₀}
+use Rattle.station.specs.declared.records.Record.{Record}
+use Rattle.station.specs.declared.records.Rows.{Rows}
+use Rattle.station.proofs.records.Record as RecordType
+use Rattle.station.proofs.records.Rows as RowsType
+use Rattle.station.proofs.records.Rows.Laws as RowsLaws
+use Rattle.clock.specs.declared.Clock.{Clock}
+use Rattle.clock.specs.View.{Made}
+use Rattle.clock.proofs.Clock as ClockType
+use Rattle.clock.proofs.Clock.Laws as ClockLaws
+use Rattle.clock.proofs.new as new
+use Rattle.clock.proofs.load_cards as load
+use Rattle.clock.proofs.set_station as station
+use Rattle.clock.proofs.place_station as placing
+use Rattle.clock.proofs.set_date as date
+use Rattle.clock.proofs.height as height
+use Rattle.clock.proofs.series as series
+use Rattle.clock.proofs.turns as turns
+use Rattle.claim_runs.specs.Handed.{_∗_, Handed, value, reads, writes}
+use Rattle.claim_runs.proofs.Lending.{lifetimes, wholes, denotes, valuesOf}
+use Rattle.claim_runs.proofs.Handing.{W₀, Takes}
+
+-- ---- values are had for nothing
+
+pub clock-makes : Makes (w₀ .𝓤) (w₀ .H) (w₀ .𝓖 .A) ClockType.the-row (Is ClockType.the-row)
+clock-makes = LL.makes ClockType.the-type ClockLaws.the-plain (w₀ .𝓤) (w₀ .H) (w₀ .𝓖 .A)
+
+pub rows-make : Makes (w₀ .𝓤) (w₀ .H) (w₀ .𝓖 .A) RowsType.the-row (Is RowsType.the-row)
+rows-make = LL.makes RowsType.the-type RowsLaws.the-plain (w₀ .𝓤) (w₀ .H) (w₀ .𝓖 .A)
+
+pub u32-makes : Makes (w₀ .𝓤) (w₀ .H) (w₀ .𝓖 .A) u32 (Is u32)
+u32-makes = uint-makes (w₀ .𝓤) (w₀ .H) (w₀ .𝓖 .A) W₀ w32
+
+pub usize-makes : Makes (w₀ .𝓤) (w₀ .H) (w₀ .𝓖 .A) usize (Is usize)
+usize-makes = uint-makes (w₀ .𝓤) (w₀ .H) (w₀ .𝓖 .A) W₀ w64
+
+pub i32-makes : Makes (w₀ .𝓤) (w₀ .H) (w₀ .𝓖 .A) i32 (Is i32)
+i32-makes = sint-makes (w₀ .𝓤) (w₀ .H) (w₀ .𝓖 .A) W₀ w32
+
+-- ---- each function
+
+unfoldable pub new-takes : Takes new.ended (λ M. new.clauses) [] (Unit {0})
+new-takes =
+    record {
+      entry = λ ns. (tt, tt, tt, tt, tt);
+      bound = λ ns w. tt;
+      passes = λ ns. refl;
+      asks = λ ns. monoR (w₀ .𝓤) (emp (w₀ .𝓤) ∗ emp (w₀ .𝓤)) {Q = fact (w₀ .𝓤) (Unit {0})} (top (w₀ .𝓤) (fact (w₀ .𝓤) (Unit {0})));
+      writes = λ ns ws. tt;
+      says = λ ns ws. id⊢ (w₀ .𝓤) _;
+      alive-is = λ ns. id⊢ (w₀ .𝓤) _;
+    }
+
+module _ (c : Clock) (vc : Val) where
+  abbrev clock : Handed
+  clock = value ClockType.the-row c vc
+
+  unfoldable pub load-takes : (file : List ℕ) (q : Share) (b o : ℕ) → Takes load.ended (λ M. load.clauses) (clock ∷ reads u8 q file b o ∷ []) (Made c)
+  load-takes file q b o =
+      let all : List Handed = clock ∷ reads u8 q file b o ∷ [] in
+      record {
+        entry = λ ns. (lifetimes all ns, wholes all, tt, denotes 0 all ns, valuesOf 0 all ns);
+        bound = λ ns w. tt;
+        passes = λ ns. refl;
+        asks = λ ns. id⊢ (w₀ .𝓤) _;
+        writes = λ ns ws. tt;
+        says = λ ns ws. id⊢ (w₀ .𝓤) _;
+        alive-is = λ ns. id⊢ (w₀ .𝓤) _;
+      }
+
+  unfoldable pub station-takes : (latitude : ℤ) (vl : Val) (records : List Record) (q : Share) (b o : ℕ) → Takes station.ended (λ M. station.clauses) (clock ∷ value i32 latitude vl ∷ reads RecordType.the-row q records b o ∷ []) (Made c)
+  station-takes latitude vl records q b o =
+      let all : List Handed = clock ∷ value i32 latitude vl ∷ reads RecordType.the-row q records b o ∷ [] in
+      record {
+        entry = λ ns. (lifetimes all ns, wholes all, tt, denotes 0 all ns, valuesOf 0 all ns);
+        bound = λ ns w. tt;
+        passes = λ ns. refl;
+        asks = λ ns. id⊢ (w₀ .𝓤) _;
+        writes = λ ns ws. tt;
+        says = λ ns ws. id⊢ (w₀ .𝓤) _;
+        alive-is = λ ns. id⊢ (w₀ .𝓤) _;
+      }
+
+  unfoldable pub placing-takes : (latitude : ℤ) (n : ℕ) (rows : Rows) (vl vn vr : Val) → Takes placing.ended (λ M. placing.clauses) (clock ∷ value i32 latitude vl ∷ value usize n vn ∷ value RowsType.the-row rows vr ∷ []) (Made c)
+  placing-takes latitude n rows vl vn vr =
+      let all : List Handed = clock ∷ value i32 latitude vl ∷ value usize n vn ∷ value RowsType.the-row rows vr ∷ [] in
+      record {
+        entry = λ ns. (lifetimes all ns, wholes all, tt, denotes 0 all ns, valuesOf 0 all ns);
+        bound = λ ns w. tt;
+        passes = λ ns. refl;
+        asks = λ ns. id⊢ (w₀ .𝓤) _;
+        writes = λ ns ws. tt;
+        says = λ ns ws. id⊢ (w₀ .𝓤) _;
+        alive-is = λ ns. id⊢ (w₀ .𝓤) _;
+      }
+
+  unfoldable pub date-takes : (year month : ℕ) (vy vm : Val) → Takes date.ended (λ M. date.clauses) (clock ∷ value u32 year vy ∷ value u32 month vm ∷ []) (Made c)
+  date-takes year month vy vm =
+      let all : List Handed = clock ∷ value u32 year vy ∷ value u32 month vm ∷ [] in
+      record {
+        entry = λ ns. (lifetimes all ns, wholes all, tt, denotes 0 all ns, valuesOf 0 all ns);
+        bound = λ ns w. tt;
+        passes = λ ns. refl;
+        asks = λ ns. id⊢ (w₀ .𝓤) _;
+        writes = λ ns ws. tt;
+        says = λ ns ws. id⊢ (w₀ .𝓤) _;
+        alive-is = λ ns. id⊢ (w₀ .𝓤) _;
+      }
+
+  unfoldable pub height-takes : (minute : ℕ) (vm : Val) → Takes height.ended (λ M. height.clauses) (clock ∷ value u32 minute vm ∷ []) (Made c)
+  height-takes minute vm =
+      let all : List Handed = clock ∷ value u32 minute vm ∷ [] in
+      record {
+        entry = λ ns. (lifetimes all ns, wholes all, tt, denotes 0 all ns, valuesOf 0 all ns);
+        bound = λ ns w. tt;
+        passes = λ ns. refl;
+        asks = λ ns. id⊢ (w₀ .𝓤) _;
+        writes = λ ns ws. tt;
+        says = λ ns ws. id⊢ (w₀ .𝓤) _;
+        alive-is = λ ns. id⊢ (w₀ .𝓤) _;
+      }
+
+  unfoldable pub series-takes : (start step : ℕ) (vs vt : Val) (hs : List ℤ) (b o : ℕ) → Takes series.ended (λ M. series.clauses) (clock ∷ value u32 start vs ∷ value u32 step vt ∷ writes i64 hs b o ∷ []) (Made c)
+  series-takes start step vs vt hs b o =
+      let all : List Handed = clock ∷ value u32 start vs ∷ value u32 step vt ∷ writes i64 hs b o ∷ [] in
+      record {
+        entry = λ ns. (lifetimes all ns, wholes all, tt, denotes 0 all ns, valuesOf 0 all ns);
+        bound = λ ns w. tt;
+        passes = λ ns. refl;
+        asks = λ ns. id⊢ (w₀ .𝓤) _;
+        writes = λ ns ws. (ws .1 .1 .1 .0, tt);
+        says = λ ns ws. id⊢ (w₀ .𝓤) _;
+        alive-is = λ ns. id⊢ (w₀ .𝓤) _;
+      }
+
+  unfoldable pub turns-takes : (first last : ℕ) (vf vl : Val) (ms : List ℕ) (b o : ℕ) (hs : List ℤ) (b₁ o₁ : ℕ) → Takes turns.ended (λ M. turns.clauses) (clock ∷ value u32 first vf ∷ value u32 last vl ∷ writes u32 ms b o ∷ writes i64 hs b₁ o₁ ∷ []) (Made c)
+  turns-takes first last vf vl ms b o hs b₁ o₁ =
+      let all : List Handed = clock ∷ value u32 first vf ∷ value u32 last vl ∷ writes u32 ms b o ∷ writes i64 hs b₁ o₁ ∷ [] in
+      record {
+        entry = λ ns. (lifetimes all ns, wholes all, tt, denotes 0 all ns, valuesOf 0 all ns);
+        bound = λ ns w. tt;
+        passes = λ ns. refl;
+        asks = λ ns. id⊢ (w₀ .𝓤) _;
+        writes = λ ns ws. (ws .1 .1 .1 .0, (ws .1 .1 .1 .1 .0, tt));
+        says = λ ns ws. id⊢ (w₀ .𝓤) _;
+        alive-is = λ ns. id⊢ (w₀ .𝓤) _;
+      }

@@ -1,0 +1,85 @@
+-- What is read off a machine's value is what its answer says, so a value stands for one answer: by the cases of the answer.
+-- Assumes nothing.
+use mathlib.Core.Path.{_≡_, refl, sym, ap, subst, _∙_}
+use Prim.Native.Nat.{ℕ}
+use mathlib.Core.List.{List, [], _∷_}
+use lib.ListN.{getD}
+use mir.Syntax.{w64}
+use mir.Val.{Val, vunit}
+use mir.ValLaws.{toZ-ofZ}
+use denote.Laws.{Is}
+use Rattle.refusals.specs.Outcome.{numberOf}
+use Rattle.refusals.specs.declared.Answer.{Answer}
+use Rattle.refusals.specs.declared.Answer.the-variants as answer
+use Rattle.refusals.specs.declared.Refusal.{Refusal}
+use Rattle.refusals.specs.declared.Refusal.the-variants.{BadLine, Malformed, OutOfRange, BadName, Missing, TooMany, Ended, BadDate, BadMinutes, TooManyTurns, TooLarge, NoTable, NoStation, NoMonth}
+use Rattle.refusals.proofs.Answer as AnswerType
+use Rattle.refusals.proofs.Answer.Laws as AnswerLaws
+use Rattle.refusals.proofs.Refusal.Laws as RefusalLaws
+use Rattle.calls.specs.Returned.{heightIs, refused, answerReturned}
+use Rattle.clock.specs.declared.After.{After}
+use Rattle.clock.specs.declared.HeightAnswer.{HeightAnswer}
+use Rattle.clock.specs.declared.HeightAnswer.the-variants as height
+use Rattle.clock.specs.declared.TurnsAnswer.{TurnsAnswer}
+use Rattle.clock.specs.declared.TurnsAnswer.the-variants as turns
+use Rattle.clock.specs.Returned.{heightReturned, turnsReturned}
+use Rattle.clock.proofs.Clock as ClockType
+use Rattle.clock.proofs.Clock.Laws as ClockLaws
+use Rattle.clock.proofs.After as AfterType
+use Rattle.clock.proofs.After.Laws as AfterLaws
+use Rattle.clock.proofs.HeightAnswer as HeightAnswerType
+use Rattle.clock.proofs.HeightAnswer.Laws as HeightAnswerLaws
+use Rattle.clock.proofs.TurnsAnswer as TurnsAnswerType
+use Rattle.clock.proofs.TurnsAnswer.Laws as TurnsAnswerLaws
+use Rattle.claim_runs.specs.Values.{partIn, numberIn, refusalNumbers, answerIn, heightIn, turnsIn, answerPart, clockIn}
+
+abbrev first : List Val → Val
+first [] = vunit
+first (v ∷ vs) = v
+
+refusal-reads : (r : Refusal) → getD refusalNumbers (numberIn (partIn 0 (RefusalLaws.lowered r))) 0 ≡ numberOf r
+refusal-reads BadLine = refl
+refusal-reads Malformed = refl
+refusal-reads OutOfRange = refl
+refusal-reads BadName = refl
+refusal-reads Missing = refl
+refusal-reads TooMany = refl
+refusal-reads Ended = refl
+refusal-reads BadDate = refl
+refusal-reads BadMinutes = refl
+refusal-reads TooManyTurns = refl
+refusal-reads TooLarge = refl
+refusal-reads NoTable = refl
+refusal-reads NoStation = refl
+refusal-reads NoMonth = refl
+
+answer-lowered : (r : Answer) → answerIn (AnswerLaws.lowered r) ≡ answerReturned r
+answer-lowered answer.Accepted = refl
+answer-lowered (answer.Refused r place) = ap (λ (n : ℕ). refused n place) (refusal-reads r)
+
+pub answer-reads : (r : Answer) (v : Val) → Is AnswerType.the-row r (v ∷ []) → answerIn v ≡ answerReturned r
+answer-reads r v is = ap (λ (vs : List Val). answerIn (first vs)) (AnswerLaws.lowers .val-is r (v ∷ []) is) ∙ answer-lowered r
+
+height-lowered : (r : HeightAnswer) (v : Val) → Is HeightAnswerType.the-row r (v ∷ []) → heightIn (HeightAnswerLaws.lowered r) ≡ heightReturned r
+height-lowered (height.Height h) v is = ap heightIs (toZ-ofZ w64 h (record { sfits = is .1 .1 .1 .1 .0 .1 }))
+height-lowered (height.Refused r place) v is = ap (λ (n : ℕ). refused n place) (refusal-reads r)
+
+pub height-reads : (r : HeightAnswer) (v : Val) → Is HeightAnswerType.the-row r (v ∷ []) → heightIn v ≡ heightReturned r
+height-reads r v is = ap (λ (vs : List Val). heightIn (first vs)) (HeightAnswerLaws.lowers .val-is r (v ∷ []) is) ∙ height-lowered r v is
+
+turns-lowered : (r : TurnsAnswer) → turnsIn (TurnsAnswerLaws.lowered r) ≡ turnsReturned r
+turns-lowered (turns.Turns count high) = refl
+turns-lowered (turns.Refused r place) = ap (λ (n : ℕ). refused n place) (refusal-reads r)
+
+pub turns-reads : (r : TurnsAnswer) (v : Val) → Is TurnsAnswerType.the-row r (v ∷ []) → turnsIn v ≡ turnsReturned r
+turns-reads r v is = ap (λ (vs : List Val). turnsIn (first vs)) (TurnsAnswerLaws.lowers .val-is r (v ∷ []) is) ∙ turns-lowered r
+
+pub after-reads : (r : After) (v : Val) → Is AfterType.the-row r (v ∷ []) → answerIn (answerPart v) ≡ answerReturned (r .answer)
+after-reads r v is = ap (λ (vs : List Val). answerIn (answerPart (first vs))) (AfterLaws.lowers .val-is r (v ∷ []) is) ∙ answer-lowered (r .answer)
+
+-- the clock in an `After`'s value is the machine's value of its clock
+pub clock-is : (r : After) (v : Val) → Is AfterType.the-row r (v ∷ []) → Is ClockType.the-row (r .clock) (clockIn v ∷ [])
+clock-is r v is =
+    let here : Is ClockType.the-row (r .clock) (ClockLaws.lowered (r .clock) ∷ []) =
+    subst (Is ClockType.the-row (r .clock)) (ClockLaws.lowers .val-is (r .clock) (is .0 .1 .0) (is .1 .1 .1 .0)) (is .1 .1 .1 .0) in
+    subst (λ (u : Val). Is ClockType.the-row (r .clock) (u ∷ [])) (sym (ap (λ (vs : List Val). clockIn (first vs)) (AfterLaws.lowers .val-is r (v ∷ []) is))) here
