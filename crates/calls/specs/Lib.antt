@@ -2,4 +2,5 @@ pub mod State
 pub mod Returned
 pub mod Calls
 pub mod Asked
+pub mod Names
 pub mod inner

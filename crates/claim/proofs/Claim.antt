@@ -17,12 +17,14 @@ use Rattle.station.specs.Records.{recordsOf}
 use Rattle.clock.specs.declared.Clock.{Clock}
 use Rattle.calls.specs.State as state
 use Rattle.calls.specs.State.{State, some, none}
+use Rattle.columns.specs.Names.{namesFrom}
+use Rattle.calls.specs.Names.{namesIn}
 use Rattle.calls.specs.Returned.{Returned, accepted, heightIs, turnsAre, refused, onAccepted, answerReturned}
 use Rattle.calls.specs.Calls.{cardsReturns, cardsLeaves, fileReturns, fileLeaves, stationReturns, stationLeaves, dateReturns, dateLeaves, heightReturns, seriesGives, turnsGives}
 use Rattle.clock.specs.View.{view, Made}
 use Rattle.clock.specs.Posts.{NewPost, CardsPost, StationPost, DatePost, HeightPost, SeriesPost, TurnsPost}
-use Rattle.claim.specs.Calls.{Keeps, New, news, Call, loads, stations, placed, dates, heights, serieses, searches, Calls, done, _then_}
-use Rattle.claim.specs.Document.{Request, Cards, Station, Date, Gave, told, wrote, found, Last, nothing, workedOut, after, gives, givesAll, lastAfter, EachNear}
+use Rattle.claim.specs.Calls.{Keeps, New, news, Call, loads, stations, placed, dates, heights, serieses, searches, hands, Calls, done, _then_}
+use Rattle.claim.specs.Document.{Request, Cards, Station, Date, Gave, told, wrote, found, named, Last, nothing, workedOut, after, gives, givesAll, lastAfter, EachNear}
 use Rattle.claim.specs.Claim.{Claim, OfAnyCalls}
 use Rattle.claim.proofs.Points.{near-calls}
 use Rattle.claim.proofs.Decided.{same-once}
@@ -107,6 +109,9 @@ call-agrees l h (serieses {c = c} {start = start} {step = step} {before = hs} {a
 call-agrees l h (searches {c = c} {first = first} {last = last} {ms = ms} {hs = hs} {ms′ = ms′} {hs′ = hs′} {r = r} x) =
     ∥∥₁-map (holds {φ = Made c} {ψ = TurnsPost c first last (now ms) ms′ (now hs) hs′ r} (x .contract) (h .made)) (λ p.
     (ap found (p .gives ∙ ap (λ (k : State). turnsGives k first last (now ms) (now hs)) (h .keeps)), h))
+call-agrees l h (hands {c = c} {r = r} x) =
+    ∥∥₁-map (holds {φ = Made c} {ψ = namesFrom (r .bytes) 0 (r .count) ≡ namesIn (view c)} (x .contract) (h .made)) (λ p.
+    (ap named (p ∙ ap namesIn (h .keeps)), h))
 
 calls-agree : {c c′ : Clock} {qs : List Request} {gs : List Gave} (l : Last) → Agrees c l → Calls c qs gs c′ → ∥ ((gs ≡ givesAll l qs) × Agrees c′ (lastAfter l qs)) ∥₁
 unfolding givesAll lastAfter

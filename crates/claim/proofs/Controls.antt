@@ -15,6 +15,7 @@ use Rattle.refusals.specs.declared.Answer.{Answer}
 use Rattle.refusals.specs.declared.Answer.the-variants.{Refused}
 use Rattle.refusals.specs.declared.Refusal.the-variants.{NoTable, Ended}
 use Rattle.columns.specs.Lines.{linesOf}
+use Rattle.columns.specs.Names.{namesFrom}
 use Rattle.card_frequencies.specs.Frequencies.{frequenciesFrom}
 use Rattle.card_file.specs.Cards.{readCards}
 use Rattle.station.specs.declared.records.Record.{Record}
@@ -26,13 +27,16 @@ use Rattle.clock.specs.declared.HeightAnswer.{HeightAnswer}
 use Rattle.clock.specs.declared.HeightAnswer.the-variants as height
 use Rattle.clock.specs.declared.TurnsAnswer.{TurnsAnswer}
 use Rattle.clock.specs.declared.TurnsAnswer.the-variants as turns
+use Rattle.clock.specs.declared.TableNames.{TableNames}
+use Rattle.clock.specs.View.{view}
 use Rattle.calls.specs.State.{State}
+use Rattle.calls.specs.Names.{namesIn}
 use Rattle.calls.specs.Returned.{refused, answerReturned}
 use Rattle.clock.specs.Returned.{heightReturned, turnsReturned}
 use Rattle.calls.specs.Calls.{cardsReturns, cardsLeaves, stationReturns, stationLeaves, dateReturns, dateLeaves, heightReturns, seriesGives, turnsGives}
 use Rattle.clock.specs.Posts.{NewPost, CardsPost, StationPost, DatePost, HeightPost, SeriesPost, TurnsPost}
-use Rattle.claim.specs.Document.{Cards, Station, Date, Height, Series, Turns, told, wrote, found}
-use Rattle.claim.specs.Calls.{Keeps, New, news, Call, loads, stations, placed, dates, heights, serieses, searches, Calls, done, _then_}
+use Rattle.claim.specs.Document.{Cards, Station, Date, Height, Series, Turns, Names, told, wrote, found, named}
+use Rattle.claim.specs.Calls.{Keeps, New, news, Call, loads, stations, placed, dates, heights, serieses, searches, hands, Calls, done, _then_}
 use Rattle.claim.specs.Controls.{Controls, eachKind, eachRefused}
 
 -- Wherever some memory satisfies what a call's `ensures` says, in the closed model, the call keeps its contract in the sense of `Calls`.
@@ -116,8 +120,11 @@ turns-there : (c : Clock) (first last : ℕ) (ms ms′ : List ℕ) (hs hs′ : L
 turns-there c first last ms ms′ hs hs′ answer p =
     searches {κs = ([], ([], tt))} {ms = lent ms} {hs = lent hs} (record { bound = λ w. tt; contract = kept _ (TurnsPost c first last ms ms′ hs hs′ answer) p })
 
+names-there : (c : Clock) (r : TableNames) → namesFrom (r .bytes) 0 (r .count) ≡ namesIn (view c) → Call c Names (named (namesFrom (r .bytes) 0 (r .count))) c
+names-there c r p = hands (record { bound = λ w. tt; contract = kept _ (namesFrom (r .bytes) 0 (r .count) ≡ namesIn (view c)) p })
+
 each-kind : (c : Clock) → NewPost c → Calls c eachKind eachRefused c
-unfolding heightReturns seriesGives turnsGives recordsFrom
+unfolding heightReturns seriesGives turnsGives recordsFrom namesFrom
 each-kind c p =
     _then_ (cards-there c c [] (Refused Ended 1) (record { made = p .made; returns = sym no-file; leaves = sym (no-file-leaves _) }))
     (_then_ (station-there c c (pos 0) [] (Refused NoTable 0) (no-station c (pos 0) [] p))
@@ -126,7 +133,8 @@ each-kind c p =
     (_then_ (height-there c 0 (height.Refused NoTable 0) (record { returns = sym (ap (λ (k : State). heightReturns k 0) (p .leaves)) }))
     (_then_ (series-there c 0 1 (pos 5 ∷ []) (pos 5 ∷ []) (Refused NoTable 0) (record { gives = sym (ap (λ (k : State). seriesGives k 0 1 (pos 5 ∷ [])) (p .leaves)) }))
     (_then_ (turns-there c 0 1 (9 ∷ []) (9 ∷ []) (pos 5 ∷ []) (pos 5 ∷ []) (turns.Refused NoTable 0)
-    (record { gives = sym (ap (λ (k : State). turnsGives k 0 1 (9 ∷ []) (pos 5 ∷ [])) (p .leaves)) })) done))))))
+    (record { gives = sym (ap (λ (k : State). turnsGives k 0 1 (9 ∷ []) (pos 5 ∷ [])) (p .leaves)) }))
+    (_then_ (names-there c (record { count = 0; bytes = [] }) (sym (ap namesIn (p .leaves)))) done)))))))
 
 pub controls : Controls
 controls =
@@ -139,5 +147,6 @@ controls =
       height = height-there;
       series = series-there;
       turns = turns-there;
+      names = names-there;
       each-kind = each-kind;
     }

@@ -8,7 +8,7 @@ use mathlib.Core.HLevel.{Discrete, hedberg, ×-discrete}
 use native.Mathlib.Decide.{ℕ-discrete}
 use lib.IntN.{ℤ, pos, negsuc, natAbs, ℤ-discrete}
 use Rattle.calls.specs.Returned.{Returned, accepted, heightIs, turnsAre, refused}
-use Rattle.claim.specs.Document.{Gave, told, wrote, found}
+use Rattle.claim.specs.Document.{Gave, told, wrote, found, named}
 
 -- what has a code that can be read back can be told apart where the codes can
 coded : {A B : Type 0} (code : A → B) (read : B → A) → ((a : A) → read (code a) ≡ a) → Discrete B → Discrete A
@@ -50,30 +50,33 @@ returned-back (turnsAre count false) = refl
 returned-discrete : Discrete Returned
 returned-discrete = coded returned-code returned-read returned-back (List-discrete ℤ-discrete)
 
--- ---- what a call gives: which kind it is, what it returns, and its two buffers
+-- ---- what a call gives: which kind it is, what it returns, its two buffers, and the names
 
 abbrev Code : Type 0
-Code = ℕ × (Returned × (List ℕ × List ℤ))
+Code = ℕ × (Returned × (List ℕ × (List ℤ × List (List ℕ))))
 
 abbrev gave-code : Gave → Code
-gave-code (told r) = (0, (r, ([], [])))
-gave-code (wrote s) = (1, (s .returned, ([], s .heights)))
-gave-code (found t) = (2, (t .returned, (t .minutes, t .heights)))
+gave-code (told r) = (0, (r, ([], ([], []))))
+gave-code (wrote s) = (1, (s .returned, ([], (s .heights, []))))
+gave-code (found t) = (2, (t .returned, (t .minutes, (t .heights, []))))
+gave-code (named names) = (3, (accepted, ([], ([], names))))
 
 abbrev gave-read : Code → Gave
-gave-read (zero, (r, (ms, hs))) = told r
-gave-read (suc zero, (r, (ms, hs))) = wrote (record { returned = r; heights = hs })
-gave-read (suc (suc n), (r, (ms, hs))) = found (record { returned = r; minutes = ms; heights = hs })
+gave-read (zero, (r, (ms, (hs, ns)))) = told r
+gave-read (suc zero, (r, (ms, (hs, ns)))) = wrote (record { returned = r; heights = hs })
+gave-read (suc (suc zero), (r, (ms, (hs, ns)))) = found (record { returned = r; minutes = ms; heights = hs })
+gave-read (suc (suc (suc n)), (r, (ms, (hs, ns)))) = named ns
 
 gave-back : (g : Gave) → gave-read (gave-code g) ≡ g
 gave-back (told r) = refl
 gave-back (wrote s) = refl
 gave-back (found t) = refl
+gave-back (named names) = refl
 
 gave-discrete : Discrete Gave
 gave-discrete =
     coded gave-code gave-read gave-back
-    (×-discrete ℕ-discrete (×-discrete returned-discrete (×-discrete (List-discrete ℕ-discrete) (List-discrete ℤ-discrete))))
+    (×-discrete ℕ-discrete (×-discrete returned-discrete (×-discrete (List-discrete ℕ-discrete) (×-discrete (List-discrete ℤ-discrete) (List-discrete (List-discrete ℕ-discrete))))))
 
 -- to have given the same is a proposition
 pub same-once : (gs hs : List Gave) → IsProp (gs ≡ hs)

@@ -17,7 +17,7 @@ use Rattle.calls.specs.State as state
 use Rattle.calls.specs.State.{Maybe}
 use Rattle.calls.specs.Returned.{Returned, accepted, heightIs, turnsAre, refused}
 use Rattle.calls.specs.Calls.{TurnsGiven, turnsGives}
-use Rattle.claim.specs.Document.{Request, Turns, Gave, told, wrote, found, Last, nothing, workedOut, after, gives, givesAll, lastAfter, Point, pointsFrom, pointsOf, points, constituentsOf, AllNear, nil, cons, EachNear, end, next}
+use Rattle.claim.specs.Document.{Request, Turns, Gave, told, wrote, found, named, Last, nothing, workedOut, after, gives, givesAll, lastAfter, Point, pointsFrom, pointsOf, points, constituentsOf, AllNear, nil, cons, EachNear, end, next}
 use Rattle.claim.proofs.Points.{turns-give, as-many}
 use Rattle.claim.specs.Claim.{OfAHeight, OfASeries, OfTurns}
 
@@ -98,6 +98,7 @@ abbrev found-in : Gave → TurnsGiven
 found-in (told r) = record { returned = r; minutes = []; heights = [] }
 found-in (wrote s) = record { returned = s .returned; minutes = []; heights = s .heights }
 found-in (found t) = t
+found-in (named names) = record { returned = accepted; minutes = []; heights = [] }
 
 found-stand : (l : Last) (first last : ℕ) (ms : List ℕ) (hs : List ℤ) (t : TurnsGiven) → found t ≡ gives l (Turns first last ms hs) → AllStand t
 unfolding gives

@@ -25,7 +25,7 @@ use Rattle.calls.specs.State.{Maybe}
 use Rattle.calls.specs.Returned.{accepted, heightIs, turnsAre, refused}
 use Rattle.calls.specs.Calls.{heightReturns, SeriesGiven, seriesRefused, seriesGives, TurnsGiven, turnsRefused, turnsGives, searched}
 use Rattle.calls.specs.Asked.{stepOutside, lastMinute}
-use Rattle.claim.specs.Document.{Request, Cards, Station, Date, Height, Series, Turns, Last, workedOut, after, gives, givesAll, Point, heightPoints, pointsFrom, seriesPoints, pointsOf, turnsPoints, points, constituentsIn, constituentsOf, AllNear, nil, cons, EachNear, end, next}
+use Rattle.claim.specs.Document.{Request, Cards, Station, Date, Height, Series, Turns, Names, Last, workedOut, after, gives, givesAll, Point, heightPoints, pointsFrom, seriesPoints, pointsOf, turnsPoints, points, constituentsIn, constituentsOf, AllNear, nil, cons, EachNear, end, next}
 
 -- ---- a height
 
@@ -126,6 +126,7 @@ unfolding gives
 near-call l (Cards file) = nil
 near-call l (Station latitude records) = nil
 near-call l (Date year month) = nil
+near-call l Names = nil
 near-call l (Height minute) = height-near minute (workedOut l .table) (workedOut l .station) (workedOut l .month)
 near-call l (Series start step heights) = series-near start step heights (workedOut l .table) (workedOut l .station) (workedOut l .month)
 near-call l (Turns first last minutes heights) = turns-near first last minutes heights (workedOut l .table) (workedOut l .station) (workedOut l .month)

@@ -16,6 +16,7 @@ use denote.Ref.{RefT, now}
 use denote.Triple.Clauses.{Ended, Clauses, ClausesAt, Lasts, atExit}
 use borrow.Fn.World.{World, ArgsD, ResD}
 use Rattle.refusals.specs.declared.Answer.{Answer}
+use Rattle.columns.specs.Names.{namesFrom}
 use Rattle.station.specs.declared.records.Record.{Record}
 use Rattle.station.specs.declared.records.Rows.{Rows}
 use Rattle.station.specs.Records.{recordsOf}
@@ -23,9 +24,10 @@ use Rattle.clock.specs.declared.Clock.{Clock}
 use Rattle.clock.specs.declared.After.{After}
 use Rattle.clock.specs.declared.HeightAnswer.{HeightAnswer}
 use Rattle.clock.specs.declared.TurnsAnswer.{TurnsAnswer}
+use Rattle.clock.specs.declared.TableNames.{TableNames}
 use Rattle.calls.specs.Returned.{answerReturned}
 use Rattle.clock.specs.Returned.{heightReturned, turnsReturned}
-use Rattle.claim.specs.Document.{Request, Cards, Station, Date, Height, Series, Turns, Gave, told, wrote, found}
+use Rattle.claim.specs.Document.{Request, Cards, Station, Date, Height, Series, Turns, Names, Gave, told, wrote, found, named}
 use Rattle.clock.proofs.new as new
 use Rattle.clock.proofs.load_cards as load
 use Rattle.clock.proofs.set_station as station
@@ -34,6 +36,7 @@ use Rattle.clock.proofs.set_date as date
 use Rattle.clock.proofs.height as height
 use Rattle.clock.proofs.series as series
 use Rattle.clock.proofs.turns as turns
+use Rattle.clock.proofs.names as names
 
 -- What is known of a call whose `requires` is P and whose `ensures` is Q, at every model of the logic: where a plain fact φ gives P, and Q
 -- gives a plain fact ψ, φ gives that ψ holds. (`∥ ψ ∥₁`: a fact of the logic is truncated, and to hand over an element of every ψ would be
@@ -60,8 +63,8 @@ pub record Once (T : Ended) (C : ClausesOf T) (κs : Lfts (T .signature .lifetim
 pub data New : Clock → Type 2 where
   news : {r : Clock} → Once new.ended (λ M. new.clauses) tt tt r tt → New r
 
--- One call: the clock that it gets, the call with all that is lent to it, what it gives, and the clock that it leaves. (Heights, series and
--- turns take the clock by value and give none back: what they leave is what they got.)
+-- One call: the clock that it gets, the call with all that is lent to it, what it gives, and the clock that it leaves. (Heights, series,
+-- turns and names take the clock by value and give none back: what they leave is what they got.)
 pub data Call : Clock → Request → Gave → Clock → Type 2 where
   loads : {κs : Lfts 1} {c : Clock} {file : RefT (List ℕ)} {r : After}
       → Once load.ended (λ M. load.clauses) κs (c, (file, tt)) r (tt, (tt, tt))
@@ -85,6 +88,9 @@ pub data Call : Clock → Request → Gave → Clock → Type 2 where
   searches : {κs : Lfts 2} {c : Clock} {first last : ℕ} {ms : RefT (List ℕ)} {hs : RefT (List ℤ)} {ms′ : List ℕ} {hs′ : List ℤ} {r : TurnsAnswer}
       → Once turns.ended (λ M. turns.clauses) κs (c, (first, (last, (ms, (hs, tt))))) r (tt, (tt, (tt, (ms′, (hs′, tt)))))
       → Call c (Turns first last (now ms) (now hs)) (found (record { returned = turnsReturned r; minutes = ms′; heights = hs′ })) c
+  hands : {c : Clock} {r : TableNames}
+      → Once names.ended (λ M. names.clauses) tt (c, tt) r (tt, tt)
+      → Call c Names (named (namesFrom (r .bytes) 0 (r .count))) c
 
 -- "in any number and order, refused ones included"; "Each later one gets the clock as the one before it returned or left it"
 pub data Calls : Clock → List Request → List Gave → Clock → Type 2 where

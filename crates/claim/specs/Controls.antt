@@ -4,30 +4,35 @@
 -- Assumes nothing.
 use Prim.Native.Nat.{ℕ}
 use mathlib.Core.List.{List, [], _∷_}
+use mathlib.Core.Path.{_≡_}
 use lib.IntN.{ℤ, pos}
 use Rattle.refusals.specs.declared.Answer.{Answer}
+use Rattle.columns.specs.Names.{namesFrom}
 use Rattle.station.specs.declared.records.Record.{Record}
 use Rattle.station.specs.declared.records.Rows.{Rows}
 use Rattle.station.specs.Records.{recordsOf}
 use Rattle.clock.specs.declared.Clock.{Clock}
 use Rattle.clock.specs.declared.HeightAnswer.{HeightAnswer}
 use Rattle.clock.specs.declared.TurnsAnswer.{TurnsAnswer}
+use Rattle.clock.specs.declared.TableNames.{TableNames}
+use Rattle.clock.specs.View.{view}
+use Rattle.calls.specs.Names.{namesIn}
 use Rattle.calls.specs.Returned.{refused, answerReturned}
 use Rattle.clock.specs.Returned.{heightReturned, turnsReturned}
 use Rattle.clock.specs.Posts.{NewPost, CardsPost, StationPost, DatePost, HeightPost, SeriesPost, TurnsPost}
-use Rattle.claim.specs.Document.{Request, Cards, Station, Date, Height, Series, Turns, Gave, told, wrote, found}
+use Rattle.claim.specs.Document.{Request, Cards, Station, Date, Height, Series, Turns, Names, Gave, told, wrote, found, named}
 use Rattle.claim.specs.Calls.{New, Call, Calls}
 
 -- a list with each kind of call in it (a station twice, its records lent as a row and in arrays), and what a clock with no table gives for
--- it: an empty card file ends inside its first part, 7 at line 1; the others find no table, 21, and leave the lent places as they were
+-- it: an empty card file ends inside its first part, 7 at line 1; the others find no table, 21, and leave the lent places as they were; there are no names
 abbrev pub eachKind : List Request
-eachKind = Cards [] ∷ Station (pos 0) [] ∷ Station (pos 0) [] ∷ Date 1976 7 ∷ Height 0 ∷ Series 0 1 (pos 5 ∷ []) ∷ Turns 0 1 (9 ∷ []) (pos 5 ∷ []) ∷ []
+eachKind = Cards [] ∷ Station (pos 0) [] ∷ Station (pos 0) [] ∷ Date 1976 7 ∷ Height 0 ∷ Series 0 1 (pos 5 ∷ []) ∷ Turns 0 1 (9 ∷ []) (pos 5 ∷ []) ∷ Names ∷ []
 
 abbrev pub eachRefused : List Gave
 eachRefused =
     told (refused 7 1) ∷ told (refused 21 0) ∷ told (refused 21 0) ∷ told (refused 21 0) ∷ told (refused 21 0)
     ∷ wrote (record { returned = refused 21 0; heights = pos 5 ∷ [] })
-    ∷ found (record { returned = refused 21 0; minutes = 9 ∷ []; heights = pos 5 ∷ [] }) ∷ []
+    ∷ found (record { returned = refused 21 0; minutes = 9 ∷ []; heights = pos 5 ∷ [] }) ∷ named [] ∷ []
 
 pub record Controls : Type 2 where
   pub new : (c : Clock) → NewPost c → New c
@@ -42,4 +47,5 @@ pub record Controls : Type 2 where
       → Call c (Series start step hs) (wrote (record { returned = answerReturned answer; heights = hs′ })) c
   pub turns : (c : Clock) (first last : ℕ) (ms ms′ : List ℕ) (hs hs′ : List ℤ) (answer : TurnsAnswer) → TurnsPost c first last ms ms′ hs hs′ answer
       → Call c (Turns first last ms hs) (found (record { returned = turnsReturned answer; minutes = ms′; heights = hs′ })) c
+  pub names : (c : Clock) (r : TableNames) → namesFrom (r .bytes) 0 (r .count) ≡ namesIn (view c) → Call c Names (named (namesFrom (r .bytes) 0 (r .count))) c
   pub each-kind : (c : Clock) → NewPost c → Calls c eachKind eachRefused c

@@ -15,9 +15,11 @@ use Rattle.heights.specs.Exact.{Near}
 use Rattle.calls.specs.State as state
 use Rattle.calls.specs.State.{Maybe, none, some, State}
 use Rattle.calls.specs.Returned.{Returned, accepted, heightIs, turnsAre, refused, onAccepted}
+use Rattle.calls.specs.Names.{namesIn}
 use Rattle.calls.specs.Calls.{cardsReturns, stationReturns, dateReturns, monthFor, heightReturns, SeriesGiven, seriesGives, TurnsGiven, turnsGives}
 
--- "The calls are a card file, a station, a date, a height, a series and turns", each with all that is lent to it
+-- "The calls are a card file, a station, a date, a height, a series and turns", each with all that is lent to it; and, though it is no call of
+-- 01 and gives nothing of the tide, the clock's handing out of names
 pub data Request : Type 0 where
   Cards : List ℕ → Request
   Station : ℤ → List Record → Request
@@ -25,12 +27,14 @@ pub data Request : Type 0 where
   Height : ℕ → Request
   Series : ℕ → ℕ → List ℤ → Request
   Turns : ℕ → ℕ → List ℕ → List ℤ → Request
+  Names : Request
 
 -- what a call gives: what it returns, and its lent buffers as it leaves them
 pub data Gave : Type 0 where
   told : Returned → Gave
   wrote : SeriesGiven → Gave
   found : TurnsGiven → Gave
+  named : List (List ℕ) → Gave
 
 -- a date as it is lent
 pub record Day : Type 0 where
@@ -84,6 +88,7 @@ after l (Date year month) =
 after l (Height minute) = l
 after l (Series start step heights) = l
 after l (Turns first end minutes heights) = l
+after l Names = l
 
 -- what the document gives for a call, from what was last accepted before it
 unfoldable pub gives : Last → Request → Gave
@@ -93,6 +98,7 @@ gives l (Date year month) = told (dateReturns (workedOut l) year month)
 gives l (Height minute) = told (heightReturns (workedOut l) minute)
 gives l (Series start step heights) = wrote (seriesGives (workedOut l) start step heights)
 gives l (Turns first end minutes heights) = found (turnsGives (workedOut l) first end minutes heights)
+gives l Names = named (namesIn (workedOut l))
 
 -- what it gives for each call of a list, the first one first
 unfoldable pub givesAll : Last → List Request → List Gave
@@ -145,15 +151,19 @@ abbrev pub points : Request → Gave → List Point
 points (Cards file) g = []
 points (Station latitude records) g = []
 points (Date year month) g = []
+points Names g = []
 points (Height minute) (told r) = heightPoints minute r
 points (Height minute) (wrote s) = []
 points (Height minute) (found t) = []
+points (Height minute) (named names) = []
 points (Series start step heights) (told r) = []
 points (Series start step heights) (wrote s) = seriesPoints start step (s .returned) (s .heights)
 points (Series start step heights) (found t) = []
+points (Series start step heights) (named names) = []
 points (Turns first end minutes heights) (told r) = []
 points (Turns first end minutes heights) (wrote s) = []
 points (Turns first end minutes heights) (found t) = turnsPoints (t .returned) (t .minutes) (t .heights)
+points (Turns first end minutes heights) (named names) = []
 
 -- V, P and Q of the station's constituents, worked out from what was last accepted
 abbrev pub constituentsIn : Maybe state.Month → List Constituent

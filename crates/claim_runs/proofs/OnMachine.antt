@@ -41,20 +41,23 @@ use Rattle.clock.proofs.series.Met as seriesMet
 use Rattle.clock.proofs.turns as turns
 use Rattle.clock.proofs.turns.Symbol as turnsCode
 use Rattle.clock.proofs.turns.Met as turnsMet
-use Rattle.claim.specs.Document.{Request, Gave, told, wrote, found, Last, nothing, after, gives, givesAll, EachNear}
+use Rattle.clock.proofs.names as names
+use Rattle.clock.proofs.names.Symbol as namesCode
+use Rattle.clock.proofs.names.Met as namesMet
+use Rattle.claim.specs.Document.{Request, Gave, told, wrote, found, named, Last, nothing, after, gives, givesAll, lastAfter}
 use Rattle.claim.specs.Calls as call
 use Rattle.claim.specs.Calls.{ClausesOf, Call}
 use Rattle.claim.proofs.Points.{near-calls}
 use Rattle.claim.proofs.Claim.{Agrees, new-agrees, call-agrees}
 use Rattle.claim_runs.specs.Handed.{Handed, value, Ran}
 use Rattle.claim_runs.specs.Values.{clockIn}
-use Rattle.claim_runs.specs.Runs.{Run, loads, stations, placed, dates, heights, serieses, searches, Gives, Started, Runs, done, _then_, GiveAll}
-use Rattle.claim_runs.specs.OnMachine.{OfAnyRuns}
+use Rattle.claim_runs.specs.Runs.{Run, loads, stations, placed, dates, heights, serieses, searches, hands, Gives, Started, Runs, done, _then_, GiveAll}
+use Rattle.claim_runs.specs.OnMachine.{OfAnyRuns, Returns, EveryCallEnds, AlwaysEnds}
 use Rattle.claim_runs.proofs.Lending.{Made}
 use Rattle.claim_runs.proofs.Ran.{Theorem}
-use Rattle.claim_runs.proofs.Handing.{Takes, Came, every-comes}
-use Rattle.claim_runs.proofs.Parameters.{clock-makes, rows-make, u32-makes, usize-makes, i32-makes, new-takes, load-takes, station-takes, placing-takes, date-takes, height-takes, series-takes, turns-takes}
-use Rattle.claim_runs.proofs.Values.{answer-reads, height-reads, turns-reads, after-reads, clock-is}
+use Rattle.claim_runs.proofs.Handing.{Takes, Came, comes, every-comes}
+use Rattle.claim_runs.proofs.Parameters.{clock-makes, rows-make, u32-makes, usize-makes, i32-makes, new-takes, load-takes, station-takes, placing-takes, date-takes, height-takes, series-takes, turns-takes, names-takes}
+use Rattle.claim_runs.proofs.Values.{answer-reads, height-reads, turns-reads, names-read, after-reads, clock-is}
 
 -- a clock with the machine's value vc, whose state is what is worked out from l
 pub record Holds (vc : Val) (l : Last) : Type 0 where
@@ -78,7 +81,7 @@ module _ {vc : Val} (l : Last) (h : Holds vc l) where
 
   -- a run gives what the document gives, and leaves a clock that holds what is worked out after it
   run-gives : {vc′ : Val} {q : Request} (x : Run vc q vc′) → ∥ (Gives x (gives l q) × Holds vc′ (after l q)) ∥₁
-  unfolding Gives load-takes station-takes placing-takes date-takes height-takes series-takes turns-takes
+  unfolding Gives load-takes station-takes placing-takes date-takes height-takes series-takes turns-takes names-takes
   run-gives (loads {file = file} {q = q} {b = b} {o = o} x) =
       ∥∥₁-elim (ran load.ended (λ M. load.clauses) loadCode.routine (λ M. loadMet.met) _ (load-takes (h .clock) vc file q b o) tt x) ∥∥₁-prop (λ k.
       ∥∥₁-map (left-anew (k .result) (k .is) (call.loads (k .once))) (λ a. ((k .leaves, a .0 ∙ ap told (sym (after-reads (k .result) (x .value) (k .is)))), a .1)))
@@ -105,11 +108,35 @@ module _ {vc : Val} (l : Last) (h : Holds vc l) where
       let hs′ : List ℤ = k .last .1 .1 .1 .1 .0 in
       ∥∥₁-map (left-same (call.searches (k .once))) (λ a.
       ((ms′, hs′, k .leaves, a .0 ∙ ap (λ (r : Returned). found (record { returned = r; minutes = ms′; heights = hs′ })) (sym (turns-reads (k .result) (x .value) (k .is)))), a .1)))
+  run-gives (hands x) =
+      ∥∥₁-elim (ran names.ended (λ M. names.clauses) namesCode.routine (λ M. namesMet.met) _ (names-takes (h .clock) vc) tt x) ∥∥₁-prop (λ k.
+      ∥∥₁-map (left-same (call.hands (k .once))) (λ a. ((k .leaves, a .0 ∙ ap named (sym (names-read (k .result) (x .value) (k .is)))), a .1)))
 
-runs-give : {vc : Val} {qs : List Request} (l : Last) → Holds vc l → (xs : Runs vc qs) → ∥ GiveAll xs (givesAll l qs) ∥₁
-unfolding givesAll GiveAll
-runs-give l h done = ∣ tt ∣₁
-runs-give l h (_then_ {q = q} x xs) = ∥∥₁-elim (run-gives l h x) ∥∥₁-prop (λ k. ∥∥₁-map (runs-give (after l q) (k .1) xs) (λ all. (k .0, all)))
+  -- a routine on this value returns
+  ends-on : (T : Ended) (C : ClausesOf T) (f : Routine) → Theorem T C f → (hs : List Handed) → Takes T C (value ClockType.the-row (h .clock) vc ∷ hs) (view.Made (h .clock))
+      → Made (w₀ .𝓤) (w₀ .H) (w₀ .𝓖 .A) hs → Returns f (vc ∷ []) hs
+  ends-on T C f met hs takes make fit σ F s =
+      ∥∥₁-map (comes T C (value ClockType.the-row (h .clock) vc ∷ hs) takes f met (clock-makes, make) (h .agrees .made) (h .is, fit) σ F s) (λ k. (k .0, k .1, k .2))
+
+  every-call-ends : EveryCallEnds vc
+  every-call-ends =
+      record {
+        loads = λ file q b o. ends-on load.ended (λ M. load.clauses) loadCode.routine (λ M. loadMet.met) _ (load-takes (h .clock) vc file q b o) tt;
+        stations = λ latitude vl records q b o. ends-on station.ended (λ M. station.clauses) stationCode.routine (λ M. stationMet.met) _ (station-takes (h .clock) vc latitude vl records q b o) (i32-makes, tt);
+        placed = λ latitude n rows vl vn vr. ends-on placing.ended (λ M. placing.clauses) placingCode.routine (λ M. placingMet.met) _ (placing-takes (h .clock) vc latitude n rows vl vn vr) (i32-makes, (usize-makes, (rows-make, tt)));
+        dates = λ year month vy vm. ends-on date.ended (λ M. date.clauses) dateCode.routine (λ M. dateMet.met) _ (date-takes (h .clock) vc year month vy vm) (u32-makes, (u32-makes, tt));
+        heights = λ minute vm. ends-on height.ended (λ M. height.clauses) heightCode.routine (λ M. heightMet.met) _ (height-takes (h .clock) vc minute vm) (u32-makes, tt);
+        serieses = λ start step vs vt hs b o. ends-on series.ended (λ M. series.clauses) seriesCode.routine (λ M. seriesMet.met) _ (series-takes (h .clock) vc start step vs vt hs b o) (u32-makes, (u32-makes, tt));
+        searches = λ first last vf vl ms b o hs b₁ o₁. ends-on turns.ended (λ M. turns.clauses) turnsCode.routine (λ M. turnsMet.met) _ (turns-takes (h .clock) vc first last vf vl ms b o hs b₁ o₁) (u32-makes, (u32-makes, tt));
+        hands = ends-on names.ended (λ M. names.clauses) namesCode.routine (λ M. namesMet.met) _ (names-takes (h .clock) vc) tt;
+      }
+
+-- the runs of a list give what the document gives, and leave a clock that holds what is worked out after them
+runs-give : {vc vc′ : Val} {qs : List Request} (l : Last) → Holds vc l → (xs : Runs vc qs vc′) → ∥ (GiveAll xs (givesAll l qs) × Holds vc′ (lastAfter l qs)) ∥₁
+unfolding givesAll lastAfter GiveAll
+runs-give l h done = ∣ (tt, h) ∣₁
+runs-give l h (_then_ {q = q} x xs) =
+    ∥∥₁-elim (run-gives l h x) ∥∥₁-prop (λ k. ∥∥₁-map (runs-give (after l q) (k .1) xs) (λ all. ((k .0, all .0), all .1)))
 
 -- the value that `new` returned holds nothing
 new-holds : {vc : Val} → Started vc → ∥ Holds vc nothing ∥₁
@@ -121,5 +148,12 @@ new-holds {vc} s =
     record { clock = k .result; is = subst (λ (v : Val). Is ClockType.the-row (k .result) (v ∷ [])) (s .value-is) (k .is); agrees = a }))
 
 pub on-machine : OfAnyRuns
-on-machine vc started qs xs =
-    record { exactly = ∥∥₁-elim (new-holds started) ∥∥₁-prop (λ h. runs-give nothing h xs); near = near-calls nothing qs }
+on-machine vc vc′ qs started xs =
+    record { exactly = ∥∥₁-elim (new-holds started) ∥∥₁-prop (λ h. ∥∥₁-map (runs-give nothing h xs) (λ k. k .0)); near = near-calls nothing qs }
+
+pub always-ends : AlwaysEnds
+always-ends =
+    record {
+      new = λ fit σ F s. ∥∥₁-map (comes new.ended (λ M. new.clauses) [] new-takes newCode.routine (λ M. newMet.met) tt tt tt σ F s) (λ k. (k .0, k .1, k .2));
+      then = λ vc vc′ qs started xs. ∥∥₁-elim (new-holds started) ∥∥₁-prop (λ h. ∥∥₁-map (runs-give nothing h xs) (λ k. every-call-ends (lastAfter nothing qs) (k .1)));
+    }

@@ -31,6 +31,7 @@ use Rattle.clock.proofs.set_date as date
 use Rattle.clock.proofs.height as height
 use Rattle.clock.proofs.series as series
 use Rattle.clock.proofs.turns as turns
+use Rattle.clock.proofs.names as names
 use Rattle.claim_runs.specs.Handed.{_∗_, Handed, value, reads, writes}
 use Rattle.claim_runs.proofs.Lending.{lifetimes, wholes, denotes, valuesOf}
 use Rattle.claim_runs.proofs.Handing.{W₀, Takes}
@@ -157,6 +158,19 @@ module _ (c : Clock) (vc : Val) where
         passes = λ ns. refl;
         asks = λ ns. id⊢ (w₀ .𝓤) _;
         writes = λ ns ws. (ws .1 .1 .1 .0, (ws .1 .1 .1 .1 .0, tt));
+        says = λ ns ws. id⊢ (w₀ .𝓤) _;
+        alive-is = λ ns. id⊢ (w₀ .𝓤) _;
+      }
+
+  unfoldable pub names-takes : Takes names.ended (λ M. names.clauses) (clock ∷ []) (Made c)
+  names-takes =
+      let all : List Handed = clock ∷ [] in
+      record {
+        entry = λ ns. (lifetimes all ns, wholes all, tt, denotes 0 all ns, valuesOf 0 all ns);
+        bound = λ ns w. tt;
+        passes = λ ns. refl;
+        asks = λ ns. id⊢ (w₀ .𝓤) _;
+        writes = λ ns ws. tt;
         says = λ ns ws. id⊢ (w₀ .𝓤) _;
         alive-is = λ ns. id⊢ (w₀ .𝓤) _;
       }

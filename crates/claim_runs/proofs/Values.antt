@@ -2,12 +2,13 @@
 -- Assumes nothing.
 use mathlib.Core.Path.{_≡_, refl, sym, ap, subst, _∙_}
 use Prim.Native.Nat.{ℕ}
-use mathlib.Core.List.{List, [], _∷_}
+use mathlib.Core.List.{List, [], _∷_, map}
 use lib.ListN.{getD}
-use mir.Syntax.{w64}
-use mir.Val.{Val, vunit}
+use mir.Syntax.{w8, w64}
+use mir.Val.{Val, vunit, vint, ofList}
 use mir.ValLaws.{toZ-ofZ}
 use denote.Laws.{Is}
+use Rattle.columns.specs.Names.{namesFrom}
 use Rattle.refusals.specs.Outcome.{numberOf}
 use Rattle.refusals.specs.declared.Answer.{Answer}
 use Rattle.refusals.specs.declared.Answer.the-variants as answer
@@ -31,7 +32,10 @@ use Rattle.clock.proofs.HeightAnswer as HeightAnswerType
 use Rattle.clock.proofs.HeightAnswer.Laws as HeightAnswerLaws
 use Rattle.clock.proofs.TurnsAnswer as TurnsAnswerType
 use Rattle.clock.proofs.TurnsAnswer.Laws as TurnsAnswerLaws
-use Rattle.claim_runs.specs.Values.{partIn, numberIn, refusalNumbers, answerIn, heightIn, turnsIn, answerPart, clockIn}
+use Rattle.clock.specs.declared.TableNames.{TableNames}
+use Rattle.clock.proofs.TableNames as NamesType
+use Rattle.clock.proofs.TableNames.Laws as NamesLaws
+use Rattle.claim_runs.specs.Values.{partIn, numberIn, refusalNumbers, answerIn, heightIn, turnsIn, numbersIn, arrayIn, namesIn, answerPart, clockIn}
 
 abbrev first : List Val → Val
 first [] = vunit
@@ -83,3 +87,14 @@ clock-is r v is =
     let here : Is ClockType.the-row (r .clock) (ClockLaws.lowered (r .clock) ∷ []) =
     subst (Is ClockType.the-row (r .clock)) (ClockLaws.lowers .val-is (r .clock) (is .0 .1 .0) (is .1 .1 .1 .0)) (is .1 .1 .1 .0) in
     subst (λ (u : Val). Is ClockType.the-row (r .clock) (u ∷ [])) (sym (ap (λ (vs : List Val). clockIn (first vs)) (AfterLaws.lowers .val-is r (v ∷ []) is))) here
+
+bytes-read : (bs : List ℕ) → numbersIn (ofList (map (λ (b : ℕ). vint w8 b) bs)) ≡ bs
+unfolding numbersIn
+bytes-read [] = refl
+bytes-read (b ∷ bs) = ap (λ (cs : List ℕ). b ∷ cs) (bytes-read bs)
+
+names-lowered : (r : TableNames) → namesIn (NamesLaws.lowered r) ≡ namesFrom (r .bytes) 0 (r .count)
+names-lowered r = ap (λ (bs : List ℕ). namesFrom bs 0 (r .count)) (bytes-read (r .bytes))
+
+pub names-read : (r : TableNames) (v : Val) → Is NamesType.the-row r (v ∷ []) → namesIn v ≡ namesFrom (r .bytes) 0 (r .count)
+names-read r v is = ap (λ (vs : List Val). namesIn (first vs)) (NamesLaws.lowers .val-is r (v ∷ []) is) ∙ names-lowered r

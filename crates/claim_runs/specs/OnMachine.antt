@@ -1,17 +1,61 @@
--- THE CLAIM, OF THE MACHINE, as it is proved (proofs/OnMachine.antt). It names no contract.
+-- THE CLAIM, OF THE MACHINE, as it is proved (proofs/OnMachine.antt): of any list of runs of the clock's routines. It names no contract.
 -- Assumes nothing.
-use mathlib.Core.List.{List}
+use Prim.Native.Nat.{ℕ}
+use mathlib.Core.List.{List, [], _∷_, _++_}
+use lib.IntN.{ℤ}
 use mir.Val.{Val}
+use base.Fml.{Share}
+use prog.Memory.{Memory}
+use prog.Routine.{Routine, ends}
+use denote.Builtin.{u8, u32, i32, i64, usize}
+use Rattle.station.specs.declared.records.Record.{Record}
+use Rattle.station.specs.declared.records.Rows.{Rows}
+use Rattle.station.proofs.records.Record as RecordType
+use Rattle.station.proofs.records.Rows as RowsType
+use Rattle.clock.proofs.new.Symbol as newCode
+use Rattle.clock.proofs.load_cards.Symbol as loadCode
+use Rattle.clock.proofs.set_station.Symbol as stationCode
+use Rattle.clock.proofs.place_station.Symbol as placingCode
+use Rattle.clock.proofs.set_date.Symbol as dateCode
+use Rattle.clock.proofs.height.Symbol as heightCode
+use Rattle.clock.proofs.series.Symbol as seriesCode
+use Rattle.clock.proofs.turns.Symbol as turnsCode
+use Rattle.clock.proofs.names.Symbol as namesCode
 use Rattle.claim.specs.Document.{Request, nothing, givesAll, EachNear}
+use Rattle.claim_runs.specs.Handed.{Assertion, _∗_, ⟦_⟧₀, _⊨_, Handed, value, reads, writes, passed, Fit, lie}
 use Rattle.claim_runs.specs.Runs.{Started, Runs, GiveAll}
 
 -- `exactly`: all that the runs return and write is what the document gives for the list of calls.
 -- `near`: each height among it is within the allowed distance of the exact sum at its own minute.
-pub record OnMachine {vc : Val} (qs : List Request) (xs : Runs vc qs) : Type 1 where
+pub record OnMachine {vc vc′ : Val} (qs : List Request) (xs : Runs vc qs vc′) : Type 1 where
   pub exactly : ∥ GiveAll xs (givesAll nothing qs) ∥₁
   pub near : EachNear nothing qs (givesAll nothing qs)
 
 -- Take the value that a run of `new` returned, and any list of runs, each of a routine of the clock on the value of the clock that the one
 -- before returned or left.
 abbrev pub OfAnyRuns : Type 2
-OfAnyRuns = (vc : Val) → Started vc → (qs : List Request) (xs : Runs vc qs) → OnMachine qs xs
+OfAnyRuns = (vc vc′ : Val) (qs : List Request) → Started vc → (xs : Runs vc qs vc′) → OnMachine qs xs
+
+-- ---- demand 1, "every call ends": so what is said of runs is said of something, whichever call comes next
+
+-- the routine f, called with the values `front` and with what is handed over, returns, from every memory in which the buffers lie
+abbrev pub Returns : Routine → List Val → List Handed → Type 2
+Returns f front handed =
+    Fit handed → (σ : Memory) (F : Assertion) → σ ⊨ ⟦ lie handed ⟧₀ ∗ F → ∥ ((v : Val) × (σ′ : Memory) × ends f (front ++ passed handed) σ v σ′) ∥₁
+
+-- each routine does, on the clock's value vc
+pub record EveryCallEnds (vc : Val) : Type 2 where
+  pub loads : (file : List ℕ) (q : Share) (b o : ℕ) → Returns loadCode.routine (vc ∷ []) (reads u8 q file b o ∷ [])
+  pub stations : (latitude : ℤ) (vl : Val) (records : List Record) (q : Share) (b o : ℕ) → Returns stationCode.routine (vc ∷ []) (value i32 latitude vl ∷ reads RecordType.the-row q records b o ∷ [])
+  pub placed : (latitude : ℤ) (n : ℕ) (rows : Rows) (vl vn vr : Val) → Returns placingCode.routine (vc ∷ []) (value i32 latitude vl ∷ value usize n vn ∷ value RowsType.the-row rows vr ∷ [])
+  pub dates : (year month : ℕ) (vy vm : Val) → Returns dateCode.routine (vc ∷ []) (value u32 year vy ∷ value u32 month vm ∷ [])
+  pub heights : (minute : ℕ) (vm : Val) → Returns heightCode.routine (vc ∷ []) (value u32 minute vm ∷ [])
+  pub serieses : (start step : ℕ) (vs vt : Val) (hs : List ℤ) (b o : ℕ) → Returns seriesCode.routine (vc ∷ []) (value u32 start vs ∷ value u32 step vt ∷ writes i64 hs b o ∷ [])
+  pub searches : (first last : ℕ) (vf vl : Val) (ms : List ℕ) (b o : ℕ) (hs : List ℤ) (b₁ o₁ : ℕ)
+      → Returns turnsCode.routine (vc ∷ []) (value u32 first vf ∷ value u32 last vl ∷ writes u32 ms b o ∷ writes i64 hs b₁ o₁ ∷ [])
+  pub hands : Returns namesCode.routine (vc ∷ []) []
+
+-- `new` returns; and after any list of runs each routine returns, on the value of the clock that the last one returned or left
+pub record AlwaysEnds : Type 2 where
+  pub new : Returns newCode.routine [] []
+  pub then : (vc vc′ : Val) (qs : List Request) → Started vc → Runs vc qs vc′ → ∥ EveryCallEnds vc′ ∥₁

@@ -21,9 +21,10 @@ use Rattle.clock.proofs.set_date.Symbol as dateCode
 use Rattle.clock.proofs.height.Symbol as heightCode
 use Rattle.clock.proofs.series.Symbol as seriesCode
 use Rattle.clock.proofs.turns.Symbol as turnsCode
-use Rattle.claim.specs.Document.{Request, Cards, Station, Date, Height, Series, Turns, Gave, told, wrote, found}
+use Rattle.clock.proofs.names.Symbol as namesCode
+use Rattle.claim.specs.Document.{Request, Cards, Station, Date, Height, Series, Turns, Names, Gave, told, wrote, found, named}
 use Rattle.claim_runs.specs.Handed.{value, reads, writes, Ran, Leaves}
-use Rattle.claim_runs.specs.Values.{answerIn, heightIn, turnsIn, answerPart, clockIn}
+use Rattle.claim_runs.specs.Values.{answerIn, heightIn, turnsIn, namesIn, answerPart, clockIn}
 
 -- "The first gets a clock with no table, station or month": a clock's value that a run of `new` returned, from any memory
 pub record Started (vc : Val) : Type 2 where
@@ -54,6 +55,7 @@ pub data Run : Val → Request → Val → Type 2 where
   searches : {vc : Val} {first last : ℕ} {vf vl : Val} {ms : List ℕ} {b o : ℕ} {hs : List ℤ} {b₁ o₁ : ℕ}
       → Ran turnsCode.routine (vc ∷ []) (value u32 first vf ∷ value u32 last vl ∷ writes u32 ms b o ∷ writes i64 hs b₁ o₁ ∷ [])
       → Run vc (Turns first last ms hs) vc
+  hands : {vc : Val} → Ran namesCode.routine (vc ∷ []) [] → Run vc Names vc
 
 -- What a run gave is g: g is read off the value that it returned and off the buffers that it wrote to, as they lie in memory at its end.
 unfoldable pub Gives : {vc vc′ : Val} {q : Request} → Run vc q vc′ → Gave → Type 1
@@ -65,14 +67,15 @@ Gives (heights x) g = Leaves x tt × (g ≡ told (heightIn (x .value)))
 Gives (serieses x) g = (hs′ : List ℤ) × Leaves x (hs′, tt) × (g ≡ wrote (record { returned = answerIn (x .value); heights = hs′ }))
 Gives (searches x) g =
     (ms′ : List ℕ) × (hs′ : List ℤ) × Leaves x (ms′, (hs′, tt)) × (g ≡ found (record { returned = turnsIn (x .value); minutes = ms′; heights = hs′ }))
+Gives (hands x) g = Leaves x tt × (g ≡ named (namesIn (x .value)))
 
 -- "Each later one gets the clock as the one before it returned or left it." What is done to the memory between two calls is the caller's.
-pub data Runs : Val → List Request → Type 2 where
-  done : {vc : Val} → Runs vc []
-  _then_ : {vc vc′ : Val} {q : Request} {qs : List Request} → Run vc q vc′ → Runs vc′ qs → Runs vc (q ∷ qs)
+pub data Runs : Val → List Request → Val → Type 2 where
+  done : {vc : Val} → Runs vc [] vc
+  _then_ : {vc vc′ vc″ : Val} {q : Request} {qs : List Request} → Run vc q vc′ → Runs vc′ qs vc″ → Runs vc (q ∷ qs) vc″
 
 -- what each run of a list gave, the first one first
-unfoldable pub GiveAll : {vc : Val} {qs : List Request} → Runs vc qs → List Gave → Type 1
+unfoldable pub GiveAll : {vc vc′ : Val} {qs : List Request} → Runs vc qs vc′ → List Gave → Type 1
 GiveAll done [] = Unit {1}
 GiveAll done (g ∷ gs) = ⊥ × Unit {1}
 GiveAll (_then_ x xs) [] = ⊥ × Unit {1}

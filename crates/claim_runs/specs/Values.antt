@@ -8,7 +8,8 @@ use lib.Dec.{eqb}
 use lib.ListN.{getD}
 use mir.Fields.{getV}
 use mir.Syntax.{w64}
-use mir.Val.{Val, vunit, vbool, vint, vfloat, vptr, vstruct, asInt, asBool, toZ}
+use mir.Val.{Val, vunit, vbool, vint, vfloat, vptr, vstruct, Vals, vnil, vcons, asInt, asBool, toZ}
+use Rattle.columns.specs.Names.{namesFrom}
 use Rattle.calls.specs.Returned.{Returned, accepted, heightIs, turnsAre, refused}
 
 abbrev pub partIn : ℕ → Val → Val
@@ -42,6 +43,23 @@ heightIn v = byTag v (heightIs (toZ w64 (numberIn (partIn 1 v)))) (refusedIn v)
 -- "returned: how many, and whether the first is high"
 abbrev pub turnsIn : Val → Returned
 turnsIn v = byTag v (turnsAre (numberIn (partIn 1 v)) (asBool false (partIn 2 v) (λ t. t))) (refusedIn v)
+
+-- the numbers of an array
+unfoldable pub numbersIn : Vals → List ℕ
+numbersIn vnil = []
+numbersIn (vcons v vs) = numberIn v ∷ numbersIn vs
+
+abbrev pub arrayIn : Val → List ℕ
+arrayIn vunit = []
+arrayIn (vbool t) = []
+arrayIn (vint w n) = []
+arrayIn (vfloat f x) = []
+arrayIn (vptr b o) = []
+arrayIn (vstruct vs) = numbersIn vs
+
+-- names: how many, and the bytes of all
+abbrev pub namesIn : Val → List (List ℕ)
+namesIn v = namesFrom (arrayIn (partIn 1 v)) 0 (numberIn (partIn 0 v))
 
 -- what a call that gives the clock back returns: its answer, then the clock
 abbrev pub answerPart : Val → Val

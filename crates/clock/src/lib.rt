@@ -8,7 +8,7 @@ ghost use Rattle.columns.specs.Names.{namesFrom};
 ghost use Rattle.table.specs.inner.View.{tableOf};
 ghost use Rattle.calendar.specs.Calendar.{inRange};
 ghost use Rattle.calls.specs.State.{some};
-ghost use Rattle.clock.specs.Names.{namesThere, namesIn};
+ghost use Rattle.calls.specs.Names.{namesThere, namesIn};
 ghost use Rattle.clock.specs.View.{view, Made};
 ghost use Rattle.clock.specs.Posts.{NewPost, CardsPost, StationPost, DatePost, HeightPost, SeriesPost, TurnsPost};
 ghost use Rattle.clock.specs.inner.Posts.{PreparedPost};
