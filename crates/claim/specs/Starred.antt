@@ -91,3 +91,7 @@ starred A minute =
 abbrev pub AllHold : List Case → Type 0
 AllHold [] = Unit {0}
 AllHold ((got gives want) ∷ cases) = (got ≡ want) × AllHold cases
+
+-- what is proved (proofs/cases/Starred.antt)
+abbrev pub StarredHold : Type 0
+StarredHold = (A minute : ℕ) → AllHold (starred A minute)

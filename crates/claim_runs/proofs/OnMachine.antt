@@ -9,54 +9,25 @@ use lib.IntN.{ℤ}
 use mir.Val.{Val}
 use prog.Routine.{Routine}
 use denote.Laws.{Is}
-use denote.Triple.Clauses.{Ended}
-use borrow.Fn.World.{w₀}
 use Rattle.calls.specs.Returned.{Returned}
 use Rattle.clock.specs.declared.Clock.{Clock}
 use Rattle.clock.specs.declared.After.{After}
-use Rattle.clock.specs.View as view
 use Rattle.clock.proofs.Clock as ClockType
 use Rattle.clock.proofs.After as AfterType
 use Rattle.clock.proofs.new as new
 use Rattle.clock.proofs.new.Symbol as newCode
 use Rattle.clock.proofs.new.Met as newMet
-use Rattle.clock.proofs.load_cards as load
-use Rattle.clock.proofs.load_cards.Symbol as loadCode
-use Rattle.clock.proofs.load_cards.Met as loadMet
-use Rattle.clock.proofs.set_station as station
-use Rattle.clock.proofs.set_station.Symbol as stationCode
-use Rattle.clock.proofs.set_station.Met as stationMet
-use Rattle.clock.proofs.place_station as placing
-use Rattle.clock.proofs.place_station.Symbol as placingCode
-use Rattle.clock.proofs.place_station.Met as placingMet
-use Rattle.clock.proofs.set_date as date
-use Rattle.clock.proofs.set_date.Symbol as dateCode
-use Rattle.clock.proofs.set_date.Met as dateMet
-use Rattle.clock.proofs.height as height
-use Rattle.clock.proofs.height.Symbol as heightCode
-use Rattle.clock.proofs.height.Met as heightMet
-use Rattle.clock.proofs.series as series
-use Rattle.clock.proofs.series.Symbol as seriesCode
-use Rattle.clock.proofs.series.Met as seriesMet
-use Rattle.clock.proofs.turns as turns
-use Rattle.clock.proofs.turns.Symbol as turnsCode
-use Rattle.clock.proofs.turns.Met as turnsMet
-use Rattle.clock.proofs.names as names
-use Rattle.clock.proofs.names.Symbol as namesCode
-use Rattle.clock.proofs.names.Met as namesMet
 use Rattle.claim.specs.Document.{Request, Gave, told, wrote, found, named, Last, nothing, after, gives, givesAll, lastAfter}
 use Rattle.claim.specs.Calls as call
-use Rattle.claim.specs.Calls.{ClausesOf, Call}
+use Rattle.claim.specs.Calls.{Call}
 use Rattle.claim.proofs.Points.{near-calls}
 use Rattle.claim.proofs.Claim.{Agrees, new-agrees, call-agrees}
 use Rattle.claim_runs.specs.Handed.{Handed, value, Ran}
 use Rattle.claim_runs.specs.Values.{clockIn}
 use Rattle.claim_runs.specs.Runs.{Run, loads, stations, placed, dates, heights, serieses, searches, hands, Gives, Started, Runs, done, _then_, GiveAll}
 use Rattle.claim_runs.specs.OnMachine.{OfAnyRuns, Returns, EveryCallEnds, AlwaysEnds}
-use Rattle.claim_runs.proofs.Lending.{Made}
-use Rattle.claim_runs.proofs.Ran.{Theorem}
-use Rattle.claim_runs.proofs.Handing.{Takes, Came, comes, every-comes}
-use Rattle.claim_runs.proofs.Parameters.{clock-makes, rows-make, u32-makes, usize-makes, i32-makes, new-takes, load-takes, station-takes, placing-takes, date-takes, height-takes, series-takes, turns-takes, names-takes}
+use Rattle.claim_runs.proofs.Handing.{Came, comes, every-comes}
+use Rattle.claim_runs.proofs.Parameters.{clock-makes, Callable, new-takes, load-call, station-call, placing-call, date-call, height-call, series-call, turns-call, names-call}
 use Rattle.claim_runs.proofs.Values.{answer-reads, height-reads, turns-reads, names-read, after-reads, clock-is}
 
 -- a clock with the machine's value vc, whose state is what is worked out from l
@@ -67,10 +38,11 @@ pub record Holds (vc : Val) (l : Last) : Type 0 where
 
 module _ {vc : Val} (l : Last) (h : Holds vc l) where
   -- a run of a function of the clock on this value
-  ran : (T : Ended) (C : ClausesOf T) (f : Routine) → Theorem T C f → (hs : List Handed) (takes : Takes T C (value ClockType.the-row (h .clock) vc ∷ hs) (view.Made (h .clock)))
-      → Made (w₀ .𝓤) (w₀ .H) (w₀ .𝓖 .A) hs → (x : Ran f (vc ∷ []) hs) → ∥ Came T C (value ClockType.the-row (h .clock) vc ∷ hs) takes (x .value) (x .left) (x .rest) ∥₁
-  ran T C f met hs takes make x =
-      every-comes T C (value ClockType.the-row (h .clock) vc ∷ hs) takes f met (clock-makes, make) (h .agrees .made) (h .is, x .fit) (x .before) (x .rest) (x .lent) (x .routine) (x .below) (x .value) (x .left) (x .run)
+  ran : {f : Routine} {hs : List Handed} (t : Callable (h .clock) vc f hs) (x : Ran f (vc ∷ []) hs)
+      → ∥ Came (t .ended) (t .clauses) (value ClockType.the-row (h .clock) vc ∷ hs) (t .takes) (x .value) (x .left) (x .rest) ∥₁
+  ran {f} {hs} t x =
+      every-comes (t .ended) (t .clauses) (value ClockType.the-row (h .clock) vc ∷ hs) (t .takes) f (t .met) (clock-makes, t .makes) (h .agrees .made) (h .is, x .fit) (x .before) (x .rest) (x .lent)
+      (x .routine) (x .below) (x .value) (x .left) (x .run)
 
   -- what a call gives is what the document gives; it leaves another clock, in what it returns, or the one that it got
   left-anew : {q : Request} {g : Gave} {v : Val} (r : After) → Is AfterType.the-row r (v ∷ []) → Call (h .clock) q g (r .clock) → ∥ ((gives l q ≡ g) × Holds (clockIn v) (after l q)) ∥₁
@@ -81,54 +53,54 @@ module _ {vc : Val} (l : Last) (h : Holds vc l) where
 
   -- a run gives what the document gives, and leaves a clock that holds what is worked out after it
   run-gives : {vc′ : Val} {q : Request} (x : Run vc q vc′) → ∥ (Gives x (gives l q) × Holds vc′ (after l q)) ∥₁
-  unfolding Gives load-takes station-takes placing-takes date-takes height-takes series-takes turns-takes names-takes
+  unfolding Gives load-call station-call placing-call date-call height-call series-call turns-call names-call
   run-gives (loads {file = file} {q = q} {b = b} {o = o} x) =
-      ∥∥₁-elim (ran load.ended (λ M. load.clauses) loadCode.routine (λ M. loadMet.met) _ (load-takes (h .clock) vc file q b o) tt x) ∥∥₁-prop (λ k.
+      ∥∥₁-elim (ran (load-call (h .clock) vc file q b o) x) ∥∥₁-prop (λ k.
       ∥∥₁-map (left-anew (k .result) (k .is) (call.loads (k .once))) (λ a. ((k .leaves, a .0 ∙ ap told (sym (after-reads (k .result) (x .value) (k .is)))), a .1)))
   run-gives (stations {latitude = latitude} {vl = vl} {records = records} {q = q} {b = b} {o = o} x) =
-      ∥∥₁-elim (ran station.ended (λ M. station.clauses) stationCode.routine (λ M. stationMet.met) _ (station-takes (h .clock) vc latitude vl records q b o) (i32-makes, tt) x) ∥∥₁-prop (λ k.
+      ∥∥₁-elim (ran (station-call (h .clock) vc latitude vl records q b o) x) ∥∥₁-prop (λ k.
       ∥∥₁-map (left-anew (k .result) (k .is) (call.stations (k .once))) (λ a. ((k .leaves, a .0 ∙ ap told (sym (after-reads (k .result) (x .value) (k .is)))), a .1)))
   run-gives (placed {latitude = latitude} {n = n} {rows = rows} {vl = vl} {vn = vn} {vr = vr} x) =
-      ∥∥₁-elim (ran placing.ended (λ M. placing.clauses) placingCode.routine (λ M. placingMet.met) _ (placing-takes (h .clock) vc latitude n rows vl vn vr) (i32-makes, (usize-makes, (rows-make, tt))) x) ∥∥₁-prop (λ k.
+      ∥∥₁-elim (ran (placing-call (h .clock) vc latitude n rows vl vn vr) x) ∥∥₁-prop (λ k.
       ∥∥₁-map (left-anew (k .result) (k .is) (call.placed (k .once))) (λ a. ((k .leaves, a .0 ∙ ap told (sym (after-reads (k .result) (x .value) (k .is)))), a .1)))
   run-gives (dates {year = year} {month = month} {vy = vy} {vm = vm} x) =
-      ∥∥₁-elim (ran date.ended (λ M. date.clauses) dateCode.routine (λ M. dateMet.met) _ (date-takes (h .clock) vc year month vy vm) (u32-makes, (u32-makes, tt)) x) ∥∥₁-prop (λ k.
+      ∥∥₁-elim (ran (date-call (h .clock) vc year month vy vm) x) ∥∥₁-prop (λ k.
       ∥∥₁-map (left-anew (k .result) (k .is) (call.dates (k .once))) (λ a. ((k .leaves, a .0 ∙ ap told (sym (after-reads (k .result) (x .value) (k .is)))), a .1)))
   run-gives (heights {minute = minute} {vm = vm} x) =
-      ∥∥₁-elim (ran height.ended (λ M. height.clauses) heightCode.routine (λ M. heightMet.met) _ (height-takes (h .clock) vc minute vm) (u32-makes, tt) x) ∥∥₁-prop (λ k.
+      ∥∥₁-elim (ran (height-call (h .clock) vc minute vm) x) ∥∥₁-prop (λ k.
       ∥∥₁-map (left-same (call.heights (k .once))) (λ a. ((k .leaves, a .0 ∙ ap told (sym (height-reads (k .result) (x .value) (k .is)))), a .1)))
   run-gives (serieses {start = start} {step = step} {vs = vs} {vt = vt} {hs = hs} {b = b} {o = o} x) =
-      ∥∥₁-elim (ran series.ended (λ M. series.clauses) seriesCode.routine (λ M. seriesMet.met) _ (series-takes (h .clock) vc start step vs vt hs b o) (u32-makes, (u32-makes, tt)) x) ∥∥₁-prop (λ k.
+      ∥∥₁-elim (ran (series-call (h .clock) vc start step vs vt hs b o) x) ∥∥₁-prop (λ k.
       let hs′ : List ℤ = k .last .1 .1 .1 .0 in
       ∥∥₁-map (left-same (call.serieses (k .once))) (λ a.
       ((hs′, k .leaves, a .0 ∙ ap (λ (r : Returned). wrote (record { returned = r; heights = hs′ })) (sym (answer-reads (k .result) (x .value) (k .is)))), a .1)))
   run-gives (searches {first = first} {last = last} {vf = vf} {vl = vl} {ms = ms} {b = b} {o = o} {hs = hs} {b₁ = b₁} {o₁ = o₁} x) =
-      ∥∥₁-elim (ran turns.ended (λ M. turns.clauses) turnsCode.routine (λ M. turnsMet.met) _ (turns-takes (h .clock) vc first last vf vl ms b o hs b₁ o₁) (u32-makes, (u32-makes, tt)) x) ∥∥₁-prop (λ k.
+      ∥∥₁-elim (ran (turns-call (h .clock) vc first last vf vl ms b o hs b₁ o₁) x) ∥∥₁-prop (λ k.
       let ms′ : List ℕ = k .last .1 .1 .1 .0 in
       let hs′ : List ℤ = k .last .1 .1 .1 .1 .0 in
       ∥∥₁-map (left-same (call.searches (k .once))) (λ a.
       ((ms′, hs′, k .leaves, a .0 ∙ ap (λ (r : Returned). found (record { returned = r; minutes = ms′; heights = hs′ })) (sym (turns-reads (k .result) (x .value) (k .is)))), a .1)))
   run-gives (hands x) =
-      ∥∥₁-elim (ran names.ended (λ M. names.clauses) namesCode.routine (λ M. namesMet.met) _ (names-takes (h .clock) vc) tt x) ∥∥₁-prop (λ k.
+      ∥∥₁-elim (ran (names-call (h .clock) vc) x) ∥∥₁-prop (λ k.
       ∥∥₁-map (left-same (call.hands (k .once))) (λ a. ((k .leaves, a .0 ∙ ap named (sym (names-read (k .result) (x .value) (k .is)))), a .1)))
 
   -- a routine on this value returns
-  ends-on : (T : Ended) (C : ClausesOf T) (f : Routine) → Theorem T C f → (hs : List Handed) → Takes T C (value ClockType.the-row (h .clock) vc ∷ hs) (view.Made (h .clock))
-      → Made (w₀ .𝓤) (w₀ .H) (w₀ .𝓖 .A) hs → Returns f (vc ∷ []) hs
-  ends-on T C f met hs takes make fit σ F s =
-      ∥∥₁-map (comes T C (value ClockType.the-row (h .clock) vc ∷ hs) takes f met (clock-makes, make) (h .agrees .made) (h .is, fit) σ F s) (λ k. (k .0, k .1, k .2))
+  ends-on : {f : Routine} {hs : List Handed} → Callable (h .clock) vc f hs → Returns f (vc ∷ []) hs
+  ends-on {f} {hs} t fit σ F s =
+      ∥∥₁-map (comes (t .ended) (t .clauses) (value ClockType.the-row (h .clock) vc ∷ hs) (t .takes) f (t .met) (clock-makes, t .makes) (h .agrees .made) (h .is, fit) σ F s) (λ k.
+      (k .0, k .1, k .2))
 
   every-call-ends : EveryCallEnds vc
   every-call-ends =
       record {
-        loads = λ file q b o. ends-on load.ended (λ M. load.clauses) loadCode.routine (λ M. loadMet.met) _ (load-takes (h .clock) vc file q b o) tt;
-        stations = λ latitude vl records q b o. ends-on station.ended (λ M. station.clauses) stationCode.routine (λ M. stationMet.met) _ (station-takes (h .clock) vc latitude vl records q b o) (i32-makes, tt);
-        placed = λ latitude n rows vl vn vr. ends-on placing.ended (λ M. placing.clauses) placingCode.routine (λ M. placingMet.met) _ (placing-takes (h .clock) vc latitude n rows vl vn vr) (i32-makes, (usize-makes, (rows-make, tt)));
-        dates = λ year month vy vm. ends-on date.ended (λ M. date.clauses) dateCode.routine (λ M. dateMet.met) _ (date-takes (h .clock) vc year month vy vm) (u32-makes, (u32-makes, tt));
-        heights = λ minute vm. ends-on height.ended (λ M. height.clauses) heightCode.routine (λ M. heightMet.met) _ (height-takes (h .clock) vc minute vm) (u32-makes, tt);
-        serieses = λ start step vs vt hs b o. ends-on series.ended (λ M. series.clauses) seriesCode.routine (λ M. seriesMet.met) _ (series-takes (h .clock) vc start step vs vt hs b o) (u32-makes, (u32-makes, tt));
-        searches = λ first last vf vl ms b o hs b₁ o₁. ends-on turns.ended (λ M. turns.clauses) turnsCode.routine (λ M. turnsMet.met) _ (turns-takes (h .clock) vc first last vf vl ms b o hs b₁ o₁) (u32-makes, (u32-makes, tt));
-        hands = ends-on names.ended (λ M. names.clauses) namesCode.routine (λ M. namesMet.met) _ (names-takes (h .clock) vc) tt;
+        loads = λ file q b o. ends-on (load-call (h .clock) vc file q b o);
+        stations = λ latitude vl records q b o. ends-on (station-call (h .clock) vc latitude vl records q b o);
+        placed = λ latitude n rows vl vn vr. ends-on (placing-call (h .clock) vc latitude n rows vl vn vr);
+        dates = λ year month vy vm. ends-on (date-call (h .clock) vc year month vy vm);
+        heights = λ minute vm. ends-on (height-call (h .clock) vc minute vm);
+        serieses = λ start step vs vt hs b o. ends-on (series-call (h .clock) vc start step vs vt hs b o);
+        searches = λ first last vf vl ms b o hs b₁ o₁. ends-on (turns-call (h .clock) vc first last vf vl ms b o hs b₁ o₁);
+        hands = ends-on (names-call (h .clock) vc);
       }
 
 -- the runs of a list give what the document gives, and leave a clock that holds what is worked out after them

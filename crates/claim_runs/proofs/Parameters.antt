@@ -7,12 +7,14 @@ use mir.Syntax.{w32, w64}
 use mir.Val.{Val}
 use base.Logic.{id⊢, monoR, emp}
 use base.Fml.{Share}
+use prog.Routine.{Routine}
 use contract.Monad.{top, fact}
 use denote.Builtin.{u8, u32, i32, i64, usize}
 use denote.Laws.{Is, Makes}
 use denote.Plain.{uint-makes}
 use denote.Signed.{sint-makes}
 use denote.Struct.Laws as LL
+use denote.Triple.Clauses.{Ended}
 use borrow.Fn.World.{w₀}
 use Rattle.station.specs.declared.records.Record.{Record}
 use Rattle.station.specs.declared.records.Rows.{Rows}
@@ -25,15 +27,34 @@ use Rattle.clock.proofs.Clock as ClockType
 use Rattle.clock.proofs.Clock.Laws as ClockLaws
 use Rattle.clock.proofs.new as new
 use Rattle.clock.proofs.load_cards as load
+use Rattle.clock.proofs.load_cards.Symbol as loadCode
+use Rattle.clock.proofs.load_cards.Met as loadMet
 use Rattle.clock.proofs.set_station as station
+use Rattle.clock.proofs.set_station.Symbol as stationCode
+use Rattle.clock.proofs.set_station.Met as stationMet
 use Rattle.clock.proofs.place_station as placing
+use Rattle.clock.proofs.place_station.Symbol as placingCode
+use Rattle.clock.proofs.place_station.Met as placingMet
 use Rattle.clock.proofs.set_date as date
+use Rattle.clock.proofs.set_date.Symbol as dateCode
+use Rattle.clock.proofs.set_date.Met as dateMet
 use Rattle.clock.proofs.height as height
+use Rattle.clock.proofs.height.Symbol as heightCode
+use Rattle.clock.proofs.height.Met as heightMet
 use Rattle.clock.proofs.series as series
+use Rattle.clock.proofs.series.Symbol as seriesCode
+use Rattle.clock.proofs.series.Met as seriesMet
 use Rattle.clock.proofs.turns as turns
+use Rattle.clock.proofs.turns.Symbol as turnsCode
+use Rattle.clock.proofs.turns.Met as turnsMet
 use Rattle.clock.proofs.names as names
+use Rattle.clock.proofs.names.Symbol as namesCode
+use Rattle.clock.proofs.names.Met as namesMet
+use Rattle.claim.specs.Calls.{ClausesOf}
 use Rattle.claim_runs.specs.Handed.{_∗_, Handed, value, reads, writes}
+use Rattle.claim_runs.proofs.Lending as had
 use Rattle.claim_runs.proofs.Lending.{lifetimes, wholes, denotes, valuesOf}
+use Rattle.claim_runs.proofs.Ran.{Theorem}
 use Rattle.claim_runs.proofs.Handing.{W₀, Takes}
 
 -- ---- values are had for nothing
@@ -53,6 +74,15 @@ usize-makes = uint-makes (w₀ .𝓤) (w₀ .H) (w₀ .𝓖 .A) W₀ w64
 pub i32-makes : Makes (w₀ .𝓤) (w₀ .H) (w₀ .𝓖 .A) i32 (Is i32)
 i32-makes = sint-makes (w₀ .𝓤) (w₀ .H) (w₀ .𝓖 .A) W₀ w32
 
+-- A function of the clock and its routine f, which is handed the clock c, with the machine's value vc, and what else there is: it meets its
+-- contract, and asks for a clock that a call made.
+pub record Callable (c : Clock) (vc : Val) (f : Routine) (hs : List Handed) : Type 2 where
+  pub ended : Ended
+  pub clauses : ClausesOf ended
+  pub met : Theorem ended clauses f
+  pub makes : had.Made (w₀ .𝓤) (w₀ .H) (w₀ .𝓖 .A) hs
+  pub takes : Takes ended clauses (value ClockType.the-row c vc ∷ hs) (Made c)
+
 -- ---- each function
 
 unfoldable pub new-takes : Takes new.ended (λ M. new.clauses) [] (Unit {0})
@@ -71,106 +101,154 @@ module _ (c : Clock) (vc : Val) where
   abbrev clock : Handed
   clock = value ClockType.the-row c vc
 
-  unfoldable pub load-takes : (file : List ℕ) (q : Share) (b o : ℕ) → Takes load.ended (λ M. load.clauses) (clock ∷ reads u8 q file b o ∷ []) (Made c)
-  load-takes file q b o =
+  unfoldable pub load-call : (file : List ℕ) (q : Share) (b o : ℕ) → Callable c vc loadCode.routine (reads u8 q file b o ∷ [])
+  load-call file q b o =
       let all : List Handed = clock ∷ reads u8 q file b o ∷ [] in
       record {
-        entry = λ ns. (lifetimes all ns, wholes all, tt, denotes 0 all ns, valuesOf 0 all ns);
-        bound = λ ns w. tt;
-        passes = λ ns. refl;
-        asks = λ ns. id⊢ (w₀ .𝓤) _;
-        writes = λ ns ws. tt;
-        says = λ ns ws. id⊢ (w₀ .𝓤) _;
-        alive-is = λ ns. id⊢ (w₀ .𝓤) _;
+        ended = load.ended;
+        clauses = λ M. load.clauses;
+        met = λ M. loadMet.met;
+        makes = tt;
+        takes = record {
+          entry = λ ns. (lifetimes all ns, wholes all, tt, denotes 0 all ns, valuesOf 0 all ns);
+          bound = λ ns w. tt;
+          passes = λ ns. refl;
+          asks = λ ns. id⊢ (w₀ .𝓤) _;
+          writes = λ ns ws. tt;
+          says = λ ns ws. id⊢ (w₀ .𝓤) _;
+          alive-is = λ ns. id⊢ (w₀ .𝓤) _;
+        };
       }
 
-  unfoldable pub station-takes : (latitude : ℤ) (vl : Val) (records : List Record) (q : Share) (b o : ℕ) → Takes station.ended (λ M. station.clauses) (clock ∷ value i32 latitude vl ∷ reads RecordType.the-row q records b o ∷ []) (Made c)
-  station-takes latitude vl records q b o =
+  unfoldable pub station-call : (latitude : ℤ) (vl : Val) (records : List Record) (q : Share) (b o : ℕ) → Callable c vc stationCode.routine (value i32 latitude vl ∷ reads RecordType.the-row q records b o ∷ [])
+  station-call latitude vl records q b o =
       let all : List Handed = clock ∷ value i32 latitude vl ∷ reads RecordType.the-row q records b o ∷ [] in
       record {
-        entry = λ ns. (lifetimes all ns, wholes all, tt, denotes 0 all ns, valuesOf 0 all ns);
-        bound = λ ns w. tt;
-        passes = λ ns. refl;
-        asks = λ ns. id⊢ (w₀ .𝓤) _;
-        writes = λ ns ws. tt;
-        says = λ ns ws. id⊢ (w₀ .𝓤) _;
-        alive-is = λ ns. id⊢ (w₀ .𝓤) _;
+        ended = station.ended;
+        clauses = λ M. station.clauses;
+        met = λ M. stationMet.met;
+        makes = (i32-makes, tt);
+        takes = record {
+          entry = λ ns. (lifetimes all ns, wholes all, tt, denotes 0 all ns, valuesOf 0 all ns);
+          bound = λ ns w. tt;
+          passes = λ ns. refl;
+          asks = λ ns. id⊢ (w₀ .𝓤) _;
+          writes = λ ns ws. tt;
+          says = λ ns ws. id⊢ (w₀ .𝓤) _;
+          alive-is = λ ns. id⊢ (w₀ .𝓤) _;
+        };
       }
 
-  unfoldable pub placing-takes : (latitude : ℤ) (n : ℕ) (rows : Rows) (vl vn vr : Val) → Takes placing.ended (λ M. placing.clauses) (clock ∷ value i32 latitude vl ∷ value usize n vn ∷ value RowsType.the-row rows vr ∷ []) (Made c)
-  placing-takes latitude n rows vl vn vr =
+  unfoldable pub placing-call : (latitude : ℤ) (n : ℕ) (rows : Rows) (vl vn vr : Val) → Callable c vc placingCode.routine (value i32 latitude vl ∷ value usize n vn ∷ value RowsType.the-row rows vr ∷ [])
+  placing-call latitude n rows vl vn vr =
       let all : List Handed = clock ∷ value i32 latitude vl ∷ value usize n vn ∷ value RowsType.the-row rows vr ∷ [] in
       record {
-        entry = λ ns. (lifetimes all ns, wholes all, tt, denotes 0 all ns, valuesOf 0 all ns);
-        bound = λ ns w. tt;
-        passes = λ ns. refl;
-        asks = λ ns. id⊢ (w₀ .𝓤) _;
-        writes = λ ns ws. tt;
-        says = λ ns ws. id⊢ (w₀ .𝓤) _;
-        alive-is = λ ns. id⊢ (w₀ .𝓤) _;
+        ended = placing.ended;
+        clauses = λ M. placing.clauses;
+        met = λ M. placingMet.met;
+        makes = (i32-makes, (usize-makes, (rows-make, tt)));
+        takes = record {
+          entry = λ ns. (lifetimes all ns, wholes all, tt, denotes 0 all ns, valuesOf 0 all ns);
+          bound = λ ns w. tt;
+          passes = λ ns. refl;
+          asks = λ ns. id⊢ (w₀ .𝓤) _;
+          writes = λ ns ws. tt;
+          says = λ ns ws. id⊢ (w₀ .𝓤) _;
+          alive-is = λ ns. id⊢ (w₀ .𝓤) _;
+        };
       }
 
-  unfoldable pub date-takes : (year month : ℕ) (vy vm : Val) → Takes date.ended (λ M. date.clauses) (clock ∷ value u32 year vy ∷ value u32 month vm ∷ []) (Made c)
-  date-takes year month vy vm =
+  unfoldable pub date-call : (year month : ℕ) (vy vm : Val) → Callable c vc dateCode.routine (value u32 year vy ∷ value u32 month vm ∷ [])
+  date-call year month vy vm =
       let all : List Handed = clock ∷ value u32 year vy ∷ value u32 month vm ∷ [] in
       record {
-        entry = λ ns. (lifetimes all ns, wholes all, tt, denotes 0 all ns, valuesOf 0 all ns);
-        bound = λ ns w. tt;
-        passes = λ ns. refl;
-        asks = λ ns. id⊢ (w₀ .𝓤) _;
-        writes = λ ns ws. tt;
-        says = λ ns ws. id⊢ (w₀ .𝓤) _;
-        alive-is = λ ns. id⊢ (w₀ .𝓤) _;
+        ended = date.ended;
+        clauses = λ M. date.clauses;
+        met = λ M. dateMet.met;
+        makes = (u32-makes, (u32-makes, tt));
+        takes = record {
+          entry = λ ns. (lifetimes all ns, wholes all, tt, denotes 0 all ns, valuesOf 0 all ns);
+          bound = λ ns w. tt;
+          passes = λ ns. refl;
+          asks = λ ns. id⊢ (w₀ .𝓤) _;
+          writes = λ ns ws. tt;
+          says = λ ns ws. id⊢ (w₀ .𝓤) _;
+          alive-is = λ ns. id⊢ (w₀ .𝓤) _;
+        };
       }
 
-  unfoldable pub height-takes : (minute : ℕ) (vm : Val) → Takes height.ended (λ M. height.clauses) (clock ∷ value u32 minute vm ∷ []) (Made c)
-  height-takes minute vm =
+  unfoldable pub height-call : (minute : ℕ) (vm : Val) → Callable c vc heightCode.routine (value u32 minute vm ∷ [])
+  height-call minute vm =
       let all : List Handed = clock ∷ value u32 minute vm ∷ [] in
       record {
-        entry = λ ns. (lifetimes all ns, wholes all, tt, denotes 0 all ns, valuesOf 0 all ns);
-        bound = λ ns w. tt;
-        passes = λ ns. refl;
-        asks = λ ns. id⊢ (w₀ .𝓤) _;
-        writes = λ ns ws. tt;
-        says = λ ns ws. id⊢ (w₀ .𝓤) _;
-        alive-is = λ ns. id⊢ (w₀ .𝓤) _;
+        ended = height.ended;
+        clauses = λ M. height.clauses;
+        met = λ M. heightMet.met;
+        makes = (u32-makes, tt);
+        takes = record {
+          entry = λ ns. (lifetimes all ns, wholes all, tt, denotes 0 all ns, valuesOf 0 all ns);
+          bound = λ ns w. tt;
+          passes = λ ns. refl;
+          asks = λ ns. id⊢ (w₀ .𝓤) _;
+          writes = λ ns ws. tt;
+          says = λ ns ws. id⊢ (w₀ .𝓤) _;
+          alive-is = λ ns. id⊢ (w₀ .𝓤) _;
+        };
       }
 
-  unfoldable pub series-takes : (start step : ℕ) (vs vt : Val) (hs : List ℤ) (b o : ℕ) → Takes series.ended (λ M. series.clauses) (clock ∷ value u32 start vs ∷ value u32 step vt ∷ writes i64 hs b o ∷ []) (Made c)
-  series-takes start step vs vt hs b o =
+  unfoldable pub series-call : (start step : ℕ) (vs vt : Val) (hs : List ℤ) (b o : ℕ) → Callable c vc seriesCode.routine (value u32 start vs ∷ value u32 step vt ∷ writes i64 hs b o ∷ [])
+  series-call start step vs vt hs b o =
       let all : List Handed = clock ∷ value u32 start vs ∷ value u32 step vt ∷ writes i64 hs b o ∷ [] in
       record {
-        entry = λ ns. (lifetimes all ns, wholes all, tt, denotes 0 all ns, valuesOf 0 all ns);
-        bound = λ ns w. tt;
-        passes = λ ns. refl;
-        asks = λ ns. id⊢ (w₀ .𝓤) _;
-        writes = λ ns ws. (ws .1 .1 .1 .0, tt);
-        says = λ ns ws. id⊢ (w₀ .𝓤) _;
-        alive-is = λ ns. id⊢ (w₀ .𝓤) _;
+        ended = series.ended;
+        clauses = λ M. series.clauses;
+        met = λ M. seriesMet.met;
+        makes = (u32-makes, (u32-makes, tt));
+        takes = record {
+          entry = λ ns. (lifetimes all ns, wholes all, tt, denotes 0 all ns, valuesOf 0 all ns);
+          bound = λ ns w. tt;
+          passes = λ ns. refl;
+          asks = λ ns. id⊢ (w₀ .𝓤) _;
+          writes = λ ns ws. (ws .1 .1 .1 .0, tt);
+          says = λ ns ws. id⊢ (w₀ .𝓤) _;
+          alive-is = λ ns. id⊢ (w₀ .𝓤) _;
+        };
       }
 
-  unfoldable pub turns-takes : (first last : ℕ) (vf vl : Val) (ms : List ℕ) (b o : ℕ) (hs : List ℤ) (b₁ o₁ : ℕ) → Takes turns.ended (λ M. turns.clauses) (clock ∷ value u32 first vf ∷ value u32 last vl ∷ writes u32 ms b o ∷ writes i64 hs b₁ o₁ ∷ []) (Made c)
-  turns-takes first last vf vl ms b o hs b₁ o₁ =
+  unfoldable pub turns-call : (first last : ℕ) (vf vl : Val) (ms : List ℕ) (b o : ℕ) (hs : List ℤ) (b₁ o₁ : ℕ) → Callable c vc turnsCode.routine (value u32 first vf ∷ value u32 last vl ∷ writes u32 ms b o ∷ writes i64 hs b₁ o₁ ∷ [])
+  turns-call first last vf vl ms b o hs b₁ o₁ =
       let all : List Handed = clock ∷ value u32 first vf ∷ value u32 last vl ∷ writes u32 ms b o ∷ writes i64 hs b₁ o₁ ∷ [] in
       record {
-        entry = λ ns. (lifetimes all ns, wholes all, tt, denotes 0 all ns, valuesOf 0 all ns);
-        bound = λ ns w. tt;
-        passes = λ ns. refl;
-        asks = λ ns. id⊢ (w₀ .𝓤) _;
-        writes = λ ns ws. (ws .1 .1 .1 .0, (ws .1 .1 .1 .1 .0, tt));
-        says = λ ns ws. id⊢ (w₀ .𝓤) _;
-        alive-is = λ ns. id⊢ (w₀ .𝓤) _;
+        ended = turns.ended;
+        clauses = λ M. turns.clauses;
+        met = λ M. turnsMet.met;
+        makes = (u32-makes, (u32-makes, tt));
+        takes = record {
+          entry = λ ns. (lifetimes all ns, wholes all, tt, denotes 0 all ns, valuesOf 0 all ns);
+          bound = λ ns w. tt;
+          passes = λ ns. refl;
+          asks = λ ns. id⊢ (w₀ .𝓤) _;
+          writes = λ ns ws. (ws .1 .1 .1 .0, (ws .1 .1 .1 .1 .0, tt));
+          says = λ ns ws. id⊢ (w₀ .𝓤) _;
+          alive-is = λ ns. id⊢ (w₀ .𝓤) _;
+        };
       }
 
-  unfoldable pub names-takes : Takes names.ended (λ M. names.clauses) (clock ∷ []) (Made c)
-  names-takes =
+  unfoldable pub names-call : Callable c vc namesCode.routine ([])
+  names-call =
       let all : List Handed = clock ∷ [] in
       record {
-        entry = λ ns. (lifetimes all ns, wholes all, tt, denotes 0 all ns, valuesOf 0 all ns);
-        bound = λ ns w. tt;
-        passes = λ ns. refl;
-        asks = λ ns. id⊢ (w₀ .𝓤) _;
-        writes = λ ns ws. tt;
-        says = λ ns ws. id⊢ (w₀ .𝓤) _;
-        alive-is = λ ns. id⊢ (w₀ .𝓤) _;
+        ended = names.ended;
+        clauses = λ M. names.clauses;
+        met = λ M. namesMet.met;
+        makes = tt;
+        takes = record {
+          entry = λ ns. (lifetimes all ns, wholes all, tt, denotes 0 all ns, valuesOf 0 all ns);
+          bound = λ ns w. tt;
+          passes = λ ns. refl;
+          asks = λ ns. id⊢ (w₀ .𝓤) _;
+          writes = λ ns ws. tt;
+          says = λ ns ws. id⊢ (w₀ .𝓤) _;
+          alive-is = λ ns. id⊢ (w₀ .𝓤) _;
+        };
       }

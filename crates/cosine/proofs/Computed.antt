@@ -5,8 +5,8 @@ use mathlib.Core.List.{List}
 use Prim.Native.Nat.{ℕ, _-_, _+_, _*_, _<_}
 use lib.Dec.{T, lit≤, lit<}
 use lib.ListN.{length}
-use Rattle.cosine.specs.Fraction.{quarter, factorial, arc, unit, term, added, taken, whole, base, cosine, sine}
-use Rattle.cosine.specs.Fixed.{entries, step, bound, entry, fixedCosine, fixedSine, Within, IsNearest, IsTable}
+use Rattle.cosine.specs.Fraction.{quarter, factorial, arc, unit, term, added, taken, whole, base}
+use Rattle.cosine.specs.Fixed.{entries, step, bound, entry, fixedCosine, CosineWithin, SineWithin, EntriesNearest, IsTable}
 use Rattle.cosine.proofs.Chord.{rise, bend}
 use Rattle.cosine.proofs.Series.{share, weight, addedBend, takenBend}
 use Rattle.cosine.proofs.Claim.{claim}
@@ -22,16 +22,14 @@ unfolding sound falling entry base added taken whole term factorial arc unit add
 passed =
     record { some = lit< tt; steps = refl; top = lit≤ tt; all-sound = tt; all-fall = tt; bends-added = lit≤ tt; bends-taken = lit≤ tt }
 
--- "each the whole number nearest 2^30 times the base fraction"
-pub entries-nearest : (i : ℕ) → i < entries → IsNearest (entry step i) (base (i * step))
+pub entries-nearest : EntriesNearest
 entries-nearest = is-nearest passed
 
--- "It is within 1,024 of 2^30 times the fraction."
-pub cosine-within : (t : ℕ) → Within bound (fixedCosine t) (cosine t)
+pub cosine-within : CosineWithin
 unfolding fixedCosine
 cosine-within = claim bound step (entries - 1) (good passed)
 
-pub sine-within : (t : ℕ) → Within bound (fixedSine t) (sine t)
+pub sine-within : SineWithin
 sine-within t = cosine-within (t + 3 * quarter)
 
 -- a list that passes the test at each of its places is the table

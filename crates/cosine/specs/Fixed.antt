@@ -7,7 +7,7 @@ use mathlib.Core.Bool.{cond}
 use lib.Dec.{eqb}
 use lib.IntN.{ℤ, pos, natAbs, _-ℤ_, _*ℤ_}
 use lib.ListN.{getD}
-use Rattle.cosine.specs.Fraction.{quarter, whole, base, around}
+use Rattle.cosine.specs.Fraction.{quarter, whole, base, around, cosine, sine}
 
 -- Cosines are counted in units of 2^-30.
 abbrev pub one : ℕ
@@ -55,6 +55,17 @@ fixedSine t = fixedCosine (t + 3 * quarter)
 -- "It is within 1,024 of 2^30 times the fraction": |f - 2^30 × c / whole| ≤ e, both sides times `whole`
 abbrev pub Within : ℕ → ℤ → ℤ → Type 0
 Within e f c = natAbs (f *ℤ pos whole -ℤ pos one *ℤ c) ≤ e * whole
+
+-- What is proved of them (proofs/Computed.antt), of every angle and every entry:
+abbrev pub CosineWithin : Type 0
+CosineWithin = (t : ℕ) → Within bound (fixedCosine t) (cosine t)
+
+abbrev pub SineWithin : Type 0
+SineWithin = (t : ℕ) → Within bound (fixedSine t) (sine t)
+
+-- "each the whole number nearest 2^30 times the base fraction"
+abbrev pub EntriesNearest : Type 0
+EntriesNearest = (i : ℕ) → i < entries → IsNearest (entry step i) (base (i * step))
 
 -- The list is the table.
 pub record IsTable (xs : List ℕ) : Type 0 where

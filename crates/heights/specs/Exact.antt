@@ -7,6 +7,7 @@ use lib.ListN.{length}
 use Rattle.cosine.specs.Fraction.{whole, cosine, sine}
 use Rattle.month_prepared.specs.Prepared.{Constituent}
 use Rattle.heights.specs.Angle.{angleAt}
+use Rattle.heights.specs.Height.{heightAt}
 
 -- "The exact sum is the sum of P × cosine fraction - Q × sine fraction, each at its constituent's angle, over 4,096; for an empty station
 -- it is 0." The fractions are over `whole`, so the exact sum is exactSum / (4,096 × whole).
@@ -30,3 +31,7 @@ abbrev pub Near : List Constituent → ℕ → ℤ → Type 0
 Near cs minute height =
     natAbs (pos (scale * whole) *ℤ height -ℤ pos (scale / 4_096) *ℤ exactSum cs minute)
     ≤ (scale / 2 + scale / 4_096 * length cs + sizes cs) * whole
+
+-- What is proved (proofs/distance/Distance.antt), of every list of constituents and every minute:
+abbrev pub HeightsNear : Type 0
+HeightsNear = (cs : List Constituent) (minute : ℕ) → Near cs minute (heightAt cs minute)

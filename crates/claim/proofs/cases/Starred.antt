@@ -14,7 +14,7 @@ use Rattle.month_arguments.specs.Arguments.{argument}
 use Rattle.month_satellites.specs.Satellites.{sumOver, mainPair}
 use Rattle.month.specs.Month.{constituent}
 use Rattle.heights.specs.Height.{heightAt}
-use Rattle.claim.specs.Starred.{starred, Z0, AllHold}
+use Rattle.claim.specs.Starred.{starred, Z0, StarredHold}
 use Rattle.claim.proofs.cases.Advance.{advance-is}
 use Rattle.claim.proofs.cases.Level.{level-height, cosineOfLag}
 
@@ -28,11 +28,11 @@ module _ (A minute : ℕ) where
   unfolding constituent argument times longitudesOn longitude dayCount yearsDays monthsDays monthDays isFourth mainPair sumOver
   z0-height lag s e = level-height A s lag minute e
 
-  pub all-hold : AllHold (starred A minute)
-  unfolding starred fixedCosine fixedBase entry base added taken whole term factorial arc unit argument times longitudesOn longitude dayCount yearsDays monthsDays monthDays isFourth ints.one
-  all-hold =
-      refl and refl and refl and refl and refl and refl and ap pos (advance-is 0 0 805_114_007 minute) and refl and refl
-      and z0-height 0 (pos 1) refl ∙ *ℤ-one (pos A)
-      and z0-height 18_000 (negsuc 0) refl ∙ *ℤ-negsuc (pos A) 0 ∙ ap negℤ (*ℤ-one (pos A))
-      and z0-height 9_000 (pos 0) refl ∙ *ℤ-zero (pos A)
-      and refl and refl and refl and tt
+pub all-hold : StarredHold
+unfolding starred fixedCosine fixedBase entry base added taken whole term factorial arc unit argument times longitudesOn longitude dayCount yearsDays monthsDays monthDays isFourth ints.one
+all-hold A minute =
+    refl and refl and refl and refl and refl and refl and ap pos (advance-is 0 0 805_114_007 minute) and refl and refl
+    and z0-height A minute 0 (pos 1) refl ∙ *ℤ-one (pos A)
+    and z0-height A minute 18_000 (negsuc 0) refl ∙ *ℤ-negsuc (pos A) 0 ∙ ap negℤ (*ℤ-one (pos A))
+    and z0-height A minute 9_000 (pos 0) refl ∙ *ℤ-zero (pos A)
+    and refl and refl and refl and tt

@@ -19,7 +19,7 @@ use Rattle.heights.specs.Angle.{angleAt}
 use Rattle.heights.specs.Share.{share}
 use Rattle.heights.specs.Height.{sumOfShares, heightAt}
 use Rattle.heights.specs.Series.{seriesOf}
-use Rattle.heights.specs.Exact.{exactSum, sizes, scale, Near}
+use Rattle.heights.specs.Exact.{exactSum, sizes, scale, Near, HeightsNear}
 use Rattle.heights.proofs.series.Written.{series-height}
 use Rattle.heights.proofs.distance.Apart.{apart-sums, apart-through, apart-times, apart-floor, apart-nearest}
 
@@ -80,7 +80,7 @@ module _ (e : ℕ) (claim : (t : ℕ) → Within e (fixedCosine t) (cosine t)) w
 
 -- ---- at cosine's own bound: both sides are divided by it
 
-pub height-is-near : (cs : List Constituent) (minute : ℕ) → Near cs minute (heightAt cs minute)
+pub height-is-near : HeightsNear
 height-is-near cs minute =
     let h = heightAt cs minute in
     let a = pos (scale * whole) *ℤ h in
