@@ -23,7 +23,7 @@ use Rattle.calls.specs.Returned.{Returned, accepted, heightIs, turnsAre, refuse
 use Rattle.calls.specs.Calls.{cardsReturns, cardsLeaves, fileReturns, fileLeaves, stationReturns, stationLeaves, dateReturns, dateLeaves, heightReturns, seriesGives, turnsGives}
 use Rattle.clock.specs.View.{view, Made}
 use Rattle.clock.specs.Posts.{NewPost, CardsPost, StationPost, DatePost, HeightPost, SeriesPost, TurnsPost}
-use Rattle.claim.specs.Calls.{Keeps, New, news, Call, loads, stations, placed, dates, heights, serieses, searches, hands, Calls, done, _then_}
+use Rattle.claim.specs.Calls.{Keeps, New, Call, Calls, done, _then_}
 use Rattle.claim.specs.Document.{Request, Cards, Station, Date, Gave, told, wrote, found, named, Last, nothing, workedOut, after, gives, givesAll, lastAfter, EachNear}
 use Rattle.claim.specs.Claim.{Claim, OfAnyCalls}
 use Rattle.claim.proofs.Points.{near-calls}
@@ -72,7 +72,7 @@ holds {φ} {ψ} k = k .keeps φ ψ (λ w. id⊢ (w .𝓤) (fact (w .𝓤) φ)) (
 
 pub new-agrees : {c : Clock} → New c → ∥ Agrees c nothing ∥₁
 unfolding workedOut
-new-agrees (news {r} x) =
+new-agrees (New.news {r} x) =
     ∥∥₁-map (x .contract .keeps (Unit {0}) (NewPost r) (λ w. top (w .𝓤) _) (λ w. id⊢ (w .𝓤) _) tt) (λ p. record { made = p .made; keeps = p .leaves })
 
 pub station-agrees : {c c′ : Clock} {latitude : ℤ} {records : List Record} {answer : Answer} (l : Last) → Agrees c l → ∥ StationPost c latitude records answer c′ ∥₁
@@ -86,30 +86,30 @@ station-agrees {latitude = latitude} {records = records} l h post =
 
 pub call-agrees : {c c′ : Clock} {q : Request} {g : Gave} (l : Last) → Agrees c l → Call c q g c′ → ∥ ((g ≡ gives l q) × Agrees c′ (after l q)) ∥₁
 unfolding gives after
-call-agrees l h (loads {c = c} {file = file} {r = r} x) =
+call-agrees l h (Call.loads {c = c} {file = file} {r = r} x) =
     ∥∥₁-map (holds {φ = Made c} {ψ = CardsPost c (now file) (r .answer) (r .clock)} (x .contract) (h .made)) (λ p. (
       ap told (p .returns),
       record { made = p .made; keeps = p .leaves ∙ ap (λ (k : State). cardsLeaves k (now file)) (h .keeps) ∙ cards-works l (now file) },
     ))
-call-agrees l h (stations {c = c} {latitude = latitude} {records = records} {r = r} x) =
+call-agrees l h (Call.stations {c = c} {latitude = latitude} {records = records} {r = r} x) =
     station-agrees l h (holds {φ = Made c} {ψ = StationPost c latitude (now records) (r .answer) (r .clock)} (x .contract) (h .made))
-call-agrees l h (placed {c = c} {latitude = latitude} {n = n} {rows = rows} {r = r} x) =
+call-agrees l h (Call.placed {c = c} {latitude = latitude} {n = n} {rows = rows} {r = r} x) =
     station-agrees l h (holds {φ = Made c} {ψ = StationPost c latitude (recordsOf rows n) (r .answer) (r .clock)} (x .contract) (h .made))
-call-agrees l h (dates {c = c} {year = year} {month = month} {r = r} x) =
+call-agrees l h (Call.dates {c = c} {year = year} {month = month} {r = r} x) =
     ∥∥₁-map (holds {φ = Made c} {ψ = DatePost c year month (r .answer) (r .clock)} (x .contract) (h .made)) (λ p. (
       ap told (p .returns ∙ ap (λ (k : State). dateReturns k year month) (h .keeps)),
       record { made = p .made; keeps = p .leaves ∙ ap (λ (k : State). dateLeaves k year month) (h .keeps) ∙ date-works l year month },
     ))
-call-agrees l h (heights {c = c} {minute = minute} {r = r} x) =
+call-agrees l h (Call.heights {c = c} {minute = minute} {r = r} x) =
     ∥∥₁-map (holds {φ = Made c} {ψ = HeightPost c minute r} (x .contract) (h .made)) (λ p.
     (ap told (p .returns ∙ ap (λ (k : State). heightReturns k minute) (h .keeps)), h))
-call-agrees l h (serieses {c = c} {start = start} {step = step} {before = hs} {after = hs′} {r = r} x) =
+call-agrees l h (Call.serieses {c = c} {start = start} {step = step} {before = hs} {after = hs′} {r = r} x) =
     ∥∥₁-map (holds {φ = Made c} {ψ = SeriesPost c start step (now hs) hs′ r} (x .contract) (h .made)) (λ p.
     (ap wrote (p .gives ∙ ap (λ (k : State). seriesGives k start step (now hs)) (h .keeps)), h))
-call-agrees l h (searches {c = c} {first = first} {last = last} {ms = ms} {hs = hs} {ms′ = ms′} {hs′ = hs′} {r = r} x) =
+call-agrees l h (Call.searches {c = c} {first = first} {last = last} {ms = ms} {hs = hs} {ms′ = ms′} {hs′ = hs′} {r = r} x) =
     ∥∥₁-map (holds {φ = Made c} {ψ = TurnsPost c first last (now ms) ms′ (now hs) hs′ r} (x .contract) (h .made)) (λ p.
     (ap found (p .gives ∙ ap (λ (k : State). turnsGives k first last (now ms) (now hs)) (h .keeps)), h))
-call-agrees l h (hands {c = c} {r = r} x) =
+call-agrees l h (Call.hands {c = c} {r = r} x) =
     ∥∥₁-map (holds {φ = Made c} {ψ = namesFrom (r .bytes) 0 (r .count) ≡ namesIn (view c)} (x .contract) (h .made)) (λ p.
     (ap named (p ∙ ap namesIn (h .keeps)), h))
 

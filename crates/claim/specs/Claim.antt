@@ -1,4 +1,5 @@
--- 01, demand 3: THE CLAIM, as it is proved (proofs/Claim.antt), and what it says of a single height, a series' and a turn's.
+-- 01, demand 3: THE CLAIM, as it is proved (proofs/Claim.antt), and what it says of a single height, of a series and of turns
+-- (proofs/AtEachHeight.antt).
 -- Assumes nothing.
 use Prim.Native.Nat.{ℕ, _+_, _*_, _<_}
 use mathlib.Core.Bool.{Bool}

@@ -1,5 +1,5 @@
 -- The claim speaks of something: each of its premises can be met. Whatever meets what a function of the clock ensures is a call of it, with
--- any values and any buffers; and there are lists with each kind of call in them. (proofs/Controls.antt. That the clock's own functions make
+-- any values and any buffers; and there are lists with each kind of call in them. (proofs/Backed.antt. That the clock's own functions make
 -- such calls, accepted ones too, is shown of their runs: crate claim_runs.)
 -- Assumes nothing.
 use Prim.Native.Nat.{ℕ}

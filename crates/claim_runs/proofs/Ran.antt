@@ -24,7 +24,7 @@ use denote.Triple.Entry.{Res, alive, onEntry}
 use denote.Triple.Spec.{Back, Meets, tripleOf}
 use borrow.Fn.World.{World, w₀}
 use Rattle.claim.specs.Calls.{ClausesOf, clausesAt, Once}
-use Rattle.claim.proofs.Controls.{backed}
+use Rattle.claim.proofs.Backed.{backed}
 use Rattle.claim_runs.specs.Handed.{Assertion, _∗_, _⊨_}
 
 module _ (T : Ended) (C : ClausesOf T) where

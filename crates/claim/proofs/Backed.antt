@@ -36,7 +36,7 @@ use Rattle.clock.specs.Returned.{heightReturned, turnsReturned}
 use Rattle.calls.specs.Calls.{cardsReturns, cardsLeaves, stationReturns, stationLeaves, dateReturns, dateLeaves, heightReturns, seriesGives, turnsGives}
 use Rattle.clock.specs.Posts.{NewPost, CardsPost, StationPost, DatePost, HeightPost, SeriesPost, TurnsPost}
 use Rattle.claim.specs.Document.{Cards, Station, Date, Height, Series, Turns, Names, told, wrote, found, named}
-use Rattle.claim.specs.Calls.{Keeps, New, news, Call, loads, stations, placed, dates, heights, serieses, searches, hands, Calls, done, _then_}
+use Rattle.claim.specs.Calls.{Keeps, New, Call, Calls, done, _then_}
 use Rattle.claim.specs.Controls.{Controls, eachKind, eachRefused}
 
 -- Wherever some memory satisfies what a call's `ensures` says, in the closed model, the call keeps its contract in the sense of `Calls`.
@@ -87,41 +87,41 @@ no-month c year month p =
 -- ---- each kind of call is there
 
 new-there : (c : Clock) → NewPost c → New c
-new-there c p = news (record { bound = λ w. tt; contract = kept _ (NewPost c) p })
+new-there c p = New.news (record { bound = λ w. tt; contract = kept _ (NewPost c) p })
 
 cards-there : (c c′ : Clock) (file : List ℕ) (answer : Answer) → CardsPost c file answer c′ → Call c (Cards file) (told (answerReturned answer)) c′
 cards-there c c′ file answer p =
-    loads {κs = ([], tt)} {file = lent file} {r = record { answer = answer; clock = c′ }} (record { bound = λ w. tt; contract = kept _ (CardsPost c file answer c′) p })
+    Call.loads {κs = ([], tt)} {file = lent file} {r = record { answer = answer; clock = c′ }} (record { bound = λ w. tt; contract = kept _ (CardsPost c file answer c′) p })
 
 station-there : (c c′ : Clock) (latitude : ℤ) (records : List Record) (answer : Answer) → StationPost c latitude records answer c′
     → Call c (Station latitude records) (told (answerReturned answer)) c′
 station-there c c′ latitude records answer p =
-    stations {κs = ([], tt)} {records = lent records} {r = record { answer = answer; clock = c′ }} (record { bound = λ w. tt; contract = kept _ (StationPost c latitude records answer c′) p })
+    Call.stations {κs = ([], tt)} {records = lent records} {r = record { answer = answer; clock = c′ }} (record { bound = λ w. tt; contract = kept _ (StationPost c latitude records answer c′) p })
 
 placing-there : (c c′ : Clock) (latitude : ℤ) (n : ℕ) (rows : Rows) (answer : Answer) → StationPost c latitude (recordsOf rows n) answer c′
     → Call c (Station latitude (recordsOf rows n)) (told (answerReturned answer)) c′
 placing-there c c′ latitude n rows answer p =
-    placed {n = n} {rows = rows} {r = record { answer = answer; clock = c′ }} (record { bound = λ w. tt; contract = kept _ (StationPost c latitude (recordsOf rows n) answer c′) p })
+    Call.placed {n = n} {rows = rows} {r = record { answer = answer; clock = c′ }} (record { bound = λ w. tt; contract = kept _ (StationPost c latitude (recordsOf rows n) answer c′) p })
 
 date-there : (c c′ : Clock) (year month : ℕ) (answer : Answer) → DatePost c year month answer c′ → Call c (Date year month) (told (answerReturned answer)) c′
 date-there c c′ year month answer p =
-    dates {r = record { answer = answer; clock = c′ }} (record { bound = λ w. tt; contract = kept _ (DatePost c year month answer c′) p })
+    Call.dates {r = record { answer = answer; clock = c′ }} (record { bound = λ w. tt; contract = kept _ (DatePost c year month answer c′) p })
 
 height-there : (c : Clock) (minute : ℕ) (answer : HeightAnswer) → HeightPost c minute answer → Call c (Height minute) (told (heightReturned answer)) c
-height-there c minute answer p = heights (record { bound = λ w. tt; contract = kept _ (HeightPost c minute answer) p })
+height-there c minute answer p = Call.heights (record { bound = λ w. tt; contract = kept _ (HeightPost c minute answer) p })
 
 series-there : (c : Clock) (start step : ℕ) (hs hs′ : List ℤ) (answer : Answer) → SeriesPost c start step hs hs′ answer
     → Call c (Series start step hs) (wrote (record { returned = answerReturned answer; heights = hs′ })) c
 series-there c start step hs hs′ answer p =
-    serieses {κs = ([], tt)} {before = lent hs} (record { bound = λ w. tt; contract = kept _ (SeriesPost c start step hs hs′ answer) p })
+    Call.serieses {κs = ([], tt)} {before = lent hs} (record { bound = λ w. tt; contract = kept _ (SeriesPost c start step hs hs′ answer) p })
 
 turns-there : (c : Clock) (first last : ℕ) (ms ms′ : List ℕ) (hs hs′ : List ℤ) (answer : TurnsAnswer) → TurnsPost c first last ms ms′ hs hs′ answer
     → Call c (Turns first last ms hs) (found (record { returned = turnsReturned answer; minutes = ms′; heights = hs′ })) c
 turns-there c first last ms ms′ hs hs′ answer p =
-    searches {κs = ([], ([], tt))} {ms = lent ms} {hs = lent hs} (record { bound = λ w. tt; contract = kept _ (TurnsPost c first last ms ms′ hs hs′ answer) p })
+    Call.searches {κs = ([], ([], tt))} {ms = lent ms} {hs = lent hs} (record { bound = λ w. tt; contract = kept _ (TurnsPost c first last ms ms′ hs hs′ answer) p })
 
 names-there : (c : Clock) (r : TableNames) → namesFrom (r .bytes) 0 (r .count) ≡ namesIn (view c) → Call c Names (named (namesFrom (r .bytes) 0 (r .count))) c
-names-there c r p = hands (record { bound = λ w. tt; contract = kept _ (namesFrom (r .bytes) 0 (r .count) ≡ namesIn (view c)) p })
+names-there c r p = Call.hands (record { bound = λ w. tt; contract = kept _ (namesFrom (r .bytes) 0 (r .count) ≡ namesIn (view c)) p })
 
 each-kind : (c : Clock) → NewPost c → Calls c eachKind eachRefused c
 unfolding heightReturns seriesGives turnsGives recordsFrom namesFrom
