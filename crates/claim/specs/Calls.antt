@@ -97,3 +97,5 @@ pub data Calls : Clock → List Request → List Gave → Clock → Type 2 where
   done : {c : Clock} → Calls c [] [] c
   _then_ : {c c′ c″ : Clock} {q : Request} {qs : List Request} {g : Gave} {gs : List Gave}
       → Call c q g c′ → Calls c′ qs gs c″ → Calls c (q ∷ qs) (g ∷ gs) c″
+
+infixr 5 _then_

@@ -74,6 +74,7 @@ pub data Runs : Val → List Request → Val → Type 2 where
   done : {vc : Val} → Runs vc [] vc
   _then_ : {vc vc′ vc″ : Val} {q : Request} {qs : List Request} → Run vc q vc′ → Runs vc′ qs vc″ → Runs vc (q ∷ qs) vc″
 
+infixr 5 _then_
 -- what each run of a list gave, the first one first
 unfoldable pub GiveAll : {vc vc′ : Val} {qs : List Request} → Runs vc qs vc′ → List Gave → Type 1
 GiveAll done [] = Unit {1}

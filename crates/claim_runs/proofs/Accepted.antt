@@ -1,0 +1,198 @@
+-- A list with each kind of call in it is accepted (specs/Accepted.antt): by computing, from the bytes of the card file on. Each value on the
+-- way, as the table and the month, is written out once. Assumes nothing.
+use Prim.Native.Nat.{ℕ, suc}
+use mathlib.Core.Logic.{∥∥₁-map}
+use mathlib.Core.Path.{_≡_, refl, subst}
+use mathlib.Core.Bool.{false}
+use mathlib.Core.List.{List, [], _∷_}
+use lib.IntN.{pos}
+use Rattle.cosine.specs.Fraction.{factorial, arc, unit, term, added, taken, whole, base}
+use Rattle.cosine.specs.Fixed.{entry, fixedBase, fixedCosine}
+use Rattle.calendar.specs.Calendar.{isFourth, monthDays, monthMinutes, monthsDays, yearsDays, dayCount, between, inRange}
+use Rattle.columns.specs.Bytes.{every, leading, behind}
+use Rattle.columns.specs.Lines.{linesOf}
+use Rattle.columns.specs.Columns.{padded}
+use Rattle.columns.specs.Names.{same, placeFrom}
+use Rattle.fields.specs.Numerals.{begins, numeral, wholeGood, wholeSize, fixedGood, fixedSize}
+use Rattle.fields.specs.Number as fields
+use Rattle.fields.specs.Number.{unsigned, unblanked, numberOf}
+use Rattle.table.specs.Table.{Main, Table}
+use Rattle.table.specs.Definitions.{firstWith, definitionAt}
+use Rattle.card.specs.Formats.{longitudeField, increaseField}
+use Rattle.card.specs.Card.{number, numbersFrom, newName, placeNamed, isAmong, newPlace, opening, dueCard, given}
+use Rattle.card_frequencies.specs.Frequencies.{frequencyCard, nextFrequency, frequenciesFrom}
+use Rattle.card_frequencies.specs.Longitudes.{fiveCard, fiveFrom}
+use Rattle.card_mains.specs.Mains.{mainMade, mainNumbers, mainCard, nextMain}
+use Rattle.card_constituents.specs.Constituents.{mainsFrom}
+use Rattle.card_shallows.specs.Shallow.{nextShallow}
+use Rattle.card_shallows.specs.Shallows.{shallowsFrom}
+use Rattle.card_file.specs.Cards as cards
+use Rattle.card_file.specs.Cards.{allDefined, readCards}
+use Rattle.station.specs.declared.records.Record.{Record}
+use Rattle.station.specs.Station.{Station, repeated, recordOutcome, recordsOutcome, stationOutcome}
+use Rattle.month_arguments.specs.Longitudes.{longitude, longitudesOn, times}
+use Rattle.month_arguments.specs.Arguments.{argument}
+use Rattle.month_satellites.specs.Satellites.{sumOver, mainPair}
+use Rattle.month_pairs.specs.Pairs.{checked}
+use Rattle.month_pairs.specs.Shallow.{mainCorrected}
+use Rattle.month_workings.specs.Worked.{argumentOf, correctionOf}
+use Rattle.month_prepared.specs.Prepared.{Constituent}
+use Rattle.month.specs.Month.{monthDay, weight, constituent, prepared, before, recordThen, recordsPrepared, monthOf}
+use Rattle.heights.specs.Angle.{angle}
+use Rattle.heights.specs.Share.{share}
+use Rattle.heights.specs.Height.{sumOfShares, heightAt}
+use Rattle.heights.specs.Series.{seriesFrom}
+use Rattle.turns.specs.Slope.{fall, fallsAt, slopeAt}
+use Rattle.turns.specs.Sense.{rising, differ}
+use Rattle.turns.specs.Search.{turnsFrom}
+use Rattle.turns.specs.Stride.{strideOf}
+use Rattle.turns.specs.Strides.{amplitudeOf, stationStride}
+use Rattle.turns.specs.Written as written
+use Rattle.calls.specs.State.{Maybe, none, some}
+use Rattle.calls.specs.Names.{namesIn}
+use Rattle.calls.specs.Returned.{accepted, heightIs, turnsAre}
+use Rattle.calls.specs.Calls.{cardsReturns, stationReturns, dateReturns, monthFor, heightReturns, seriesGives, turnsGives}
+use Rattle.claim.specs.Document.{Last, workedOut, gives, after, givesAll}
+use Rattle.claim_runs.specs.Accepted.{z0, frequencyLine, fiveLine, mainLine, cardLines, ended, smallFile, acceptedCalls, AcceptedByTheDocument, AcceptedByTheMachine}
+use Rattle.claim_runs.specs.Runs.{GiveAll}
+use Rattle.claim_runs.proofs.EachKind.{each-kind}
+use Rattle.claim_runs.proofs.OnMachine.{on-machine, always-ends}
+
+-- ---- the card file: its lines, its parts, its table
+
+lines-are : linesOf smallFile ≡ cardLines
+unfolding linesOf ended frequencyLine fiveLine mainLine
+lines-are = refl
+
+abbrev noughts : List ℕ
+noughts = 0 ∷ 0 ∷ 0 ∷ 0 ∷ 0 ∷ []
+
+abbrev z0-main : Main
+z0-main = record { place = 0; doodson = pos 0 ∷ pos 0 ∷ pos 0 ∷ pos 0 ∷ pos 0 ∷ pos 0 ∷ []; phase = pos 0; satellites = [] }
+
+-- each part leaves the lines behind it, whatever they are
+module _ (rest : List (List ℕ)) where
+  frequencies-are : frequenciesFrom (frequencyLine ∷ [] ∷ rest) 1 [] ≡ given (record { name = z0; frequency = 0 } ∷ []) rest 3
+  unfolding frequenciesFrom nextFrequency frequencyCard newName placeFrom frequencyLine opening every padded number numberOf unblanked behind leading begins unsigned fixedGood fixedSize numeral fields.inRange
+  frequencies-are = refl
+
+  longitudes-are : fiveFrom longitudeField (fiveLine ∷ rest) 3 ≡ given noughts rest 4
+  unfolding fiveFrom fiveCard numbersFrom fiveLine dueCard every padded number numberOf unblanked behind leading begins unsigned fixedGood fixedSize numeral fields.inRange
+  longitudes-are = refl
+
+  increases-are : fiveFrom increaseField (fiveLine ∷ rest) 4 ≡ given noughts rest 5
+  unfolding fiveFrom fiveCard numbersFrom fiveLine dueCard every padded number numberOf unblanked behind leading begins unsigned fixedGood fixedSize numeral fields.inRange
+  increases-are = refl
+
+  mains-are : mainsFrom (z0 ∷ []) (mainLine ∷ [] ∷ rest) 5 [] 0 ≡ given (z0-main ∷ []) rest 7
+  unfolding mainsFrom nextMain mainCard newPlace placeNamed placeFrom same isAmong mainNumbers mainMade numbersFrom mainLine opening every padded number numberOf unblanked behind leading begins unsigned wholeGood wholeSize fixedGood fixedSize numeral fields.inRange
+  mains-are = refl
+
+  shallows-are : shallowsFrom (z0 ∷ []) (0 ∷ []) ([] ∷ rest) 7 [] ≡ given [] rest 8
+  unfolding shallowsFrom nextShallow opening every
+  shallows-are = refl
+
+abbrev table : Table
+table = record { frequencies = record { name = z0; frequency = 0 } ∷ []; longitudes = noughts; increases = noughts; mains = z0-main ∷ []; shallows = [] }
+
+cards-read : readCards smallFile ≡ cards.accepted table
+unfolding readCards allDefined isAmong
+cards-read = rw (lines-are, frequencies-are, longitudes-are, increases-are, mains-are, shallows-are)
+
+-- ---- the station's month
+
+abbrev z0-records : List Record
+z0-records = record { place = 0; amplitude = 100; phase = 0 } ∷ []
+
+abbrev z0-station : Station
+z0-station = record { latitude = pos 0; records = z0-records }
+
+-- P is 100 × 2^20 / 256
+abbrev z0-month : List Constituent
+z0-month = record { argument = 0; lag = 0; frequency = 0; p = pos 409_600; q = pos 0 } ∷ []
+
+month-is : monthOf table z0-station 1976 7 ≡ prepared z0-month
+unfolding monthOf recordsPrepared recordThen before definitionAt firstWith constituent weight argumentOf argument correctionOf mainCorrected checked mainPair sumOver times longitudesOn longitude monthDay dayCount yearsDays monthsDays monthDays isFourth
+month-is = refl
+
+-- ---- its heights and turns
+
+height-is : heightAt z0-month 0 ≡ pos 100
+unfolding heightAt sumOfShares share angle fixedCosine fixedBase entry base added taken whole term factorial arc unit
+height-is = refl
+
+stride-is : stationStride table z0-station ≡ 180
+unfolding stationStride strideOf amplitudeOf placeFrom same
+stride-is = refl
+
+-- three strides come to the end, however many are allowed: all the 360 that a search to minute 360 allows would be too many to compute
+turns-are : (more : ℕ) → turnsFrom (slopeAt z0-month) 180 360 (suc (suc (suc more))) 0 ≡ []
+unfolding turnsFrom differ rising slopeAt fallsAt fall angle fixedCosine fixedBase entry base added taken whole term factorial arc unit
+turns-are more = refl
+
+-- ---- what was last accepted, and what follows from it
+
+abbrev afterCards : Last
+afterCards = record { cards = some smallFile; station = none; date = none }
+
+abbrev afterNone : Last
+afterNone = record { cards = some smallFile; station = some (record { latitude = pos 0; records = [] }); date = none }
+
+abbrev afterStation : Last
+afterStation = record { cards = some smallFile; station = some z0-station; date = none }
+
+abbrev afterDate : Last
+afterDate = record { cards = some smallFile; station = some z0-station; date = some (record { year = 1976; month = 7 }) }
+
+-- the table, whichever station there is
+table-worked : (s : Maybe Station) → workedOut (record { cards = some smallFile; station = s; date = none }) ≡ record { table = some table; station = s; month = none }
+unfolding workedOut
+table-worked s = rw cards-read
+
+month-worked : workedOut afterDate ≡ record { table = some table; station = some z0-station; month = some (record { last = 44_640; constituents = z0-month }) }
+unfolding workedOut monthFor monthMinutes monthDays
+month-worked = rw (cards-read, month-is)
+
+-- ---- each call
+
+cards-accepted : cardsReturns smallFile ≡ accepted
+unfolding cardsReturns
+cards-accepted = rw cards-read
+
+none-accepted : stationReturns (workedOut afterCards) (pos 0) [] ≡ accepted
+unfolding stationReturns stationOutcome recordsOutcome
+none-accepted = rw (table-worked none)
+
+station-accepted : stationReturns (workedOut afterNone) (pos 0) z0-records ≡ accepted
+unfolding stationReturns stationOutcome recordsOutcome recordOutcome repeated
+station-accepted = rw (table-worked (some (record { latitude = pos 0; records = [] })))
+
+date-accepted : dateReturns (workedOut afterStation) 1976 7 ≡ accepted
+unfolding dateReturns inRange between
+date-accepted = rw (table-worked (some z0-station), month-is)
+
+height-given : heightReturns (workedOut afterDate) 0 ≡ heightIs (pos 100)
+unfolding heightReturns
+height-given = rw (month-worked, height-is)
+
+series-given : seriesGives (workedOut afterDate) 0 1 [] ≡ record { returned = accepted; heights = [] }
+unfolding seriesGives seriesFrom
+series-given = rw month-worked
+
+turns-given : turnsGives (workedOut afterDate) 0 360 [] [] ≡ record { returned = turnsAre 0 false; minutes = []; heights = [] }
+unfolding turnsGives written.given
+turns-given = rw (month-worked, stride-is, turns-are 357)
+
+names-given : namesIn (workedOut afterDate) ≡ z0 ∷ []
+names-given = rw month-worked
+
+pub accepted-by-the-document : AcceptedByTheDocument
+unfolding givesAll gives after
+accepted-by-the-document =
+    rw (cards-accepted, none-accepted, station-accepted, date-accepted, height-given, series-given, turns-given, names-given)
+
+-- the machine's runs of these calls give what the document gives
+pub accepted-by-the-machine : AcceptedByTheMachine
+accepted-by-the-machine =
+    ∥∥₁-map (each-kind always-ends) (λ x.
+    (x .0, x .1, x .2, x .3, ∥∥₁-map (on-machine (x .0) (x .1) acceptedCalls (x .2) (x .3) .exactly) (λ g. subst (GiveAll (x .3)) accepted-by-the-document g)))

@@ -1,0 +1,90 @@
+-- A list with each kind of call in it: every call is accepted, by the document's own definitions and by the machine (proofs/Accepted.antt).
+-- Assumes nothing.
+use Prim.Native.Nat.{ℕ}
+use mathlib.Core.Path.{_≡_}
+use mathlib.Core.Bool.{false}
+use mathlib.Core.List.{List, [], _∷_, _++_}
+use lib.ListN.{replicate}
+use lib.IntN.{pos}
+use mir.Val.{Val}
+use Rattle.calls.specs.Returned.{accepted, heightIs, turnsAre}
+use Rattle.claim.specs.Document.{Request, Cards, Station, Date, Height, Series, Turns, Names, Gave, told, wrote, found, named, nothing, givesAll}
+use Rattle.claim_runs.specs.Runs.{Started, Runs, GiveAll}
+
+-- ---- a smallest card file: one constituent, Z0, and no other number but 0
+
+abbrev blanks : ℕ → List ℕ
+blanks n = replicate n 32
+
+-- `0`, with n blanks in front of it
+abbrev nought : ℕ → List ℕ
+nought n = blanks n ++ (48 ∷ [])
+
+-- `0.`, with n blanks in front of it
+abbrev pointed : ℕ → List ℕ
+pointed n = nought n ++ (46 ∷ [])
+
+-- `Z0   `: Z is 90
+abbrev pub z0 : List ℕ
+z0 = 90 ∷ 48 ∷ blanks 3
+
+-- `    Z0      0.`
+unfoldable pub frequencyLine : List ℕ
+frequencyLine = blanks 4 ++ z0 ++ pointed 3
+
+-- `0.           0.           0.           0.           0.`
+unfoldable pub fiveLine : List ℕ
+fiveLine = pointed 0 ++ pointed 11 ++ pointed 11 ++ pointed 11 ++ pointed 11
+
+-- `      Z0      0  0  0  0  0  0   0.   0`
+unfoldable pub mainLine : List ℕ
+mainLine = blanks 6 ++ z0 ++ blanks 1 ++ nought 2 ++ nought 2 ++ nought 2 ++ nought 2 ++ nought 2 ++ nought 2 ++ pointed 3 ++ nought 3
+
+-- the four parts, in order; a blank card ends the first, the third and the fourth
+abbrev pub cardLines : List (List ℕ)
+cardLines = frequencyLine ∷ [] ∷ fiveLine ∷ fiveLine ∷ mainLine ∷ [] ∷ [] ∷ []
+
+-- each line, and behind it LF, byte 10
+unfoldable pub ended : List (List ℕ) → List ℕ
+ended [] = []
+ended (l ∷ ls) = l ++ (10 ∷ ended ls)
+
+abbrev pub smallFile : List ℕ
+smallFile = ended cardLines
+
+-- ---- the calls, and what the document gives for them
+
+-- Z0, 100 tenths of a millimetre high, on the equator, in July 1976. (A station twice: with no records, and with Z0's. Of the memory with which
+-- a program begins only bytes are known, so no place for heights or turns is lent.)
+abbrev pub acceptedCalls : List Request
+acceptedCalls =
+    Cards smallFile
+    ∷ Station (pos 0) []
+    ∷ Station (pos 0) (record { place = 0; amplitude = 100; phase = 0 } ∷ [])
+    ∷ Date 1976 7
+    ∷ Height 0
+    ∷ Series 0 1 []
+    ∷ Turns 0 360 [] []
+    ∷ Names
+    ∷ []
+
+-- Z0 is level: its height is its amplitude, and there is no turn
+abbrev pub allAccepted : List Gave
+allAccepted =
+    told accepted
+    ∷ told accepted
+    ∷ told accepted
+    ∷ told accepted
+    ∷ told (heightIs (pos 100))
+    ∷ wrote (record { returned = accepted; heights = [] })
+    ∷ found (record { returned = turnsAre 0 false; minutes = []; heights = [] })
+    ∷ named (z0 ∷ [])
+    ∷ []
+
+abbrev pub AcceptedByTheDocument : Type 0
+AcceptedByTheDocument = givesAll nothing acceptedCalls ≡ allAccepted
+
+-- There are runs of these calls, one after another from `new` on, and they give that: so the claim of the machine speaks of each kind of call,
+-- accepted. (Whichever calls come next, `AlwaysEnds` says that they return.)
+abbrev pub AcceptedByTheMachine : Type 2
+AcceptedByTheMachine = ∥ ((vc : Val) × (vc′ : Val) × Started vc × (xs : Runs vc acceptedCalls vc′) × ∥ GiveAll xs allAccepted ∥₁) ∥₁
