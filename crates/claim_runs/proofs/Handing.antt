@@ -5,13 +5,12 @@ use mathlib.Core.List.{List, [], _∷_}
 use mathlib.Core.Logic.{∥∥₁-map, ∥∥₁-elim, ∥∥₁-prop}
 use mathlib.Core.Path.{_≡_, sym, subst}
 use mir.Val.{Val}
-use base.Logic.{ent, ex, via, monoL, mono∗, fst∗}
+use base.Logic.{ent, ex, emp, id⊢, via, monoL, mono∗, fst∗}
 use prog.Memory.{Memory}
 use prog.Routine as routines
 use prog.Routine.{Routine, _≼_}
 use ghost.Atoms.{sem}
 use contract.Adequate.{sat-weaken, sat-⇛, sat-ex∗}
-use contract.Monad.{fact}
 use contract.Running.{givenOf}
 use types.Kit.{Given}
 use denote.Laws.{Is}
@@ -37,64 +36,74 @@ infix 26 _⊢_
 abbrev pub Tokens : (hs : List Handed) → Names hs → Assertion
 Tokens hs ns = tokens (w₀ .𝓤) (w₀ .H) (w₀ .𝓖 .A) hs ns
 
-module _ (T : Ended) (C : ClausesOf T) (hs : List Handed) where
-  -- The function's parameters are what is handed over, and its `requires` is φ: of each function this holds by computing.
-  pub record Takes (φ : Type 0) : Type 2 where
-    pub entry : Names hs → Entry T C
-    pub bound : (ns : Names hs) → Ghosts T C (entry ns)
-    pub passes : (ns : Names hs) → entering.passed (w₀ .𝓤) (w₀ .H) (w₀ .𝓖 .A) (T .signature) (entry ns) ≡ passed hs
-    pub asks : (ns : Names hs) → (Tokens hs ns ∗ ⟦ owns (typesOf 0 hs ns) (denotes 0 hs ns) (valuesOf 0 hs ns) ⟧₀) ∗ fact (w₀ .𝓤) φ ⊢ Brings T C (entry ns) (bound ns)
-    pub writes : (ns : Names hs) → Lasts T (entry ns .0) (entry ns .3) → Written hs
-    pub says : (ns : Names hs) (ws : Lasts T (entry ns .0) (entry ns .3)) → ⟦ lasts T (entry ns .0) (entry ns .3) ws ⟧₀ ⊢ ⟦ ends hs ns (writes ns ws) ⟧₀
-    pub alive-is : (ns : Names hs) → alive (w₀ .𝓤) (w₀ .H) (w₀ .𝓖 .A) (T .signature) (entry ns .0) (entry ns .1) ⊢ Tokens hs ns
+-- what equals P follows from it
+same : (P : Assertion) {P′ : Assertion} → P ≡ P′ → P ⊢ P′
+same P e = subst (λ (R : Assertion). P ⊢ R) e (id⊢ (w₀ .𝓤) P)
 
-  module _ {φ : Type 0} (takes : Takes φ) where
+module _ (T : Ended) (C : ClausesOf T) (hs : List Handed) where
+  -- The function's parameters are what is handed over, its `requires` is Q, and what it says of them at its end is what is said of what was
+  -- written: of each function the equations hold by computing. (`enters` has the lifetimes, shares, arguments and machine's values with which
+  -- it is entered.)
+  pub record Takes (Q : Assertion) : Type 2 where
+    pub enters : (ns : Names hs) → (x : Entry T C) × (g : Ghosts T C x) × (entering.passed (w₀ .𝓤) (w₀ .H) (w₀ .𝓖 .A) (T .signature) x ≡ passed hs)
+        × (Brings T C x g ≡ (Tokens hs ns ∗ ⟦ owns (typesOf 0 hs ns) (denotes 0 hs ns) (valuesOf 0 hs ns) ⟧₀) ∗ Q) × (alive (w₀ .𝓤) (w₀ .H) (w₀ .𝓖 .A) (T .signature) (x .0) (x .1) ≡ Tokens hs ns)
+    pub writes : (ns : Names hs) (ws : Lasts T (enters ns .0 .0) (enters ns .0 .3)) → (w : Written hs) × (⟦ lasts T (enters ns .0 .0) (enters ns .0 .3) ws ⟧₀ ≡ ⟦ ends hs ns w ⟧₀)
+
+  module _ {Q : Assertion} (takes : Takes Q) where
+    abbrev entry : Names hs → Entry T C
+    entry ns = takes .enters ns .0
+
+    abbrev ghosts : (ns : Names hs) → Ghosts T C (entry ns)
+    ghosts ns = takes .enters ns .1
+
     -- A return: the result, whose machine's value is v; the call, one of `Calls`; and the memory, in which the buffers lie with what was written.
     pub record Came (v : Val) (σ′ : Memory) (F : Assertion) : Type 2 where
       pub names : Names hs
-      pub result : Res (T .signature) (takes .entry names .0)
-      pub last : Lasts T (takes .entry names .0) (takes .entry names .3)
-      pub is : Is (typeAt (T .signature .result) (takes .entry names .0)) result (v ∷ [])
-      pub once : Once T C (takes .entry names .0) (takes .entry names .3) result last
-      pub leaves : σ′ ⊨ ⟦ lieAfter hs (takes .writes names last) ⟧₀ ∗ F
+      pub result : Res (T .signature) (takes .enters names .0 .0)
+      pub last : Lasts T (takes .enters names .0 .0) (takes .enters names .0 .3)
+      pub is : Is (typeAt (T .signature .result) (takes .enters names .0 .0)) result (v ∷ [])
+      pub once : Once T C (takes .enters names .0 .0) (takes .enters names .0 .3) result last
+      pub leaves : σ′ ⊨ ⟦ lieAfter hs (takes .writes names last .0) ⟧₀ ∗ F
 
-    came : (ns : Names hs) (v : Val) (σ′ : Memory) (F : Assertion) → Returned T C (takes .entry ns) (takes .bound ns) v σ′ (⟦ lender hs ns ⟧₀ ∗ F) → Came v σ′ F
+    came : (ns : Names hs) (v : Val) (σ′ : Memory) (F : Assertion) → Returned T C (entry ns) (ghosts ns) v σ′ (⟦ lender hs ns ⟧₀ ∗ F) → Came v σ′ F
     came ns v σ′ F k =
-        let al : Assertion = alive (w₀ .𝓤) (w₀ .H) (w₀ .𝓖 .A) (T .signature) (takes .entry ns .0) (takes .entry ns .1) in
-        let own : Assertion = ⟦ typeAt (T .signature .result) (takes .entry ns .0) .own (k .result) (v ∷ []) ⟧₀ in
+        let al : Assertion = alive (w₀ .𝓤) (w₀ .H) (w₀ .𝓖 .A) (T .signature) (entry ns .0) (entry ns .1) in
+        let own : Assertion = ⟦ typeAt (T .signature .result) (entry ns .0) .own (k .result) (v ∷ []) ⟧₀ in
+        let says : Assertion = ⟦ lasts T (entry ns .0) (entry ns .3) (k .last) ⟧₀ in
+        let written : Written hs = takes .writes ns (k .last) .0 in
         record {
           names = ns;
           result = k .result;
           last = k .last;
           is = k .is;
           once = k .once;
-          leaves = sat-⇛ (w₀ .𝓤) (w₀ .H) (w₀ .𝓜) σ′ ⟦ lieAfter hs (takes .writes ns (k .last)) ⟧₀ F
+          leaves = sat-⇛ (w₀ .𝓤) (w₀ .H) (w₀ .𝓜) σ′ ⟦ lieAfter hs written ⟧₀ F
               (sat-weaken (w₀ .𝓤) (w₀ .H) (w₀ .𝓜) σ′
-              (via (w₀ .𝓤) ((⟦ ends hs ns (takes .writes ns (k .last)) ⟧₀ ∗ Tokens hs ns) ∗ (⟦ lender hs ns ⟧₀ ∗ F))
-              (monoL (w₀ .𝓤) (⟦ lender hs ns ⟧₀ ∗ F) (mono∗ (w₀ .𝓤) (takes .says ns (k .last)) (via (w₀ .𝓤) al (fst∗ (w₀ .𝓤) al own) (takes .alive-is ns))))
-              (hand-back (w₀ .𝓤) (w₀ .H) (w₀ .𝓖 .A) W₀ hs ns (takes .writes ns (k .last)) F)) (k .owned));
+              (via (w₀ .𝓤) ((⟦ ends hs ns written ⟧₀ ∗ Tokens hs ns) ∗ (⟦ lender hs ns ⟧₀ ∗ F))
+              (monoL (w₀ .𝓤) (⟦ lender hs ns ⟧₀ ∗ F)
+              (mono∗ (w₀ .𝓤) (same says (takes .writes ns (k .last) .1)) (via (w₀ .𝓤) al (fst∗ (w₀ .𝓤) al own) (same al (takes .enters ns .4)))))
+              (hand-back (w₀ .𝓤) (w₀ .H) (w₀ .𝓖 .A) W₀ hs ns written F)) (k .owned));
         }
 
-    module _ (f : Routine) (met : Theorem T C f) (made : Made (w₀ .𝓤) (w₀ .H) (w₀ .𝓖 .A) hs) (holds : φ) (fit : Fit hs) (σ : Memory) (F : Assertion) (s : σ ⊨ ⟦ lie hs ⟧₀ ∗ F) where
-      lent-out : ∥ ((ns : Names hs) × (σ ⊨ Brings T C (takes .entry ns) (takes .bound ns) ∗ (⟦ lender hs ns ⟧₀ ∗ F))) ∥₁
+    module _ (f : Routine) (met : Theorem T C f) (made : Made (w₀ .𝓤) (w₀ .H) (w₀ .𝓖 .A) hs) (holds : emp (w₀ .𝓤) ⊢ Q) (fit : Fit hs) (σ : Memory) (F : Assertion) (s : σ ⊨ ⟦ lie hs ⟧₀ ∗ F) where
+      lent-out : ∥ ((ns : Names hs) × (σ ⊨ Brings T C (entry ns) (ghosts ns) ∗ (⟦ lender hs ns ⟧₀ ∗ F))) ∥₁
       lent-out =
           ∥∥₁-map (sat-ex∗ (w₀ .𝓤) (w₀ .H) (w₀ .𝓜) σ (Lent (w₀ .𝓤) (w₀ .H) (w₀ .𝓖 .A) 0 hs) F
           (sat-⇛ (w₀ .𝓤) (w₀ .H) (w₀ .𝓜) σ (ex (w₀ .𝓤) (Lent (w₀ .𝓤) (w₀ .H) (w₀ .𝓖 .A) 0 hs)) F
           (sat-weaken (w₀ .𝓤) (w₀ .H) (w₀ .𝓜) σ (monoL (w₀ .𝓤) F (lend-all (w₀ .𝓤) (w₀ .H) (w₀ .𝓖 .A) W₀ 0 hs fit made)) s))) (λ p. (
             p .0,
-            sat-weaken (w₀ .𝓤) (w₀ .H) (w₀ .𝓜) σ
-                (via (w₀ .𝓤) (((Tokens hs (p .0) ∗ ⟦ owns (typesOf 0 hs (p .0)) (denotes 0 hs (p .0)) (valuesOf 0 hs (p .0)) ⟧₀) ∗ fact (w₀ .𝓤) φ) ∗ (⟦ lender hs (p .0) ⟧₀ ∗ F))
-                (hand-over (w₀ .𝓤) (w₀ .H) (w₀ .𝓖 .A) W₀ 0 hs (p .0) φ F holds) (monoL (w₀ .𝓤) (⟦ lender hs (p .0) ⟧₀ ∗ F) (takes .asks (p .0)))) (p .1),
+            subst (λ (P : Assertion). σ ⊨ P ∗ (⟦ lender hs (p .0) ⟧₀ ∗ F)) (sym (takes .enters (p .0) .3))
+                (sat-weaken (w₀ .𝓤) (w₀ .H) (w₀ .𝓜) σ (hand-over (w₀ .𝓤) (w₀ .H) (w₀ .𝓖 .A) W₀ 0 hs (p .0) Q F holds) (p .1)),
           ))
 
       pub comes : ∥ ((v : Val) × (σ′ : Memory) × routines.ends f (passed hs) σ v σ′ × Came v σ′ F) ∥₁
       comes =
           ∥∥₁-elim lent-out ∥∥₁-prop (λ p.
-          ∥∥₁-map (returns T C (takes .entry (p .0)) (takes .bound (p .0)) f met σ (⟦ lender hs (p .0) ⟧₀ ∗ F) (p .1)) (λ k.
-          (k .0, k .1, subst (λ (vs : List Val). routines.ends f vs σ (k .0) (k .1)) (takes .passes (p .0)) (k .2), came (p .0) (k .0) (k .1) F (k .3))))
+          ∥∥₁-map (returns T C (entry (p .0)) (ghosts (p .0)) f met σ (⟦ lender hs (p .0) ⟧₀ ∗ F) (p .1)) (λ k.
+          (k .0, k .1, subst (λ (vs : List Val). routines.ends f vs σ (k .0) (k .1)) (takes .enters (p .0) .2) (k .2), came (p .0) (k .0) (k .1) F (k .3))))
 
       pub every-comes : (f′ : Routine) → f ≼ f′ → (v : Val) (σ′ : Memory) → routines.ends f′ (passed hs) σ v σ′ → ∥ Came v σ′ F ∥₁
       every-comes f′ below v σ′ run =
           ∥∥₁-elim lent-out ∥∥₁-prop (λ p.
-          ∥∥₁-map (every-return T C (takes .entry (p .0)) (takes .bound (p .0)) f met σ (⟦ lender hs (p .0) ⟧₀ ∗ F) (p .1) f′ below v σ′
-          (subst (λ (vs : List Val). routines.ends f′ vs σ v σ′) (sym (takes .passes (p .0))) run)) (came (p .0) v σ′ F))
+          ∥∥₁-map (every-return T C (entry (p .0)) (ghosts (p .0)) f met σ (⟦ lender hs (p .0) ⟧₀ ∗ F) (p .1) f′ below v σ′
+          (subst (λ (vs : List Val). routines.ends f′ vs σ v σ′) (sym (takes .enters (p .0) .2)) run)) (came (p .0) v σ′ F))

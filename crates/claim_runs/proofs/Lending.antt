@@ -12,7 +12,6 @@ use base.Fml.{GName, Share, Fml, ftrue, feq, fsep, flft, flent}
 use prog.Wp.{Heap}
 use ghost.Atoms.{Atoms, sem}
 use contract.Lifetimes.{Lfts, Shares}
-use contract.Monad.{fact, factI}
 use types.Kit.{Given, ‵, raw, _⊛_, some, later, _$_, _∵_, !, qed, move, keep, drop, use0, use1, use2, use3, split, join, pick, fsplit, fjoin, await, updating, now as at-once, show, done}
 use types.Tokens.{lft-new, lft-end, lent-back}
 use types.SemTy.{cells, Arr}
@@ -186,12 +185,12 @@ module _ {M : Type 1} (𝓤 : URA M) (H : Heap 𝓤) (A : Atoms 𝓤) where
         use3 W (later (‵ (cells (mem R) (ws .0) b o))) (take-mut R (length ys) (ws .0) b o (ns .0 .0) (ns .0 .1)) $ await ! tt $ move ! (4 ∷ 3 ∷ 2 ∷ []) $
         use3 W (later (‵ (lieAfter hs (ws .1)))) (take-all hs (ns .1) (ws .1)) $ await ! tt $ keep ! (1 ∷ 0 ∷ []) $ fjoin ! $ at-once ! $ done !
 
-    -- what was lent, as a function's contract asks for it: beside a fact that holds, and whatever else is owned
-    pub hand-over : (j : ℕ) (hs : List Handed) (ns : Names hs) (φ : Type 0) (F : SProp 𝓤) → φ
-        → ent 𝓤 (sep 𝓤 (Lent j hs ns) F) (sep 𝓤 (sep 𝓤 (sep 𝓤 (tokens hs ns) ⟦ owns (typesOf j hs ns) (denotes j hs ns) (valuesOf j hs ns) ⟧) (fact 𝓤 φ)) (sep 𝓤 ⟦ lender hs ns ⟧ F))
-    hand-over j hs ns φ F holds =
+    -- what was lent, as a function's contract asks for it: beside what its `requires` asks, and whatever else is owned
+    pub hand-over : (j : ℕ) (hs : List Handed) (ns : Names hs) (Q F : SProp 𝓤) → ent 𝓤 (emp 𝓤) Q
+        → ent 𝓤 (sep 𝓤 (Lent j hs ns) F) (sep 𝓤 (sep 𝓤 (sep 𝓤 (tokens hs ns) ⟦ owns (typesOf j hs ns) (denotes j hs ns) (valuesOf j hs ns) ⟧) Q) (sep 𝓤 ⟦ lender hs ns ⟧ F))
+    hand-over j hs ns Q F holds =
         qed W (((raw (tokens hs ns) ⊛ (‵ (owns (typesOf j hs ns) (denotes j hs ns) (valuesOf j hs ns)) ⊛ ‵ (lender hs ns))) ⊛ raw F) ∷ []) ∵ split ! $ split ! $ move ! (1 ∷ []) $ split ! $
-        move ! (2 ∷ 0 ∷ []) $ join ! $ use0 W (raw (fact 𝓤 φ)) (factI 𝓤 φ (emp 𝓤) holds) $ move ! (1 ∷ 0 ∷ []) $ join ! $ done !
+        move ! (2 ∷ 0 ∷ []) $ join ! $ use0 W (raw Q) holds $ move ! (1 ∷ 0 ∷ []) $ join ! $ done !
 
     -- what it leaves, as the caller has it again
     pub hand-back : (hs : List Handed) (ns : Names hs) (ws : Written hs) (F : SProp 𝓤)

@@ -7,11 +7,15 @@ use mathlib.Core.Logic.{∥∥₁-map, ∥∥₁-elim, ∥∥₁-prop}
 use mathlib.Core.Path.{_≡_, sym, ap, subst, _∙_}
 use lib.IntN.{ℤ}
 use mir.Val.{Val}
+use base.Logic.{ent, emp}
 use prog.Routine.{Routine}
+use contract.Monad.{fact, factI, top}
 use denote.Laws.{Is}
+use borrow.Fn.World.{w₀}
 use Rattle.calls.specs.Returned.{Returned}
 use Rattle.clock.specs.declared.Clock.{Clock}
 use Rattle.clock.specs.declared.After.{After}
+use Rattle.clock.specs.View.{Made}
 use Rattle.clock.proofs.Clock as ClockType
 use Rattle.clock.proofs.After as AfterType
 use Rattle.clock.proofs.new as new
@@ -36,12 +40,16 @@ pub record Holds (vc : Val) (l : Last) : Type 0 where
   pub is : Is ClockType.the-row clock (vc ∷ [])
   pub agrees : Agrees clock l
 
+-- it is a clock that a call made
+asked : {vc : Val} {l : Last} (h : Holds vc l) → ent (w₀ .𝓤) (emp (w₀ .𝓤)) (fact (w₀ .𝓤) (Made (h .clock)))
+asked h = factI (w₀ .𝓤) (Made (h .clock)) (emp (w₀ .𝓤)) (h .agrees .made)
+
 module _ {vc : Val} (l : Last) (h : Holds vc l) where
   -- a run of a function of the clock on this value
   ran : {f : Routine} {hs : List Handed} (t : Callable (h .clock) vc f hs) (x : Ran f (vc ∷ []) hs)
       → ∥ Came (t .ended) (t .clauses) (value ClockType.the-row (h .clock) vc ∷ hs) (t .takes) (x .value) (x .left) (x .rest) ∥₁
   ran {f} {hs} t x =
-      every-comes (t .ended) (t .clauses) (value ClockType.the-row (h .clock) vc ∷ hs) (t .takes) f (t .met) (clock-makes, t .makes) (h .agrees .made) (h .is, x .fit) (x .before) (x .rest) (x .lent)
+      every-comes (t .ended) (t .clauses) (value ClockType.the-row (h .clock) vc ∷ hs) (t .takes) f (t .met) (clock-makes, t .makes) (asked h) (h .is, x .fit) (x .before) (x .rest) (x .lent)
       (x .routine) (x .below) (x .value) (x .left) (x .run)
 
   -- what a call gives is what the document gives; it leaves another clock, in what it returns, or the one that it got
@@ -87,7 +95,7 @@ module _ {vc : Val} (l : Last) (h : Holds vc l) where
   -- a routine on this value returns
   ends-on : {f : Routine} {hs : List Handed} → Callable (h .clock) vc f hs → Returns f (vc ∷ []) hs
   ends-on {f} {hs} t fit σ F s =
-      ∥∥₁-map (comes (t .ended) (t .clauses) (value ClockType.the-row (h .clock) vc ∷ hs) (t .takes) f (t .met) (clock-makes, t .makes) (h .agrees .made) (h .is, fit) σ F s) (λ k.
+      ∥∥₁-map (comes (t .ended) (t .clauses) (value ClockType.the-row (h .clock) vc ∷ hs) (t .takes) f (t .met) (clock-makes, t .makes) (asked h) (h .is, fit) σ F s) (λ k.
       (k .0, k .1, k .2))
 
   every-call-ends : EveryCallEnds vc
@@ -115,7 +123,7 @@ new-holds : {vc : Val} → Started vc → ∥ Holds vc nothing ∥₁
 unfolding new-takes
 new-holds {vc} s =
     let x : Ran newCode.routine [] [] = s .ran in
-    ∥∥₁-elim (every-comes new.ended (λ M. new.clauses) [] new-takes newCode.routine (λ M. newMet.met) tt tt tt (x .before) (x .rest) (x .lent) (x .routine) (x .below) (x .value) (x .left) (x .run)) ∥∥₁-prop (λ k.
+    ∥∥₁-elim (every-comes new.ended (λ M. new.clauses) [] new-takes newCode.routine (λ M. newMet.met) tt (top (w₀ .𝓤) (emp (w₀ .𝓤))) tt (x .before) (x .rest) (x .lent) (x .routine) (x .below) (x .value) (x .left) (x .run)) ∥∥₁-prop (λ k.
     ∥∥₁-map (new-agrees (call.news (k .once))) (λ a.
     record { clock = k .result; is = subst (λ (v : Val). Is ClockType.the-row (k .result) (v ∷ [])) (s .value-is) (k .is); agrees = a }))
 
@@ -126,6 +134,6 @@ on-machine vc vc′ qs started xs =
 pub always-ends : AlwaysEnds
 always-ends =
     record {
-      new = λ fit σ F s. ∥∥₁-map (comes new.ended (λ M. new.clauses) [] new-takes newCode.routine (λ M. newMet.met) tt tt tt σ F s) (λ k. (k .0, k .1, k .2));
+      new = λ fit σ F s. ∥∥₁-map (comes new.ended (λ M. new.clauses) [] new-takes newCode.routine (λ M. newMet.met) tt (top (w₀ .𝓤) (emp (w₀ .𝓤))) tt σ F s) (λ k. (k .0, k .1, k .2));
       then = λ vc vc′ qs started xs. ∥∥₁-elim (new-holds started) ∥∥₁-prop (λ h. ∥∥₁-map (runs-give nothing h xs) (λ k. every-call-ends (lastAfter nothing qs) (k .1)));
     }

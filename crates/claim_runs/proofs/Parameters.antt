@@ -5,10 +5,9 @@ use mathlib.Core.Path.{refl}
 use lib.IntN.{ℤ}
 use mir.Syntax.{w32, w64}
 use mir.Val.{Val}
-use base.Logic.{id⊢, monoR, emp}
 use base.Fml.{Share}
 use prog.Routine.{Routine}
-use contract.Monad.{top, fact}
+use contract.Monad.{fact}
 use denote.Builtin.{u8, u32, i32, i64, usize}
 use denote.Laws.{Is, Makes}
 use denote.Plain.{uint-makes}
@@ -50,8 +49,8 @@ use Rattle.clock.proofs.turns.Met as turnsMet
 use Rattle.clock.proofs.names as names
 use Rattle.clock.proofs.names.Symbol as namesCode
 use Rattle.clock.proofs.names.Met as namesMet
-use Rattle.claim.specs.Calls.{ClausesOf}
-use Rattle.claim_runs.specs.Handed.{_∗_, Handed, value, reads, writes}
+use Rattle.claim.specs.Calls.{ClausesOf, clausesAt}
+use Rattle.claim_runs.specs.Handed.{Assertion, Handed, value, reads, writes}
 use Rattle.claim_runs.proofs.Lending as had
 use Rattle.claim_runs.proofs.Lending.{lifetimes, wholes, denotes, valuesOf}
 use Rattle.claim_runs.proofs.Ran.{Theorem}
@@ -81,21 +80,16 @@ pub record Callable (c : Clock) (vc : Val) (f : Routine) (hs : List Handed) : Ty
   pub clauses : ClausesOf ended
   pub met : Theorem ended clauses f
   pub makes : had.Made (w₀ .𝓤) (w₀ .H) (w₀ .𝓖 .A) hs
-  pub takes : Takes ended clauses (value ClockType.the-row c vc ∷ hs) (Made c)
+  pub takes : Takes ended clauses (value ClockType.the-row c vc ∷ hs) (fact (w₀ .𝓤) (Made c))
 
 -- ---- each function
 
-unfoldable pub new-takes : Takes new.ended (λ M. new.clauses) [] (Unit {0})
-new-takes =
-    record {
-      entry = λ ns. (tt, tt, tt, tt, tt);
-      bound = λ ns w. tt;
-      passes = λ ns. refl;
-      asks = λ ns. monoR (w₀ .𝓤) (emp (w₀ .𝓤) ∗ emp (w₀ .𝓤)) {Q = fact (w₀ .𝓤) (Unit {0})} (top (w₀ .𝓤) (fact (w₀ .𝓤) (Unit {0})));
-      writes = λ ns ws. tt;
-      says = λ ns ws. id⊢ (w₀ .𝓤) _;
-      alive-is = λ ns. id⊢ (w₀ .𝓤) _;
-    }
+-- what `new` asks: nothing
+abbrev pub new-asks : Assertion
+new-asks = clausesAt new.ended (λ M. new.clauses) tt tt w₀ .requires tt
+
+unfoldable pub new-takes : Takes new.ended (λ M. new.clauses) [] new-asks
+new-takes = record { enters = λ ns. ((tt, tt, tt, tt, tt), (λ w. tt), refl, refl, refl); writes = λ ns ws. (tt, refl) }
 
 module _ (c : Clock) (vc : Val) where
   abbrev clock : Handed
@@ -109,15 +103,7 @@ module _ (c : Clock) (vc : Val) where
         clauses = λ M. load.clauses;
         met = λ M. loadMet.met;
         makes = tt;
-        takes = record {
-          entry = λ ns. (lifetimes all ns, wholes all, tt, denotes 0 all ns, valuesOf 0 all ns);
-          bound = λ ns w. tt;
-          passes = λ ns. refl;
-          asks = λ ns. id⊢ (w₀ .𝓤) _;
-          writes = λ ns ws. tt;
-          says = λ ns ws. id⊢ (w₀ .𝓤) _;
-          alive-is = λ ns. id⊢ (w₀ .𝓤) _;
-        };
+        takes = record { enters = λ ns. ((lifetimes all ns, wholes all, tt, denotes 0 all ns, valuesOf 0 all ns), (λ w. tt), refl, refl, refl); writes = λ ns ws. (tt, refl) };
       }
 
   unfoldable pub station-call : (latitude : ℤ) (vl : Val) (records : List Record) (q : Share) (b o : ℕ) → Callable c vc stationCode.routine (value i32 latitude vl ∷ reads RecordType.the-row q records b o ∷ [])
@@ -128,15 +114,7 @@ module _ (c : Clock) (vc : Val) where
         clauses = λ M. station.clauses;
         met = λ M. stationMet.met;
         makes = (i32-makes, tt);
-        takes = record {
-          entry = λ ns. (lifetimes all ns, wholes all, tt, denotes 0 all ns, valuesOf 0 all ns);
-          bound = λ ns w. tt;
-          passes = λ ns. refl;
-          asks = λ ns. id⊢ (w₀ .𝓤) _;
-          writes = λ ns ws. tt;
-          says = λ ns ws. id⊢ (w₀ .𝓤) _;
-          alive-is = λ ns. id⊢ (w₀ .𝓤) _;
-        };
+        takes = record { enters = λ ns. ((lifetimes all ns, wholes all, tt, denotes 0 all ns, valuesOf 0 all ns), (λ w. tt), refl, refl, refl); writes = λ ns ws. (tt, refl) };
       }
 
   unfoldable pub placing-call : (latitude : ℤ) (n : ℕ) (rows : Rows) (vl vn vr : Val) → Callable c vc placingCode.routine (value i32 latitude vl ∷ value usize n vn ∷ value RowsType.the-row rows vr ∷ [])
@@ -147,15 +125,7 @@ module _ (c : Clock) (vc : Val) where
         clauses = λ M. placing.clauses;
         met = λ M. placingMet.met;
         makes = (i32-makes, (usize-makes, (rows-make, tt)));
-        takes = record {
-          entry = λ ns. (lifetimes all ns, wholes all, tt, denotes 0 all ns, valuesOf 0 all ns);
-          bound = λ ns w. tt;
-          passes = λ ns. refl;
-          asks = λ ns. id⊢ (w₀ .𝓤) _;
-          writes = λ ns ws. tt;
-          says = λ ns ws. id⊢ (w₀ .𝓤) _;
-          alive-is = λ ns. id⊢ (w₀ .𝓤) _;
-        };
+        takes = record { enters = λ ns. ((lifetimes all ns, wholes all, tt, denotes 0 all ns, valuesOf 0 all ns), (λ w. tt), refl, refl, refl); writes = λ ns ws. (tt, refl) };
       }
 
   unfoldable pub date-call : (year month : ℕ) (vy vm : Val) → Callable c vc dateCode.routine (value u32 year vy ∷ value u32 month vm ∷ [])
@@ -166,15 +136,7 @@ module _ (c : Clock) (vc : Val) where
         clauses = λ M. date.clauses;
         met = λ M. dateMet.met;
         makes = (u32-makes, (u32-makes, tt));
-        takes = record {
-          entry = λ ns. (lifetimes all ns, wholes all, tt, denotes 0 all ns, valuesOf 0 all ns);
-          bound = λ ns w. tt;
-          passes = λ ns. refl;
-          asks = λ ns. id⊢ (w₀ .𝓤) _;
-          writes = λ ns ws. tt;
-          says = λ ns ws. id⊢ (w₀ .𝓤) _;
-          alive-is = λ ns. id⊢ (w₀ .𝓤) _;
-        };
+        takes = record { enters = λ ns. ((lifetimes all ns, wholes all, tt, denotes 0 all ns, valuesOf 0 all ns), (λ w. tt), refl, refl, refl); writes = λ ns ws. (tt, refl) };
       }
 
   unfoldable pub height-call : (minute : ℕ) (vm : Val) → Callable c vc heightCode.routine (value u32 minute vm ∷ [])
@@ -185,15 +147,7 @@ module _ (c : Clock) (vc : Val) where
         clauses = λ M. height.clauses;
         met = λ M. heightMet.met;
         makes = (u32-makes, tt);
-        takes = record {
-          entry = λ ns. (lifetimes all ns, wholes all, tt, denotes 0 all ns, valuesOf 0 all ns);
-          bound = λ ns w. tt;
-          passes = λ ns. refl;
-          asks = λ ns. id⊢ (w₀ .𝓤) _;
-          writes = λ ns ws. tt;
-          says = λ ns ws. id⊢ (w₀ .𝓤) _;
-          alive-is = λ ns. id⊢ (w₀ .𝓤) _;
-        };
+        takes = record { enters = λ ns. ((lifetimes all ns, wholes all, tt, denotes 0 all ns, valuesOf 0 all ns), (λ w. tt), refl, refl, refl); writes = λ ns ws. (tt, refl) };
       }
 
   unfoldable pub series-call : (start step : ℕ) (vs vt : Val) (hs : List ℤ) (b o : ℕ) → Callable c vc seriesCode.routine (value u32 start vs ∷ value u32 step vt ∷ writes i64 hs b o ∷ [])
@@ -204,15 +158,7 @@ module _ (c : Clock) (vc : Val) where
         clauses = λ M. series.clauses;
         met = λ M. seriesMet.met;
         makes = (u32-makes, (u32-makes, tt));
-        takes = record {
-          entry = λ ns. (lifetimes all ns, wholes all, tt, denotes 0 all ns, valuesOf 0 all ns);
-          bound = λ ns w. tt;
-          passes = λ ns. refl;
-          asks = λ ns. id⊢ (w₀ .𝓤) _;
-          writes = λ ns ws. (ws .1 .1 .1 .0, tt);
-          says = λ ns ws. id⊢ (w₀ .𝓤) _;
-          alive-is = λ ns. id⊢ (w₀ .𝓤) _;
-        };
+        takes = record { enters = λ ns. ((lifetimes all ns, wholes all, tt, denotes 0 all ns, valuesOf 0 all ns), (λ w. tt), refl, refl, refl); writes = λ ns ws. ((ws .1 .1 .1 .0, tt), refl) };
       }
 
   unfoldable pub turns-call : (first last : ℕ) (vf vl : Val) (ms : List ℕ) (b o : ℕ) (hs : List ℤ) (b₁ o₁ : ℕ) → Callable c vc turnsCode.routine (value u32 first vf ∷ value u32 last vl ∷ writes u32 ms b o ∷ writes i64 hs b₁ o₁ ∷ [])
@@ -223,15 +169,7 @@ module _ (c : Clock) (vc : Val) where
         clauses = λ M. turns.clauses;
         met = λ M. turnsMet.met;
         makes = (u32-makes, (u32-makes, tt));
-        takes = record {
-          entry = λ ns. (lifetimes all ns, wholes all, tt, denotes 0 all ns, valuesOf 0 all ns);
-          bound = λ ns w. tt;
-          passes = λ ns. refl;
-          asks = λ ns. id⊢ (w₀ .𝓤) _;
-          writes = λ ns ws. (ws .1 .1 .1 .0, (ws .1 .1 .1 .1 .0, tt));
-          says = λ ns ws. id⊢ (w₀ .𝓤) _;
-          alive-is = λ ns. id⊢ (w₀ .𝓤) _;
-        };
+        takes = record { enters = λ ns. ((lifetimes all ns, wholes all, tt, denotes 0 all ns, valuesOf 0 all ns), (λ w. tt), refl, refl, refl); writes = λ ns ws. ((ws .1 .1 .1 .0, (ws .1 .1 .1 .1 .0, tt)), refl) };
       }
 
   unfoldable pub names-call : Callable c vc namesCode.routine ([])
@@ -242,13 +180,5 @@ module _ (c : Clock) (vc : Val) where
         clauses = λ M. names.clauses;
         met = λ M. namesMet.met;
         makes = tt;
-        takes = record {
-          entry = λ ns. (lifetimes all ns, wholes all, tt, denotes 0 all ns, valuesOf 0 all ns);
-          bound = λ ns w. tt;
-          passes = λ ns. refl;
-          asks = λ ns. id⊢ (w₀ .𝓤) _;
-          writes = λ ns ws. tt;
-          says = λ ns ws. id⊢ (w₀ .𝓤) _;
-          alive-is = λ ns. id⊢ (w₀ .𝓤) _;
-        };
+        takes = record { enters = λ ns. ((lifetimes all ns, wholes all, tt, denotes 0 all ns, valuesOf 0 all ns), (λ w. tt), refl, refl, refl); writes = λ ns ws. (tt, refl) };
       }
