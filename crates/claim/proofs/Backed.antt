@@ -126,15 +126,15 @@ names-there c r p = Call.hands (record { bound = λ w. tt; contract = kept _ (na
 each-kind : (c : Clock) → NewPost c → Calls c eachKind eachRefused c
 unfolding heightReturns seriesGives turnsGives recordsFrom namesFrom
 each-kind c p =
-    _then_ (cards-there c c [] (Refused Ended 1) (record { made = p .made; returns = sym no-file; leaves = sym (no-file-leaves _) }))
-    (_then_ (station-there c c (pos 0) [] (Refused NoTable 0) (no-station c (pos 0) [] p))
-    (_then_ (placing-there c c (pos 0) 0 noRows (Refused NoTable 0) (no-station c (pos 0) [] p))
-    (_then_ (date-there c c 1976 7 (Refused NoTable 0) (no-month c 1976 7 p))
-    (_then_ (height-there c 0 (height.Refused NoTable 0) (record { returns = sym (ap (λ (k : State). heightReturns k 0) (p .leaves)) }))
-    (_then_ (series-there c 0 1 (pos 5 ∷ []) (pos 5 ∷ []) (Refused NoTable 0) (record { gives = sym (ap (λ (k : State). seriesGives k 0 1 (pos 5 ∷ [])) (p .leaves)) }))
-    (_then_ (turns-there c 0 1 (9 ∷ []) (9 ∷ []) (pos 5 ∷ []) (pos 5 ∷ []) (turns.Refused NoTable 0)
-    (record { gives = sym (ap (λ (k : State). turnsGives k 0 1 (9 ∷ []) (pos 5 ∷ [])) (p .leaves)) }))
-    (_then_ (names-there c (record { count = 0; bytes = [] }) (sym (ap namesIn (p .leaves)))) done)))))))
+    cards-there c c [] (Refused Ended 1) (record { made = p .made; returns = sym no-file; leaves = sym (no-file-leaves _) })
+    then station-there c c (pos 0) [] (Refused NoTable 0) (no-station c (pos 0) [] p)
+    then placing-there c c (pos 0) 0 noRows (Refused NoTable 0) (no-station c (pos 0) [] p)
+    then date-there c c 1976 7 (Refused NoTable 0) (no-month c 1976 7 p)
+    then height-there c 0 (height.Refused NoTable 0) (record { returns = sym (ap (λ (k : State). heightReturns k 0) (p .leaves)) })
+    then series-there c 0 1 (pos 5 ∷ []) (pos 5 ∷ []) (Refused NoTable 0) (record { gives = sym (ap (λ (k : State). seriesGives k 0 1 (pos 5 ∷ [])) (p .leaves)) })
+    then turns-there c 0 1 (9 ∷ []) (9 ∷ []) (pos 5 ∷ []) (pos 5 ∷ []) (turns.Refused NoTable 0) (record { gives = sym (ap (λ (k : State). turnsGives k 0 1 (9 ∷ []) (pos 5 ∷ [])) (p .leaves)) })
+    then names-there c (record { count = 0; bytes = [] }) (sym (ap namesIn (p .leaves)))
+    then done
 
 pub controls : Controls
 controls =
