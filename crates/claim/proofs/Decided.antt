@@ -78,6 +78,9 @@ gave-discrete =
     coded gave-code gave-read gave-back
     (×-discrete ℕ-discrete (×-discrete returned-discrete (×-discrete (List-discrete ℕ-discrete) (×-discrete (List-discrete ℤ-discrete) (List-discrete (List-discrete ℕ-discrete))))))
 
--- to have given the same is a proposition
+-- to have given the same is a proposition, of one call and of a list
+pub gave-once : (g h : Gave) → IsProp (g ≡ h)
+gave-once = hedberg gave-discrete
+
 pub same-once : (gs hs : List Gave) → IsProp (gs ≡ hs)
 same-once = hedberg (List-discrete gave-discrete)

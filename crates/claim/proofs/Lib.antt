@@ -1,5 +1,5 @@
 pub mod Points
-mod Decided
+pub mod Decided
 pub mod Backed
 pub mod AtEachHeight
 pub mod Claim

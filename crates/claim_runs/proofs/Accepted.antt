@@ -195,4 +195,4 @@ accepted-by-the-document =
 pub accepted-by-the-machine : AcceptedByTheMachine
 accepted-by-the-machine =
     ∥∥₁-map (each-kind always-ends) (λ x.
-    (x .0, x .1, x .2, x .3, ∥∥₁-map (on-machine (x .0) (x .1) acceptedCalls (x .2) (x .3) .exactly) (λ g. subst (GiveAll (x .3)) accepted-by-the-document g)))
+    (x .0, x .1, x .2, x .3, subst (GiveAll (x .3)) accepted-by-the-document (on-machine (x .0) (x .1) acceptedCalls (x .2) (x .3) .exactly)))

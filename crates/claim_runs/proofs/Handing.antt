@@ -5,16 +5,17 @@ use mathlib.Core.List.{List, [], _∷_}
 use mathlib.Core.Logic.{∥∥₁-map, ∥∥₁-elim, ∥∥₁-prop}
 use mathlib.Core.Path.{_≡_, sym, subst}
 use mir.Val.{Val}
-use base.Logic.{ent, ex, emp, id⊢, via, monoL, mono∗, fst∗}
+use base.Logic.{ent, ex, emp, id⊢, via, monoL, mono∗, fst∗, snd∗}
 use prog.Memory.{Memory}
 use prog.Routine as routines
 use prog.Routine.{Routine, _≼_}
 use ghost.Atoms.{sem}
-use contract.Adequate.{sat-weaken, sat-⇛, sat-ex∗}
+use contract.Adequate.{sat-weaken, sat-⇛, sat-ex∗, sat-fact}
 use contract.Running.{givenOf}
 use types.Kit.{Given}
 use denote.Laws.{Is}
 use denote.RattleType.{owns}
+use denote.Shadow.{shadow, shows-shadow}
 use denote.Signature.{typeAt}
 use denote.Triple.Bound as entering
 use denote.Triple.Clauses.{Ended, Lasts, lasts}
@@ -22,7 +23,7 @@ use denote.Triple.Entry.{Res, alive}
 use borrow.Fn.World.{w₀}
 use Rattle.claim.specs.Calls.{ClausesOf, Once}
 use Rattle.claim_runs.specs.Handed.{Assertion, _∗_, ⟦_⟧₀, _⊨_, Handed, passed, Fit, lie, Written, lieAfter}
-use Rattle.claim_runs.proofs.Lending.{Names, typesOf, denotes, valuesOf, lender, ends, Made, tokens, Lent, lend-all, hand-over, hand-back}
+use Rattle.claim_runs.proofs.Lending.{Names, typesOf, denotes, valuesOf, lender, ends, AsMany, as-many, Made, tokens, Lent, lend-all, hand-over, hand-back}
 use Rattle.claim_runs.proofs.Ran.{Theorem, Entry, Ghosts, Brings, Owned, Returned, returns, every-return}
 
 -- the closed model's rules
@@ -64,13 +65,18 @@ module _ (T : Ended) (C : ClausesOf T) (hs : List Handed) where
       pub is : Is (typeAt (T .signature .result) (takes .enters names .0 .0)) result (v ∷ [])
       pub once : Once T C (takes .enters names .0 .0) (takes .enters names .0 .3) result last
       pub leaves : σ′ ⊨ ⟦ lieAfter hs (takes .writes names last .0) ⟧₀ ∗ F
+      pub as-many : AsMany hs (takes .writes names last .0)
 
-    came : (ns : Names hs) (v : Val) (σ′ : Memory) (F : Assertion) → Returned T C (entry ns) (ghosts ns) v σ′ (⟦ lender hs ns ⟧₀ ∗ F) → Came v σ′ F
+    came : (ns : Names hs) (v : Val) (σ′ : Memory) (F : Assertion) → Returned T C (entry ns) (ghosts ns) v σ′ (⟦ lender hs ns ⟧₀ ∗ F) → ∥ Came v σ′ F ∥₁
     came ns v σ′ F k =
         let al : Assertion = alive (w₀ .𝓤) (w₀ .H) (w₀ .𝓖 .A) (T .signature) (entry ns .0) (entry ns .1) in
         let own : Assertion = ⟦ typeAt (T .signature .result) (entry ns .0) .own (k .result) (v ∷ []) ⟧₀ in
         let says : Assertion = ⟦ lasts T (entry ns .0) (entry ns .3) (k .last) ⟧₀ in
         let written : Written hs = takes .writes ns (k .last) .0 in
+        let kept : Assertion = ⟦ lender hs ns ⟧₀ ∗ F in
+        ∥∥₁-map (sat-fact (w₀ .𝓤) (w₀ .H) (w₀ .𝓜) σ′ ((says ∗ (al ∗ own)) ∗ kept) (shadow (ends hs ns written))
+        (via (w₀ .𝓤) ((says ∗ (al ∗ own)) ∗ kept) (snd∗ (w₀ .𝓤) (w₀ .𝓜 .mem σ′) ((says ∗ (al ∗ own)) ∗ kept)) (via (w₀ .𝓤) (says ∗ (al ∗ own)) (fst∗ (w₀ .𝓤) (says ∗ (al ∗ own)) kept)
+        (via (w₀ .𝓤) says (fst∗ (w₀ .𝓤) says (al ∗ own)) (via (w₀ .𝓤) ⟦ ends hs ns written ⟧₀ (same says (takes .writes ns (k .last) .1)) (shows-shadow (w₀ .𝓤) (w₀ .H) (w₀ .𝓖 .A) (ends hs ns written)))))) (k .owned)) (λ shown.
         record {
           names = ns;
           result = k .result;
@@ -83,7 +89,8 @@ module _ (T : Ended) (C : ClausesOf T) (hs : List Handed) where
               (monoL (w₀ .𝓤) (⟦ lender hs ns ⟧₀ ∗ F)
               (mono∗ (w₀ .𝓤) (same says (takes .writes ns (k .last) .1)) (via (w₀ .𝓤) al (fst∗ (w₀ .𝓤) al own) (same al (takes .enters ns .4)))))
               (hand-back (w₀ .𝓤) (w₀ .H) (w₀ .𝓖 .A) W₀ hs ns written F)) (k .owned));
-        }
+          as-many = as-many hs ns written shown;
+        })
 
     module _ (f : Routine) (met : Theorem T C f) (made : Made (w₀ .𝓤) (w₀ .H) (w₀ .𝓖 .A) hs) (holds : emp (w₀ .𝓤) ⊢ Q) (fit : Fit hs) (σ : Memory) (F : Assertion) (s : σ ⊨ ⟦ lie hs ⟧₀ ∗ F) where
       lent-out : ∥ ((ns : Names hs) × (σ ⊨ Brings T C (entry ns) (ghosts ns) ∗ (⟦ lender hs ns ⟧₀ ∗ F))) ∥₁
@@ -99,11 +106,11 @@ module _ (T : Ended) (C : ClausesOf T) (hs : List Handed) where
       pub comes : ∥ ((v : Val) × (σ′ : Memory) × routines.ends f (passed hs) σ v σ′ × Came v σ′ F) ∥₁
       comes =
           ∥∥₁-elim lent-out ∥∥₁-prop (λ p.
-          ∥∥₁-map (returns T C (entry (p .0)) (ghosts (p .0)) f met σ (⟦ lender hs (p .0) ⟧₀ ∗ F) (p .1)) (λ k.
-          (k .0, k .1, subst (λ (vs : List Val). routines.ends f vs σ (k .0) (k .1)) (takes .enters (p .0) .2) (k .2), came (p .0) (k .0) (k .1) F (k .3))))
+          ∥∥₁-elim (returns T C (entry (p .0)) (ghosts (p .0)) f met σ (⟦ lender hs (p .0) ⟧₀ ∗ F) (p .1)) ∥∥₁-prop (λ k.
+          ∥∥₁-map (came (p .0) (k .0) (k .1) F (k .3)) (λ c. (k .0, k .1, subst (λ (vs : List Val). routines.ends f vs σ (k .0) (k .1)) (takes .enters (p .0) .2) (k .2), c))))
 
       pub every-comes : (f′ : Routine) → f ≼ f′ → (v : Val) (σ′ : Memory) → routines.ends f′ (passed hs) σ v σ′ → ∥ Came v σ′ F ∥₁
       every-comes f′ below v σ′ run =
           ∥∥₁-elim lent-out ∥∥₁-prop (λ p.
-          ∥∥₁-map (every-return T C (entry (p .0)) (ghosts (p .0)) f met σ (⟦ lender hs (p .0) ⟧₀ ∗ F) (p .1) f′ below v σ′
-          (subst (λ (vs : List Val). routines.ends f′ vs σ v σ′) (sym (takes .enters (p .0) .2)) run)) (came (p .0) v σ′ F))
+          ∥∥₁-elim (every-return T C (entry (p .0)) (ghosts (p .0)) f met σ (⟦ lender hs (p .0) ⟧₀ ∗ F) (p .1) f′ below v σ′
+          (subst (λ (vs : List Val). routines.ends f′ vs σ v σ′) (sym (takes .enters (p .0) .2)) run)) ∥∥₁-prop (came (p .0) v σ′ F))

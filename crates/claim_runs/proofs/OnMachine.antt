@@ -3,12 +3,15 @@
 -- Assumes nothing.
 use Prim.Native.Nat.{ℕ}
 use mathlib.Core.List.{List, [], _∷_}
+use mathlib.Core.HLevel.{⊥-prop, Unit-prop, ×-prop}
 use mathlib.Core.Logic.{∥∥₁-map, ∥∥₁-elim, ∥∥₁-prop}
-use mathlib.Core.Path.{_≡_, sym, ap, subst, _∙_}
+use mathlib.Core.Path.{_≡_, sym, ap, ap₂, subst, _∙_}
 use lib.IntN.{ℤ}
 use mir.Val.{Val}
 use base.Logic.{ent, emp}
+use prog.Memory.{Memory}
 use prog.Routine.{Routine}
+use contract.Adequate.{Satisfies}
 use contract.Monad.{fact, factI, top}
 use denote.Laws.{Is}
 use borrow.Fn.World.{w₀}
@@ -21,17 +24,19 @@ use Rattle.clock.proofs.After as AfterType
 use Rattle.clock.proofs.new as new
 use Rattle.clock.proofs.new.Symbol as newCode
 use Rattle.clock.proofs.new.Met as newMet
-use Rattle.claim.specs.Document.{Request, Gave, told, wrote, found, named, Last, nothing, after, gives, givesAll, lastAfter}
+use Rattle.claim.specs.Document.{Request, Series, Turns, Gave, told, wrote, found, named, Last, nothing, after, gives, givesAll, lastAfter}
 use Rattle.claim.specs.Calls as call
 use Rattle.claim.specs.Calls.{Call}
 use Rattle.claim.proofs.Points.{near-calls}
+use Rattle.claim.proofs.Decided.{gave-once}
 use Rattle.claim.proofs.Claim.{Agrees, new-agrees, call-agrees}
-use Rattle.claim_runs.specs.Handed.{Handed, value, Ran}
-use Rattle.claim_runs.specs.Values.{clockIn}
+use Rattle.claim_runs.specs.Handed.{Assertion, _⊨_, Handed, value, Ran, Leaves}
+use Rattle.claim_runs.specs.Values.{clockIn, answerIn, turnsIn}
 use Rattle.claim_runs.specs.Runs.{Run, loads, stations, placed, dates, heights, serieses, searches, hands, Gives, Started, Runs, done, _then_, GiveAll}
 use Rattle.claim_runs.specs.OnMachine.{OfAnyRuns, Returns, EveryCallEnds, AlwaysEnds}
 use Rattle.claim_runs.proofs.Handing.{Came, comes, every-comes}
 use Rattle.claim_runs.proofs.Parameters.{clock-makes, Callable, new-takes, load-call, station-call, placing-call, date-call, height-call, series-call, turns-call, names-call}
+use Rattle.claim_runs.proofs.Loads.{heights-left, turns-left}
 use Rattle.claim_runs.proofs.Values.{answer-reads, height-reads, turns-reads, names-read, after-reads, clock-is}
 
 -- a clock with the machine's value vc, whose state is what is worked out from l
@@ -80,14 +85,23 @@ module _ {vc : Val} (l : Last) (h : Holds vc l) where
   run-gives (serieses {start = start} {step = step} {vs = vs} {vt = vt} {hs = hs} {b = b} {o = o} x) =
       ∥∥₁-elim (ran (series-call (h .clock) vc start step vs vt hs b o) x) ∥∥₁-prop (λ k.
       let hs′ : List ℤ = k .last .1 .1 .1 .0 in
-      ∥∥₁-map (left-same (call.serieses (k .once))) (λ a.
-      ((hs′, k .leaves, a .0 ∙ ap (λ (r : Returned). wrote (record { returned = r; heights = hs′ })) (sym (answer-reads (k .result) (x .value) (k .is)))), a .1)))
+      ∥∥₁-elim (heights-left (x .left) hs hs′ b o (x .rest) (k .as-many .0) (k .leaves)) ∥∥₁-prop (λ e.
+      ∥∥₁-map (left-same (call.serieses (k .once))) (λ a. (
+        subst (λ (zs : List ℤ). Leaves x (zs, tt) × (gives l (Series start step hs) ≡ wrote (record { returned = answerIn (x .value); heights = zs }))) e
+            (k .leaves, a .0 ∙ ap (λ (r : Returned). wrote (record { returned = r; heights = hs′ })) (sym (answer-reads (k .result) (x .value) (k .is)))),
+        a .1,
+      ))))
   run-gives (searches {first = first} {last = last} {vf = vf} {vl = vl} {ms = ms} {b = b} {o = o} {hs = hs} {b₁ = b₁} {o₁ = o₁} x) =
       ∥∥₁-elim (ran (turns-call (h .clock) vc first last vf vl ms b o hs b₁ o₁) x) ∥∥₁-prop (λ k.
       let ms′ : List ℕ = k .last .1 .1 .1 .0 in
       let hs′ : List ℤ = k .last .1 .1 .1 .1 .0 in
-      ∥∥₁-map (left-same (call.searches (k .once))) (λ a.
-      ((ms′, hs′, k .leaves, a .0 ∙ ap (λ (r : Returned). found (record { returned = r; minutes = ms′; heights = hs′ })) (sym (turns-reads (k .result) (x .value) (k .is)))), a .1)))
+      ∥∥₁-elim (turns-left (x .left) ms ms′ b o hs hs′ b₁ o₁ (x .rest) (k .as-many .0) (k .as-many .1 .0) (k .leaves)) ∥∥₁-prop (λ e.
+      ∥∥₁-map (left-same (call.searches (k .once))) (λ a. (
+        subst (λ (zs : List ℕ × List ℤ). Leaves x (zs .0, (zs .1, tt)) × (gives l (Turns first last ms hs) ≡ found (record { returned = turnsIn (x .value); minutes = zs .0; heights = zs .1 })))
+            (ap₂ (λ (ys : List ℕ) (zs : List ℤ). (ys, zs)) (e .0) (e .1))
+            (k .leaves, a .0 ∙ ap (λ (r : Returned). found (record { returned = r; minutes = ms′; heights = hs′ })) (sym (turns-reads (k .result) (x .value) (k .is)))),
+        a .1,
+      ))))
   run-gives (hands x) =
       ∥∥₁-elim (ran (names-call (h .clock) vc) x) ∥∥₁-prop (λ k.
       ∥∥₁-map (left-same (call.hands (k .once))) (λ a. ((k .leaves, a .0 ∙ ap named (sym (names-read (k .result) (x .value) (k .is)))), a .1)))
@@ -118,6 +132,29 @@ runs-give l h done = ∣ (tt, h) ∣₁
 runs-give l h (_then_ {q = q} x xs) =
     ∥∥₁-elim (run-gives l h x) ∥∥₁-prop (λ k. ∥∥₁-map (runs-give (after l q) (k .1) xs) (λ all. ((k .0, all .0), all .1)))
 
+-- what runs gave is a proposition
+lies-once : (σ : Memory) (P : Assertion) → IsProp (σ ⊨ P)
+unfolding Satisfies
+lies-once σ P = ∥∥₁-prop
+
+gives-once : {vc vc′ : Val} {q : Request} (x : Run vc q vc′) (g : Gave) → IsProp (Gives x g)
+unfolding Gives
+gives-once (loads x) g = ×-prop (lies-once (x .left) _) (gave-once g _)
+gives-once (stations x) g = ×-prop (lies-once (x .left) _) (gave-once g _)
+gives-once (placed x) g = ×-prop (lies-once (x .left) _) (gave-once g _)
+gives-once (dates x) g = ×-prop (lies-once (x .left) _) (gave-once g _)
+gives-once (heights x) g = ×-prop (lies-once (x .left) _) (gave-once g _)
+gives-once (serieses x) g = ×-prop (lies-once (x .left) _) (gave-once g _)
+gives-once (searches x) g = ×-prop (lies-once (x .left) _) (gave-once g _)
+gives-once (hands x) g = ×-prop (lies-once (x .left) _) (gave-once g _)
+
+all-once : {vc vc′ : Val} {qs : List Request} (xs : Runs vc qs vc′) (gs : List Gave) → IsProp (GiveAll xs gs)
+unfolding GiveAll
+all-once done [] = Unit-prop
+all-once done (g ∷ gs) = ×-prop ⊥-prop Unit-prop
+all-once (x then xs) [] = ×-prop ⊥-prop Unit-prop
+all-once (x then xs) (g ∷ gs) = ×-prop (gives-once x g) (all-once xs gs)
+
 -- the value that `new` returned holds nothing
 new-holds : {vc : Val} → Started vc → ∥ Holds vc nothing ∥₁
 unfolding new-takes
@@ -129,7 +166,7 @@ new-holds {vc} s =
 
 pub on-machine : OfAnyRuns
 on-machine vc vc′ qs started xs =
-    record { exactly = ∥∥₁-elim (new-holds started) ∥∥₁-prop (λ h. ∥∥₁-map (runs-give nothing h xs) (λ k. k .0)); near = near-calls nothing qs }
+    record { exactly = ∥∥₁-elim (new-holds started) (all-once xs _) (λ h. ∥∥₁-elim (runs-give nothing h xs) (all-once xs _) (λ k. k .0)); near = near-calls nothing qs }
 
 pub always-ends : AlwaysEnds
 always-ends =

@@ -87,4 +87,4 @@ AcceptedByTheDocument = givesAll nothing acceptedCalls ≡ allAccepted
 -- There are runs of these calls, one after another from `new` on, and they give that: so the claim of the machine speaks of each kind of call,
 -- accepted. (Whichever calls come next, `AlwaysEnds` says that they return.)
 abbrev pub AcceptedByTheMachine : Type 2
-AcceptedByTheMachine = ∥ ((vc : Val) × (vc′ : Val) × Started vc × (xs : Runs vc acceptedCalls vc′) × ∥ GiveAll xs allAccepted ∥₁) ∥₁
+AcceptedByTheMachine = ∥ ((vc : Val) × (vc′ : Val) × Started vc × (xs : Runs vc acceptedCalls vc′) × GiveAll xs allAccepted) ∥₁

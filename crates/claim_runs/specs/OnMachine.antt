@@ -28,7 +28,7 @@ use Rattle.claim_runs.specs.Runs.{Started, Runs, GiveAll}
 -- `exactly`: all that the runs return and write is what the document gives for the list of calls.
 -- `near`: each height among it is within the allowed distance of the exact sum at its own minute.
 pub record OnMachine {vc vc′ : Val} (qs : List Request) (xs : Runs vc qs vc′) : Type 1 where
-  pub exactly : ∥ GiveAll xs (givesAll nothing qs) ∥₁
+  pub exactly : GiveAll xs (givesAll nothing qs)
   pub near : EachNear nothing qs (givesAll nothing qs)
 
 -- Take the value that a run of `new` returned, and any list of runs, each of a routine of the clock on the value of the clock that the one

@@ -5,6 +5,7 @@ use Prim.Native.Nat.{ℕ}
 use mathlib.Core.List.{List, [], _∷_}
 use mathlib.Core.Path.{_≡_}
 use lib.IntN.{ℤ}
+use lib.ListN.{length}
 use mir.Val.{Val}
 use base.Fml.{Share}
 use denote.Builtin.{u8, u32, i32, i64, usize}
@@ -24,7 +25,7 @@ use Rattle.clock.proofs.turns.Symbol as turnsCode
 use Rattle.clock.proofs.names.Symbol as namesCode
 use Rattle.claim.specs.Document.{Request, Cards, Station, Date, Height, Series, Turns, Names, Gave, told, wrote, found, named}
 use Rattle.claim_runs.specs.Handed.{value, reads, writes, Ran, Leaves}
-use Rattle.claim_runs.specs.Values.{answerIn, heightIn, turnsIn, namesIn, answerPart, clockIn}
+use Rattle.claim_runs.specs.Values.{answerIn, heightIn, turnsIn, namesIn, minutesAt, heightsAt, answerPart, clockIn}
 
 -- "The first gets a clock with no table, station or month": a clock's value that a run of `new` returned, from any memory
 pub record Started (vc : Val) : Type 2 where
@@ -57,16 +58,21 @@ pub data Run : Val → Request → Val → Type 2 where
       → Run vc (Turns first last ms hs) vc
   hands : {vc : Val} → Ran namesCode.routine (vc ∷ []) [] → Run vc Names vc
 
--- What a run gave is g: g is read off the value that it returned and off the buffers that it wrote to, as they lie in memory at its end.
+-- What a run gave is g: g is read off the value that it returned and, where it wrote to a buffer, off the memory at its end; and the buffers
+-- lie there with what is read.
 unfoldable pub Gives : {vc vc′ : Val} {q : Request} → Run vc q vc′ → Gave → Type 1
 Gives (loads x) g = Leaves x tt × (g ≡ told (answerIn (answerPart (x .value))))
 Gives (stations x) g = Leaves x tt × (g ≡ told (answerIn (answerPart (x .value))))
 Gives (placed x) g = Leaves x tt × (g ≡ told (answerIn (answerPart (x .value))))
 Gives (dates x) g = Leaves x tt × (g ≡ told (answerIn (answerPart (x .value))))
 Gives (heights x) g = Leaves x tt × (g ≡ told (heightIn (x .value)))
-Gives (serieses x) g = (hs′ : List ℤ) × Leaves x (hs′, tt) × (g ≡ wrote (record { returned = answerIn (x .value); heights = hs′ }))
-Gives (searches x) g =
-    (ms′ : List ℕ) × (hs′ : List ℤ) × Leaves x (ms′, (hs′, tt)) × (g ≡ found (record { returned = turnsIn (x .value); minutes = ms′; heights = hs′ }))
+Gives (serieses {hs = hs} {b = b} {o = o} x) g =
+    let hs′ : List ℤ = heightsAt (x .left) b o (length hs) in
+    Leaves x (hs′, tt) × (g ≡ wrote (record { returned = answerIn (x .value); heights = hs′ }))
+Gives (searches {ms = ms} {b = b} {o = o} {hs = hs} {b₁ = b₁} {o₁ = o₁} x) g =
+    let ms′ : List ℕ = minutesAt (x .left) b o (length ms) in
+    let hs′ : List ℤ = heightsAt (x .left) b₁ o₁ (length hs) in
+    Leaves x (ms′, (hs′, tt)) × (g ≡ found (record { returned = turnsIn (x .value); minutes = ms′; heights = hs′ }))
 Gives (hands x) g = Leaves x tt × (g ≡ named (namesIn (x .value)))
 
 -- "Each later one gets the clock as the one before it returned or left it." What is done to the memory between two calls is the caller's.

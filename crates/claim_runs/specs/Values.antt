@@ -1,14 +1,17 @@
 -- The machine's values for what the clock's calls return, read: a struct by its fields, an enum by its tag, which stands first, and the
--- fields behind it.
+-- fields behind it; and what lies in a memory, as the machine loads it.
 -- Assumes nothing.
-use Prim.Native.Nat.{ℕ}
+use Prim.Native.Nat.{ℕ, zero, suc, _+_}
 use mathlib.Core.Bool.{false, cond}
 use mathlib.Core.List.{List, [], _∷_}
+use mathlib.Core.Option.{Option, some, none}
 use lib.Dec.{eqb}
+use lib.IntN.{ℤ}
 use lib.ListN.{getD}
 use mir.Fields.{getV}
-use mir.Syntax.{w64}
-use mir.Val.{Val, vunit, vbool, vint, vfloat, vptr, vstruct, Vals, vnil, vcons, asInt, asBool, toZ}
+use mir.Syntax.{Width, w32, w64, tyInt}
+use mir.Val.{Val, vunit, vbool, vint, vfloat, vptr, vstruct, Vals, vnil, vcons, asInt, asBool, toZ, bytes}
+use prog.Memory.{Memory, loadM}
 use Rattle.columns.specs.Names.{namesFrom}
 use Rattle.calls.specs.Returned.{Returned, accepted, heightIs, turnsAre, refused}
 
@@ -67,3 +70,23 @@ answerPart = partIn 0
 
 abbrev pub clockIn : Val → Val
 clockIn = partIn 1
+
+-- ---- what lies in a memory, as the machine loads it (0 where nothing lies)
+
+abbrev pub loadedIn : Option Val → ℕ
+loadedIn none = 0
+loadedIn (some v) = numberIn v
+
+abbrev pub numberAt : Memory → Width → ℕ → ℕ → ℕ
+numberAt σ w b o = loadedIn (loadM σ (tyInt w) b o)
+
+-- n numbers of the width w side by side, from the block b and the offset o on, each read as an element
+unfoldable pub elementsAt : {X : Type 0} → (ℕ → X) → Width → Memory → ℕ → ℕ → ℕ → List X
+elementsAt read w σ b o zero = []
+elementsAt read w σ b o (suc n) = read (numberAt σ w b o) ∷ elementsAt read w σ b (o + bytes w) n
+
+abbrev pub minutesAt : Memory → ℕ → ℕ → ℕ → List ℕ
+minutesAt = elementsAt (λ (n : ℕ). n) w32
+
+abbrev pub heightsAt : Memory → ℕ → ℕ → ℕ → List ℤ
+heightsAt = elementsAt (toZ w64) w64
