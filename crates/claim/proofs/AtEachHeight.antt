@@ -17,7 +17,7 @@ use Rattle.calls.specs.State as state
 use Rattle.calls.specs.State.{Maybe}
 use Rattle.calls.specs.Returned.{Returned, accepted, heightIs, turnsAre, refused}
 use Rattle.calls.specs.Calls.{TurnsGiven, turnsGives}
-use Rattle.claim.specs.Document.{Request, Turns, Gave, told, wrote, found, named, Last, nothing, workedOut, after, gives, givesAll, lastAfter, Point, pointsFrom, pointsOf, points, constituentsOf, AllNear, nil, cons, EachNear, end, next}
+use Rattle.claim.specs.Document.{Request, Turns, Gave, told, wrote, found, named, Last, nothing, workedOut, after, gives, givesAll, lastAfter, Point, pointsFrom, pointsOf, points, constituentsOf, AllNear, cons, EachNear, end, next}
 use Rattle.claim.proofs.Points.{turns-give, as-many}
 use Rattle.claim.specs.Claim.{OfAHeight, OfASeries, OfTurns}
 

@@ -15,7 +15,6 @@ use Rattle.card_file.specs.Cards.{readCards}
 use Rattle.station.specs.declared.records.Record.{Record}
 use Rattle.station.specs.Records.{recordsOf}
 use Rattle.clock.specs.declared.Clock.{Clock}
-use Rattle.calls.specs.State as state
 use Rattle.calls.specs.State.{State, some, none}
 use Rattle.columns.specs.Names.{namesFrom}
 use Rattle.calls.specs.Names.{namesIn}
@@ -25,7 +24,7 @@ use Rattle.clock.specs.View.{view, Made}
 use Rattle.clock.specs.Posts.{NewPost, CardsPost, StationPost, DatePost, HeightPost, SeriesPost, TurnsPost}
 use Rattle.claim.specs.Calls.{Keeps, New, Call, Calls, done, _then_}
 use Rattle.claim.specs.Document.{Request, Cards, Station, Date, Gave, told, wrote, found, named, Last, nothing, workedOut, after, gives, givesAll, lastAfter, EachNear}
-use Rattle.claim.specs.Claim.{Claim, OfAnyCalls}
+use Rattle.claim.specs.Claim.{OfAnyCalls}
 use Rattle.claim.proofs.Points.{near-calls}
 use Rattle.claim.proofs.Decided.{same-once}
 

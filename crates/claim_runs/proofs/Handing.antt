@@ -9,7 +9,6 @@ use base.Logic.{ent, ex, emp, id⊢, via, monoL, mono∗, fst∗, snd∗}
 use prog.Memory.{Memory}
 use prog.Routine as routines
 use prog.Routine.{Routine, _≼_}
-use ghost.Atoms.{sem}
 use contract.Adequate.{sat-weaken, sat-⇛, sat-ex∗, sat-fact}
 use contract.Running.{givenOf}
 use types.Kit.{Given}
@@ -24,7 +23,7 @@ use borrow.Fn.World.{w₀}
 use Rattle.claim.specs.Calls.{ClausesOf, Once}
 use Rattle.claim_runs.specs.Handed.{Assertion, _∗_, ⟦_⟧₀, _⊨_, Handed, passed, Fit, lie, Written, lieAfter}
 use Rattle.claim_runs.proofs.Lending.{Names, typesOf, denotes, valuesOf, lender, ends, AsMany, as-many, Made, tokens, Lent, lend-all, hand-over, hand-back}
-use Rattle.claim_runs.proofs.Ran.{Theorem, Entry, Ghosts, Brings, Owned, Returned, returns, every-return}
+use Rattle.claim_runs.proofs.Ran.{Theorem, Entry, Ghosts, Brings, Returned, returns, every-return}
 
 -- the closed model's rules
 abbrev pub W₀ : Given (w₀ .𝓤) (w₀ .H) (w₀ .𝓖 .A)

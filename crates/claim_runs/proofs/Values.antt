@@ -35,7 +35,7 @@ use Rattle.clock.proofs.TurnsAnswer.Laws as TurnsAnswerLaws
 use Rattle.clock.specs.declared.TableNames.{TableNames}
 use Rattle.clock.proofs.TableNames as NamesType
 use Rattle.clock.proofs.TableNames.Laws as NamesLaws
-use Rattle.claim_runs.specs.Values.{partIn, numberIn, refusalNumbers, answerIn, heightIn, turnsIn, numbersIn, arrayIn, namesIn, answerPart, clockIn}
+use Rattle.claim_runs.specs.Values.{partIn, numberIn, refusalNumbers, answerIn, heightIn, turnsIn, numbersIn, namesIn, answerPart, clockIn}
 
 abbrev first : List Val → Val
 first [] = vunit
