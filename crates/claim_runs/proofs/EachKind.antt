@@ -1,7 +1,7 @@
 -- Each kind of call is run (specs/Accepted.antt): from the memory with which a program begins, in which the card file lies, one routine after
 -- another returns, on the clock's value that the one before returned or left. Rests on `AlwaysEnds` alone. Assumes nothing.
 use Prim.Native.Nat.{ℕ, _+_, _<_, _^_}
-use mathlib.Core.Bool.{Bool, true, false}
+use mathlib.Core.Bool.{Bool, true, false, _&&_}
 use mathlib.Core.List.{List, [], _∷_, _++_, map}
 use mathlib.Core.Logic.{∥∥₁-map, ∥∥₁-elim, ∥∥₁-prop}
 use mathlib.Core.Path.{_≡_, refl, _∙_}
@@ -51,15 +51,11 @@ abbrev Below : ℕ → List ℕ → Type 0
 Below n [] = Unit {0}
 Below n (x ∷ xs) = (x < n) × Below n xs
 
-abbrev both : Bool → Bool → Bool
-both true b = b
-both false b = false
-
 abbrev areBelow : ℕ → List ℕ → Bool
 areBelow n [] = true
-areBelow n (x ∷ xs) = both (ltb x n) (areBelow n xs)
+areBelow n (x ∷ xs) = ltb x n && areBelow n xs
 
-both-hold : (a b : Bool) → T (both a b) → T a × T b
+both-hold : (a b : Bool) → T (a && b) → T a × T b
 both-hold true b t = (tt, t)
 both-hold false b t = absurd t
 

@@ -35,9 +35,10 @@ use Rattle.clock.proofs.TurnsAnswer.Laws as TurnsAnswerLaws
 use Rattle.clock.specs.declared.TableNames.{TableNames}
 use Rattle.clock.proofs.TableNames as NamesType
 use Rattle.clock.proofs.TableNames.Laws as NamesLaws
-use Rattle.claim_runs.specs.Values.{partIn, numberIn, refusalNumbers, answerIn, heightIn, turnsIn, numbersIn, namesIn, answerPart, clockIn}
+use Rattle.claim_runs.specs.Values.{partIn, numberIn, refusalNumbers, answerIn, heightIn, turnsIn, numbersIn, tableNamesIn, answerPart, clockIn}
 
-abbrev first : List Val → Val
+-- the first of the machine's values
+abbrev pub first : List Val → Val
 first [] = vunit
 first (v ∷ vs) = v
 
@@ -93,8 +94,8 @@ unfolding numbersIn
 bytes-read [] = refl
 bytes-read (b ∷ bs) = ap (λ (cs : List ℕ). b ∷ cs) (bytes-read bs)
 
-names-lowered : (r : TableNames) → namesIn (NamesLaws.lowered r) ≡ namesFrom (r .bytes) 0 (r .count)
+names-lowered : (r : TableNames) → tableNamesIn (NamesLaws.lowered r) ≡ namesFrom (r .bytes) 0 (r .count)
 names-lowered r = ap (λ (bs : List ℕ). namesFrom bs 0 (r .count)) (bytes-read (r .bytes))
 
-pub names-read : (r : TableNames) (v : Val) → Is NamesType.the-row r (v ∷ []) → namesIn v ≡ namesFrom (r .bytes) 0 (r .count)
-names-read r v is = ap (λ (vs : List Val). namesIn (first vs)) (NamesLaws.lowers .val-is r (v ∷ []) is) ∙ names-lowered r
+pub names-read : (r : TableNames) (v : Val) → Is NamesType.the-row r (v ∷ []) → tableNamesIn v ≡ namesFrom (r .bytes) 0 (r .count)
+names-read r v is = ap (λ (vs : List Val). tableNamesIn (first vs)) (NamesLaws.lowers .val-is r (v ∷ []) is) ∙ names-lowered r

@@ -25,7 +25,7 @@ use Rattle.clock.proofs.turns.Symbol as turnsCode
 use Rattle.clock.proofs.names.Symbol as namesCode
 use Rattle.claim.specs.Document.{Request, Cards, Station, Date, Height, Series, Turns, Names, Gave, told, wrote, found, named}
 use Rattle.claim_runs.specs.Handed.{value, reads, writes, Ran, Leaves}
-use Rattle.claim_runs.specs.Values.{answerIn, heightIn, turnsIn, namesIn, minutesAt, heightsAt, answerPart, clockIn}
+use Rattle.claim_runs.specs.Values.{answerIn, heightIn, turnsIn, tableNamesIn, minutesAt, heightsAt, answerPart, clockIn}
 
 -- "The first gets a clock with no table, station or month": a clock's value that a run of `new` returned, from any memory
 pub record Started (vc : Val) : Type 2 where
@@ -73,7 +73,7 @@ Gives (searches {ms = ms} {b = b} {o = o} {hs = hs} {b₁ = b₁} {o₁ = o₁} 
     let ms′ : List ℕ = minutesAt (x .left) b o (length ms) in
     let hs′ : List ℤ = heightsAt (x .left) b₁ o₁ (length hs) in
     Leaves x (ms′, (hs′, tt)) × (g ≡ found (record { returned = turnsIn (x .value); minutes = ms′; heights = hs′ }))
-Gives (hands x) g = Leaves x tt × (g ≡ named (namesIn (x .value)))
+Gives (hands x) g = Leaves x tt × (g ≡ named (tableNamesIn (x .value)))
 
 -- "Each later one gets the clock as the one before it returned or left it." What is done to the memory between two calls is the caller's.
 pub data Runs : Val → List Request → Val → Type 2 where

@@ -61,8 +61,8 @@ arrayIn (vptr b o) = []
 arrayIn (vstruct vs) = numbersIn vs
 
 -- names: how many, and the bytes of all
-abbrev pub namesIn : Val → List (List ℕ)
-namesIn v = namesFrom (arrayIn (partIn 1 v)) 0 (numberIn (partIn 0 v))
+abbrev pub tableNamesIn : Val → List (List ℕ)
+tableNamesIn v = namesFrom (arrayIn (partIn 1 v)) 0 (numberIn (partIn 0 v))
 
 -- what a call that gives the clock back returns: its answer, then the clock
 abbrev pub answerPart : Val → Val
