@@ -3,6 +3,7 @@
 use Prim.Native.Nat.{ℕ, _+_, _-_, _*_}
 use mathlib.Core.Bool.{Bool, not, _||_}
 use lib.Dec.{ltb}
+use Rattle.limits.specs.Limits.{mostStep}
 use Rattle.refusals.specs.Outcome.{Outcome, accepted, refuseIf, andThen}
 
 -- "heights, series and turns [ask] all three": "21 no table; 22 no station; 23 no month"
@@ -21,7 +22,7 @@ lastMinute start step places = start + (places - 1) * step
 
 -- "a step of 1 to 1,440 minutes"
 abbrev pub stepOutside : ℕ → Bool
-stepOutside step = ltb step 1 || ltb 1_440 step
+stepOutside step = ltb step 1 || ltb mostStep step
 
 -- 9, "minutes outside the month [..], or step out of range"
 unfoldable pub seriesOutcome : Bool → Bool → Bool → ℕ → ℕ → ℕ → ℕ → Outcome

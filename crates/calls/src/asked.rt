@@ -4,6 +4,7 @@ ghost use mathlib.Core.Bool.{_||_};
 ghost use lib.Dec.{ltb};
 ghost use Rattle.refusals.specs.Outcome.{accepted, refuseIf, andThen, outcomeOf};
 ghost use Rattle.calls.specs.Asked.{stateOutcome, heightOutcome, seriesOutcome, turnsOutcome, lastMinute, stepOutside};
+use limits::STEP;
 use refusals::Answer;
 use refusals::Refusal;
 
@@ -43,7 +44,7 @@ fn series_outside(last: u64, start: u64, step: u64, places: usize) -> bool
     if step < 1 {
         return true;
     }
-    if 1_440 < step {
+    if STEP < step {
         return true;
     }
     if places == 0 {

@@ -2,6 +2,7 @@
 -- Cards are read by these descriptions alone: "skipped columns, columns past the format and unused fields are ignored".
 use Prim.Native.Nat.{ℕ, _+_, _*_}
 use lib.IntN.{ℤ, pos, negℤ}
+use Rattle.limits.specs.Limits.{mostFrequency}
 use Rattle.fields.specs.declared.Format.{Format}
 use Rattle.fields.specs.declared.Format.the-variants.{Whole, Fixed}
 
@@ -29,7 +30,7 @@ abbrev pub frequencyName : ℕ
 frequencyName = 4
 
 abbrev pub frequencyField : Number
-frequencyField = upTo 4_999_999_999 12 13 (Fixed 10)
+frequencyField = upTo mostFrequency 12 13 (Fixed 10)
 
 -- 2. "Two cards (5F13.10). First: longitudes in cycles, at least 0 and under 1. Second: their increase in 365 days, 0 to 20."
 abbrev pub longitudeField : ℕ → Number

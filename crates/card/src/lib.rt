@@ -3,6 +3,7 @@ ghost use mathlib.Core.Path.{_≡_};
 ghost use Prim.Native.Nat.{_+_, _*_, _^_, _≤_, _<_};
 ghost use lib.ListN.{length, take};
 ghost use lib.IntN.{pos};
+ghost use Rattle.limits.specs.Limits.{mostColumns};
 ghost use Rattle.fields.specs.declared.Format.the-variants.{Whole};
 ghost use Rattle.card.specs.Formats.{field, within};
 ghost use Rattle.card.specs.Card.{number, numbers};
@@ -87,7 +88,7 @@ pub struct SmallRow {
 
 // The numbers in `count` fields I3 in a row, from column `from` on, each from -`most` to `most`.
 pub fn small_row(line: &[u8], from: usize, count: usize, most: u8) -> SmallRow
-    requires { ⌜ (from ≤ 80) × (count ≤ 6) × (most ≤ 127) ⌝ }
+    requires { ⌜ (from ≤ mostColumns) × (count ≤ 6) × (most ≤ 127) ⌝ }
     ensures { λ r. ⌜ faultGives (r .fault) (take count (r .values)) ≡ numbers (now (line .entry)) (λ k. within most (from + 3 * k) 3 Whole) count ⌝ }
     ensures { λ r. ⌜ length (r .values) ≡ 6 ⌝ }
 {

@@ -1,6 +1,7 @@
 // The places of constituents: by a name on a card, and among those defined.
 ghost use mathlib.Core.Path.{_≡_};
 ghost use Prim.Native.Nat.{_+_, _*_, _≤_, _<_};
+ghost use Rattle.limits.specs.Limits.{mostFrequencies};
 ghost use Rattle.columns.specs.Columns.{columns};
 ghost use Rattle.columns.specs.Names.{namesFrom};
 ghost use Rattle.card.specs.Card.{placeNamed, isAmong};
@@ -17,7 +18,7 @@ pub enum Place {
 
 // The place of the frequency with the name in five columns of the line.
 pub fn place_named(line: &[u8], from: usize, names: &[u8], count: usize) -> Place
-    requires { ⌜ count ≤ 160 ⌝ }
+    requires { ⌜ count ≤ mostFrequencies ⌝ }
     ensures { λ r. ⌜ placeGives r ≡ placeNamed (namesFrom (now (names .entry)) 0 count) (columns (now (line .entry)) from 5) ⌝ }
 {
     let name = names::name_part(line, from);
@@ -32,7 +33,7 @@ pub fn place_named(line: &[u8], from: usize, names: &[u8], count: usize) -> Plac
 
 // Whether a place begins one of the first `count` rows of `cards`.
 pub fn is_among(place: u16, cards: &[u16], width: usize, count: usize) -> bool
-    requires { ⌜ (width ≤ 6) × (count ≤ 160) ⌝ }
+    requires { ⌜ (width ≤ 6) × (count ≤ mostFrequencies) ⌝ }
     ensures { λ r. ⌜ r ≡ isAmong place (placesIn width (now (cards .entry)) count) ⌝ }
 {
     let mut k = 0;
@@ -47,7 +48,7 @@ pub fn is_among(place: u16, cards: &[u16], width: usize, count: usize) -> bool
 
 // The main with a place, by its position.
 pub fn main_at(place: u16, cards: &[u16], count: usize) -> Place
-    requires { ⌜ count ≤ 160 ⌝ }
+    requires { ⌜ count ≤ mostFrequencies ⌝ }
     ensures { λ r. ⌜ placeGives r ≡ mainAt place (placesIn 3 (now (cards .entry)) count) 0 ⌝ }
 {
     let mut k = 0;
@@ -69,7 +70,7 @@ pub fn main_named(
     cards: &[u16],
     mains: usize,
 ) -> Place
-    requires { ⌜ (frequencies ≤ 160) × (mains ≤ 160) ⌝ }
+    requires { ⌜ (frequencies ≤ mostFrequencies) × (mains ≤ mostFrequencies) ⌝ }
     ensures { λ r. ⌜ placeGives r ≡ mainNamed (namesFrom (now (names .entry)) 0 frequencies) (placesIn 3 (now (cards .entry)) mains) (columns (now (line .entry)) from 5) ⌝ }
 {
     match names::find_name(names::name_part(line, from), names, frequencies) {

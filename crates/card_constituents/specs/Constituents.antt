@@ -3,6 +3,7 @@ use Prim.Native.Nat.{ℕ, _+_, _-_}
 use mathlib.Core.List.{List, [], _∷_, _++_}
 use mathlib.Core.Bool.{cond}
 use lib.Dec.{leb, eqb}
+use Rattle.limits.specs.Limits.{satellitesACard}
 use Rattle.table.specs.Table.{Main}
 use Rattle.card.specs.Card.{Reading, given, refused, onward, onwardOrEnd}
 use Rattle.card_mains.specs.Mains.{mainPlaces, nextMain}
@@ -23,6 +24,6 @@ unfoldable mutual
   satellitesFrom names [] n mains satellites m count = refused 7 n
   satellitesFrom names (line ∷ lines) n mains satellites m count =
       onward (withCard m count line) n
-      (λ more. cond (leb count 3)
+      (λ more. cond (leb count satellitesACard)
       (mainsFrom names lines (n + 1) (mains ++ (more ∷ [])) (satellites + count))
-      (satellitesFrom names lines (n + 1) mains (satellites + 3) more (count - 3)))
+      (satellitesFrom names lines (n + 1) mains (satellites + satellitesACard) more (count - satellitesACard)))

@@ -3,6 +3,7 @@
 ghost use mathlib.Core.Path.{_≡_};
 ghost use Prim.Native.Nat.{_+_, _≤_, _<_};
 ghost use lib.ListN.{length, drop};
+ghost use Rattle.limits.specs.Limits.{mostFrequencies, mostMains, mostSatellites};
 ghost use Rattle.columns.specs.Lines.{linesOf, firstLine, restLines};
 ghost use Rattle.columns.specs.Names.{namesFrom};
 ghost use Rattle.table.specs.inner.View.{mainOf};
@@ -21,6 +22,11 @@ use card::lines::Progress;
 use card::lines::after_line;
 use card::lines::line_at;
 use card_mains::mains::MainStep;
+use limits::SATELLITES_A_CARD;
+use table::MAIN_ANGLES;
+use table::MAIN_CARDS;
+use table::SATELLITE_ANGLES;
+use table::SATELLITE_RATIOS;
 
 // Where part 3 ends, and how many mains and satellites are stored.
 pub struct MainsRead {
@@ -75,7 +81,7 @@ fn next_card(file: &[u8], here: Here, width: usize) -> Here
 
 // The same line, with more mains and satellites stored.
 fn with_more(here: Here, mains: usize, satellites: usize) -> Here
-    requires { ⌜ (here .mains + mains ≤ 64) × (here .satellites + satellites ≤ 256) ⌝ }
+    requires { ⌜ (here .mains + mains ≤ mostMains) × (here .satellites + satellites ≤ mostSatellites) ⌝ }
     ensures { λ r. ⌜ r ≡ record { at = here .at; n = here .n; mains = here .mains + mains; satellites = here .satellites + satellites } ⌝ }
 {
     Here {
@@ -92,14 +98,14 @@ pub fn constituent_reader(
     here: Here,
     names: &[u8],
     known: usize,
-    cards: &mut [u16; 192],
-    angles: &mut [i8; 448],
-    sat: &mut [i8; 1024],
-    ratios: &mut [u32; 512],
+    cards: &mut [u16; MAIN_CARDS],
+    angles: &mut [i8; MAIN_ANGLES],
+    sat: &mut [i8; SATELLITE_ANGLES],
+    ratios: &mut [u32; SATELLITE_RATIOS],
 ) -> MainsRead
-    requires { ⌜ (here .at ≤ length (now file)) × (here .n ≤ here .at + 1) × (known ≤ 160) × (here .mains ≤ 64) × (here .satellites ≤ 256) × Stored (now cards) (here .mains) (here .satellites) × MainRoom (now cards) (now angles) × SatelliteRoom (now sat) (now ratios) ⌝ }
+    requires { ⌜ (here .at ≤ length (now file)) × (here .n ≤ here .at + 1) × (known ≤ mostFrequencies) × (here .mains ≤ mostMains) × (here .satellites ≤ mostSatellites) × Stored (now cards) (here .mains) (here .satellites) × MainRoom (now cards) (now angles) × SatelliteRoom (now sat) (now ratios) ⌝ }
     ensures { λ r. ⌜ readingGives (now (file .entry)) (r .progress) (mainsIn (now (cards .exit)) (now (angles .exit)) (now (sat .exit)) (now (ratios .exit)) (r .mains)) ≡ mainsFrom (namesFrom (now (names .entry)) 0 known) (linesOf (drop (here .at) (now (file .entry)))) (here .n) (mainsIn (now (cards .entry)) (now (angles .entry)) (now (sat .entry)) (now (ratios .entry)) (here .mains)) (here .satellites) ⌝ }
-    ensures { λ r. ⌜ Within (now (file .entry)) (r .progress) × (r .mains ≤ 64) ⌝ }
+    ensures { λ r. ⌜ Within (now (file .entry)) (r .progress) × (r .mains ≤ mostMains) ⌝ }
 {
     let at = here.at;
     if file.len() <= at {
@@ -129,14 +135,14 @@ pub fn satellite_reader(
     due: usize,
     names: &[u8],
     known: usize,
-    cards: &mut [u16; 192],
-    angles: &mut [i8; 448],
-    sat: &mut [i8; 1024],
-    ratios: &mut [u32; 512],
+    cards: &mut [u16; MAIN_CARDS],
+    angles: &mut [i8; MAIN_ANGLES],
+    sat: &mut [i8; SATELLITE_ANGLES],
+    ratios: &mut [u32; SATELLITE_RATIOS],
 ) -> MainsRead
-    requires { ⌜ (here .at ≤ length (now file)) × (here .n ≤ here .at + 1) × (known ≤ 160) × (here .mains < 64) × (here .satellites + due ≤ 256) × (satellitesEnd (now cards) (here .mains) ≡ here .satellites) × Stored (now cards) (here .mains) (here .satellites) × MainRoom (now cards) (now angles) × SatelliteRoom (now sat) (now ratios) ⌝ }
+    requires { ⌜ (here .at ≤ length (now file)) × (here .n ≤ here .at + 1) × (known ≤ mostFrequencies) × (here .mains < mostMains) × (here .satellites + due ≤ mostSatellites) × (satellitesEnd (now cards) (here .mains) ≡ here .satellites) × Stored (now cards) (here .mains) (here .satellites) × MainRoom (now cards) (now angles) × SatelliteRoom (now sat) (now ratios) ⌝ }
     ensures { λ r. ⌜ readingGives (now (file .entry)) (r .progress) (mainsIn (now (cards .exit)) (now (angles .exit)) (now (sat .exit)) (now (ratios .exit)) (r .mains)) ≡ satellitesFrom (namesFrom (now (names .entry)) 0 known) (linesOf (drop (here .at) (now (file .entry)))) (here .n) (mainsIn (now (cards .entry)) (now (angles .entry)) (now (sat .entry)) (now (ratios .entry)) (here .mains)) (here .satellites) (mainOf (now (cards .entry)) (now (angles .entry)) (now (sat .entry)) (now (ratios .entry)) (here .mains)) due ⌝ }
-    ensures { λ r. ⌜ Within (now (file .entry)) (r .progress) × (r .mains ≤ 64) ⌝ }
+    ensures { λ r. ⌜ Within (now (file .entry)) (r .progress) × (r .mains ≤ mostMains) ⌝ }
 {
     let at = here.at;
     if file.len() <= at {
@@ -146,12 +152,12 @@ pub fn satellite_reader(
     let next = next_card(file, here, line.len());
     match read_satellites(line, here, due, cards, sat, ratios) {
         Fault::Clear => {
-            if due <= 3 {
+            if due <= SATELLITES_A_CARD {
                 let more = with_more(next, 1, due);
                 constituent_reader(file, more, names, known, cards, angles, sat, ratios)
             } else {
-                let more = with_more(next, 0, 3);
-                let left = due - 3;
+                let more = with_more(next, 0, SATELLITES_A_CARD);
+                let left = due - SATELLITES_A_CARD;
                 satellite_reader(file, more, left, names, known, cards, angles, sat, ratios)
             }
         }

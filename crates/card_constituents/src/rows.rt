@@ -4,6 +4,7 @@ ghost use mathlib.Core.List.{[], _∷_};
 ghost use Prim.Native.Nat.{_+_, _*_, _≤_, _<_};
 ghost use lib.ListN.{length, getD, set};
 ghost use lib.Seq.{sets};
+ghost use Rattle.limits.specs.Limits.{mostFrequencies, mostMains, mostSatellites};
 ghost use Rattle.columns.specs.Names.{namesFrom};
 ghost use Rattle.card.specs.inner.Places.{placesIn};
 ghost use Rattle.card_mains.specs.Mains.{nextMain};
@@ -14,6 +15,10 @@ use card_mains::mains::MainStep;
 use card_mains::mains::next_main;
 use card_mains::satellitecard::at_most_three;
 use card_mains::satellitecard::satellite_card;
+use table::MAIN_ANGLES;
+use table::MAIN_CARDS;
+use table::SATELLITE_ANGLES;
+use table::SATELLITE_RATIOS;
 
 // Where part 3 is read: the byte at which line n starts, and how many mains and satellites are stored.
 pub struct Here {
@@ -25,15 +30,15 @@ pub struct Here {
 
 // Stores main m: its place, no satellite yet from `first` on, and its numbers.
 fn put_main(
-    cards: &mut [u16; 192],
-    angles: &mut [i8; 448],
+    cards: &mut [u16; MAIN_CARDS],
+    angles: &mut [i8; MAIN_ANGLES],
     m: usize,
     place: u16,
     first: usize,
     doodson: [i8; 6],
     phase: i8,
 )
-    requires { ⌜ (m < 64) × (first ≤ 256) ⌝ }
+    requires { ⌜ (m < mostMains) × (first ≤ mostSatellites) ⌝ }
     ensures { λ _. ⌜ now (cards .exit) ≡ sets (now (cards .entry)) (3 * m) (place ∷ first ∷ 0 ∷ []) ⌝ }
     ensures { λ _. ⌜ now (angles .exit) ≡ set (sets (now (angles .entry)) (7 * m) doodson) (7 * m + 6) phase ⌝ }
 {
@@ -44,8 +49,8 @@ fn put_main(
 }
 
 // Adds satellites to main m.
-fn add_satellites(cards: &mut [u16; 192], m: usize, more: u16)
-    requires { ⌜ (m < 64) × (getD (now cards) (3 * m + 2) 0 + more ≤ 256) ⌝ }
+fn add_satellites(cards: &mut [u16; MAIN_CARDS], m: usize, more: u16)
+    requires { ⌜ (m < mostMains) × (getD (now cards) (3 * m + 2) 0 + more ≤ mostSatellites) ⌝ }
     ensures { λ _. ⌜ now (cards .exit) ≡ set (now (cards .entry)) (3 * m + 2) (getD (now (cards .entry)) (3 * m + 2) 0 + more) ⌝ }
 {
     cards[3 * m + 2] = cards[3 * m + 2] + more;
@@ -57,10 +62,10 @@ pub fn read_main(
     here: Here,
     names: &[u8],
     known: usize,
-    cards: &mut [u16; 192],
-    angles: &mut [i8; 448],
+    cards: &mut [u16; MAIN_CARDS],
+    angles: &mut [i8; MAIN_ANGLES],
 ) -> MainStep
-    requires { ⌜ (known ≤ 160) × (here .mains ≤ 64) × (here .satellites ≤ 256) × Stored (now cards) (here .mains) (here .satellites) × MainRoom (now cards) (now angles) ⌝ }
+    requires { ⌜ (known ≤ mostFrequencies) × (here .mains ≤ mostMains) × (here .satellites ≤ mostSatellites) × Stored (now cards) (here .mains) (here .satellites) × MainRoom (now cards) (now angles) ⌝ }
     ensures { λ r. ⌜ MainStored r (now (cards .exit)) (now (angles .exit)) (here .mains) (nextMain (namesFrom (now (names .entry)) 0 known) (placesIn 3 (now (cards .entry)) (here .mains)) (here .satellites) (now (line .entry))) ⌝ }
     ensures { λ _. ⌜ MainsKept (now (cards .exit)) (now (angles .exit)) (now (cards .entry)) (now (angles .entry)) (here .mains) ⌝ }
     ensures { λ r. ⌜ Begun r (now (cards .exit)) (here .mains) (here .satellites) × MainRoom (now (cards .exit)) (now (angles .exit)) ⌝ }
@@ -85,11 +90,11 @@ pub fn read_satellites(
     line: &[u8],
     here: Here,
     due: usize,
-    cards: &mut [u16; 192],
-    sat: &mut [i8; 1024],
-    ratios: &mut [u32; 512],
+    cards: &mut [u16; MAIN_CARDS],
+    sat: &mut [i8; SATELLITE_ANGLES],
+    ratios: &mut [u32; SATELLITE_RATIOS],
 ) -> Fault
-    requires { ⌜ (here .mains < 64) × (here .satellites + due ≤ 256) × (satellitesEnd (now cards) (here .mains) ≡ here .satellites) × Stored (now cards) (here .mains) (here .satellites) × (length (now cards) ≡ 192) × SatelliteRoom (now sat) (now ratios) ⌝ }
+    requires { ⌜ (here .mains < mostMains) × (here .satellites + due ≤ mostSatellites) × (satellitesEnd (now cards) (here .mains) ≡ here .satellites) × Stored (now cards) (here .mains) (here .satellites) × (length (now cards) ≡ 192) × SatelliteRoom (now sat) (now ratios) ⌝ }
     ensures { λ r. ⌜ SatellitesStored r (mainsOver (now (cards .exit)) (now (sat .exit)) (now (ratios .exit))) (mainsOver (now (cards .entry)) (now (sat .entry)) (now (ratios .entry))) (here .mains) due (now (line .entry)) ⌝ }
     ensures { λ r. ⌜ Grown r (now (cards .exit)) (here .mains) (here .satellites) due × (length (now (cards .exit)) ≡ 192) × SatelliteRoom (now (sat .exit)) (now (ratios .exit)) ⌝ }
 {

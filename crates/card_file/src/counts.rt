@@ -6,6 +6,7 @@ ghost use Rattle.card_file.specs.Cards.{readCards};
 ghost use Rattle.card_file.specs.Satellites.{satellitesIn};
 ghost use Rattle.card_file.specs.Counts.{countsOf};
 use crate::reader;
+use limits::MAINS;
 use refusals::Answer;
 use table::Table;
 
@@ -38,7 +39,7 @@ fn wide(x: u16) -> usize
 pub fn satellites_of(table: Table) -> usize
     ensures { λ r. ⌜ r ≡ satellitesIn (tableOf table .mains) ⌝ }
 {
-    let most = shorter(table.mains, 64);
+    let most = shorter(table.mains, MAINS);
     let mut total: usize = 0;
     let mut k: usize = 0;
     while k < most {

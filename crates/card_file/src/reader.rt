@@ -2,6 +2,7 @@
 ghost use mathlib.Core.Path.{_≡_};
 ghost use Prim.Native.Nat.{_+_, _≤_};
 ghost use lib.ListN.{length, drop};
+ghost use Rattle.limits.specs.Limits.{mostFrequencies, mostMains};
 ghost use Rattle.columns.specs.Lines.{linesOf};
 ghost use Rattle.table.specs.inner.View.{tableOf};
 ghost use Rattle.refusals.specs.Outcome.{numberOf};
@@ -19,6 +20,10 @@ use card_frequencies::frequencies::read_frequencies;
 use card_frequencies::longitudes::read_five;
 use card_shallows::shallows::read_shallows;
 use refusals::Answer;
+use table::MAIN_ANGLES;
+use table::MAIN_CARDS;
+use table::SATELLITE_ANGLES;
+use table::SATELLITE_RATIOS;
 use table::Table;
 
 // What a card file comes to, and its table where it is accepted.
@@ -54,7 +59,7 @@ fn refused(r: Refusal, line: usize) -> Read
 
 // Part 4 and the last check, after a table with no shallow constituents yet.
 fn shallows_and(file: &[u8], at: usize, n: usize, table: Table) -> Read
-    requires { ⌜ (at ≤ length (now file)) × (n ≤ at + 1) × (table .frequencies ≤ 160) × (table .mains ≤ 64) ⌝ }
+    requires { ⌜ (at ≤ length (now file)) × (n ≤ at + 1) × (table .frequencies ≤ mostFrequencies) × (table .mains ≤ mostMains) ⌝ }
     ensures { λ r. ⌜ outcomeOf r ≡ shallowsAnd (tableOf table) (linesOf (drop at (now (file .entry)))) n ⌝ }
 {
     let names = table.names;
@@ -98,14 +103,14 @@ fn shallows_and(file: &[u8], at: usize, n: usize, table: Table) -> Read
 
 // Part 3 and what follows, after a table with no mains yet.
 fn mains_and(file: &[u8], at: usize, n: usize, table: Table) -> Read
-    requires { ⌜ (at ≤ length (now file)) × (n ≤ at + 1) × (table .frequencies ≤ 160) ⌝ }
+    requires { ⌜ (at ≤ length (now file)) × (n ≤ at + 1) × (table .frequencies ≤ mostFrequencies) ⌝ }
     ensures { λ r. ⌜ outcomeOf r ≡ mainsAnd (tableOf table) (linesOf (drop at (now (file .entry)))) n ⌝ }
 {
     let names = table.names;
-    let mut maincards = [0u16; 192];
-    let mut mainangles = [0i8; 448];
-    let mut satelliteangles = [0i8; 1024];
-    let mut satelliteratios = [0u32; 512];
+    let mut maincards = [0u16; MAIN_CARDS];
+    let mut mainangles = [0i8; MAIN_ANGLES];
+    let mut satelliteangles = [0i8; SATELLITE_ANGLES];
+    let mut satelliteratios = [0u32; SATELLITE_RATIOS];
     let here = Here {
         at: at,
         n: n,
@@ -140,7 +145,7 @@ fn mains_and(file: &[u8], at: usize, n: usize, table: Table) -> Read
 
 // The second longitude card and what follows, after a table with the first.
 fn increases_and(file: &[u8], at: usize, n: usize, table: Table) -> Read
-    requires { ⌜ (at ≤ length (now file)) × (n ≤ at + 1) × (table .frequencies ≤ 160) ⌝ }
+    requires { ⌜ (at ≤ length (now file)) × (n ≤ at + 1) × (table .frequencies ≤ mostFrequencies) ⌝ }
     ensures { λ r. ⌜ outcomeOf r ≡ increasesAnd (tableOf table) (linesOf (drop at (now (file .entry)))) n ⌝ }
 {
     let read = read_five(file, at, n, 200_000_000_000);
@@ -158,7 +163,7 @@ fn increases_and(file: &[u8], at: usize, n: usize, table: Table) -> Read
 
 // The first longitude card and what follows, after a table with the frequencies.
 fn longitudes_and(file: &[u8], at: usize, n: usize, table: Table) -> Read
-    requires { ⌜ (at ≤ length (now file)) × (n ≤ at + 1) × (table .frequencies ≤ 160) ⌝ }
+    requires { ⌜ (at ≤ length (now file)) × (n ≤ at + 1) × (table .frequencies ≤ mostFrequencies) ⌝ }
     ensures { λ r. ⌜ outcomeOf r ≡ longitudesAnd (tableOf table) (linesOf (drop at (now (file .entry)))) n ⌝ }
 {
     let read = read_five(file, at, n, 9_999_999_999);

@@ -3,6 +3,7 @@ use Prim.Native.Nat.{ℕ, _+_}
 use mathlib.Core.List.{List, [], _∷_, _++_, map}
 use lib.ListN.{length}
 use lib.IntN.{natAbs}
+use Rattle.limits.specs.Limits.{mostFrequencies}
 use Rattle.columns.specs.Columns.{columns}
 use Rattle.table.specs.Table.{Frequency}
 use Rattle.card.specs.Formats.{frequencyName, frequencyField}
@@ -21,7 +22,7 @@ frequencyCard names line = do
 
 -- "At most 160 frequencies"
 unfoldable pub nextFrequency : List (List ℕ) → List ℕ → Next Frequency
-nextFrequency names line = nextCard 160 (length names) line (frequencyCard names line)
+nextFrequency names line = nextCard mostFrequencies (length names) line (frequencyCard names line)
 
 -- the cards from line n on, after the frequencies of those before it; "7 file ends inside a part; place: the line after the last"
 unfoldable pub frequenciesFrom : List (List ℕ) → ℕ → List Frequency → Reading (List Frequency)

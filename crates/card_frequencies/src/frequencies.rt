@@ -3,6 +3,7 @@ ghost use mathlib.Core.Path.{_≡_};
 ghost use mathlib.Core.List.{[]};
 ghost use Prim.Native.Nat.{_+_, _*_, _≤_, _<_};
 ghost use lib.Seq.{sets};
+ghost use Rattle.limits.specs.Limits.{mostColumns, mostFrequencies};
 ghost use Rattle.columns.specs.Columns.{columns};
 ghost use Rattle.columns.specs.Lines.{linesOf};
 ghost use Rattle.columns.specs.Names.{namesFrom};
@@ -19,6 +20,9 @@ use card::lines::begins;
 use card::lines::line_at;
 use card::natural_field;
 use columns::names;
+use limits::FREQUENCIES;
+use limits::FREQUENCY;
+use table::NAMES;
 
 // What the next card of part 1 comes to: the part's end, a frequency, or a refusal.
 pub enum FrequencyStep {
@@ -43,7 +47,7 @@ fn frequency_fields(line: &[u8], names: &[u8], count: usize) -> Natural
             13,
             fields::Format::Fixed(10),
             0,
-            4999999999,
+            FREQUENCY,
         ),
     }
 }
@@ -52,7 +56,7 @@ fn frequency_fields(line: &[u8], names: &[u8], count: usize) -> Natural
 fn frequency_card(line: &[u8], names: &[u8], count: usize) -> FrequencyStep
     ensures { λ r. ⌜ frequencyGives (now (line .entry)) r ≡ nextFrequency (namesFrom (now (names .entry)) 0 count) (now (line .entry)) ⌝ }
 {
-    match begins(line, count, 160) {
+    match begins(line, count, FREQUENCIES) {
         Opening::Ends => FrequencyStep::Ends,
         Opening::Fields => match frequency_fields(line, names, count) {
             Natural::Value(v) => FrequencyStep::Gives(v),
@@ -63,8 +67,8 @@ fn frequency_card(line: &[u8], names: &[u8], count: usize) -> FrequencyStep
 }
 
 // Stores the name in five columns of the line at a place.
-fn put_name(names: &mut [u8; 800], place: usize, line: &[u8], from: usize)
-    requires { ⌜ (place < 160) × (from ≤ 80) ⌝ }
+fn put_name(names: &mut [u8; NAMES], place: usize, line: &[u8], from: usize)
+    requires { ⌜ (place < mostFrequencies) × (from ≤ mostColumns) ⌝ }
     ensures { λ _. ⌜ now (names .exit) ≡ sets (now (names .entry)) (5 * place) (columns (now (line .entry)) from 5) ⌝ }
 {
     let mut j = 0;
@@ -78,17 +82,17 @@ fn put_name(names: &mut [u8; 800], place: usize, line: &[u8], from: usize)
 pub struct Frequencies {
     pub progress: Progress,
     pub count: usize,
-    pub names: [u8; 800],
-    pub speeds: [u64; 160],
+    pub names: [u8; NAMES],
+    pub speeds: [u64; FREQUENCIES],
 }
 
 // Part 1, from the file's first line on.
 pub fn read_frequencies(file: &[u8]) -> Frequencies
     ensures { λ r. ⌜ readingGives (now (file .entry)) (r .progress) (listed (frequencyOf (r .names) (r .speeds)) 0 (r .count)) ≡ frequenciesFrom (linesOf (now (file .entry))) 1 [] ⌝ }
-    ensures { λ r. ⌜ Within (now (file .entry)) (r .progress) × (r .count ≤ 160) ⌝ }
+    ensures { λ r. ⌜ Within (now (file .entry)) (r .progress) × (r .count ≤ mostFrequencies) ⌝ }
 {
-    let mut names = [0u8; 800];
-    let mut speeds = [0u64; 160];
+    let mut names = [0u8; NAMES];
+    let mut speeds = [0u64; FREQUENCIES];
     let mut count = 0;
     let mut at = 0;
     let mut n = 1;

@@ -5,6 +5,7 @@ use mathlib.Core.Bool.{cond}
 use lib.Dec.{ltb}
 use lib.ListN.{length}
 use lib.IntN.{ℤ, natAbs}
+use Rattle.limits.specs.Limits.{mostMains, mostSatellites}
 use Rattle.columns.specs.Columns.{columns}
 use Rattle.table.specs.Table.{Main}
 use Rattle.card.specs.Formats.{mainName, doodsonField, mainPhaseField, satelliteCountField}
@@ -22,7 +23,7 @@ pub record MainCard : Type 0 where
 -- the main with these numbers, after so many satellites in all: "a satellite count that passes 256 in all is 6 after its own 3"
 unfoldable pub mainMade : ℕ → List ℤ → ℤ → ℤ → ℕ → Card MainCard
 mainMade place doodson phase count satellites =
-    cond (ltb 256 (satellites + natAbs count)) (bad 6)
+    cond (ltb mostSatellites (satellites + natAbs count)) (bad 6)
     (good (record { main = record { place = place; doodson = doodson; phase = phase; satellites = [] }; count = natAbs count }))
 
 -- the numbers of a constituent card: six Doodson numbers; phase; satellite count
@@ -41,4 +42,4 @@ mainCard names places satellites line = do
 
 -- "64 mains"
 unfoldable pub nextMain : List (List ℕ) → List ℕ → ℕ → List ℕ → Next MainCard
-nextMain names places satellites line = nextCard 64 (length places) line (mainCard names places satellites line)
+nextMain names places satellites line = nextCard mostMains (length places) line (mainCard names places satellites line)

@@ -1,6 +1,7 @@
 -- 01, The card file, part 3: a satellite card.
 use Prim.Native.Nat.{ℕ, zero, suc, _+_, min}
 use mathlib.Core.List.{List, [], _∷_, _++_}
+use Rattle.limits.specs.Limits.{satellitesACard}
 use Rattle.table.specs.Table.{Satellite}
 use Rattle.card.specs.Formats.{satelliteColumn}
 use Rattle.card.specs.Card.{Card, good, dueCard, _>>=_}
@@ -15,4 +16,4 @@ satellitesOn line left j (suc n) = do
 
 -- "Satellites stand three a card": the card where so many are still to come
 unfoldable pub satelliteCard : ℕ → List ℕ → Card (List Satellite)
-satelliteCard count line = dueCard line (satellitesOn line [] 0 (min count 3))
+satelliteCard count line = dueCard line (satellitesOn line [] 0 (min count satellitesACard))

@@ -1,6 +1,7 @@
 // Part 3 of the card file: a constituent card and its fields.
 ghost use mathlib.Core.Path.{_≡_};
 ghost use Prim.Native.Nat.{_+_, _≤_, _<_};
+ghost use Rattle.limits.specs.Limits.{mostFrequencies, mostMains, mostSatellites};
 ghost use Rattle.columns.specs.Columns.{columns};
 ghost use Rattle.columns.specs.Names.{namesFrom};
 ghost use Rattle.card.specs.Card.{fails, newPlace, opened, readFields};
@@ -21,6 +22,8 @@ use card::places::is_among;
 use card::places::place_named;
 use card::small_field;
 use card::small_row;
+use limits::MAINS;
+use limits::SATELLITES;
 
 // What the next constituent card comes to: the part's end, a main with so many satellites, or a refusal.
 pub enum MainStep {
@@ -51,10 +54,10 @@ fn failed(r: Refusal) -> MainRead
 
 // A main from its numbers, unless its satellites are too many in all.
 fn main_made(place: u16, doodson: [i8; 6], phase: i8, count: u64, satellites: usize) -> MainRead
-    requires { ⌜ (count ≤ 16) × (satellites ≤ 256) ⌝ }
+    requires { ⌜ (count ≤ 16) × (satellites ≤ mostSatellites) ⌝ }
     ensures { λ r. ⌜ mainGives r ≡ opened readFields (mainMade place doodson phase (pos count) satellites) ⌝ }
 {
-    if 256 < satellites + (count as usize) {
+    if SATELLITES < satellites + (count as usize) {
         return failed(Refusal::Count);
     }
     MainRead {
@@ -67,7 +70,7 @@ fn main_made(place: u16, doodson: [i8; 6], phase: i8, count: u64, satellites: us
 
 // The numbers of a constituent card with a place.
 fn main_numbers(line: &[u8], place: u16, satellites: usize) -> MainRead
-    requires { ⌜ satellites ≤ 256 ⌝ }
+    requires { ⌜ satellites ≤ mostSatellites ⌝ }
     ensures { λ r. ⌜ mainGives r ≡ opened readFields (mainNumbers place satellites (now (line .entry))) ⌝ }
 {
     let row = small_row(line, 12, 6, 12);
@@ -87,7 +90,7 @@ fn main_numbers(line: &[u8], place: u16, satellites: usize) -> MainRead
 
 // The place of a constituent card's own name, if it is new.
 fn main_place(line: &[u8], names: &[u8], frequencies: usize, cards: &[u16], mains: usize) -> Place
-    requires { ⌜ (frequencies ≤ 160) × (mains ≤ 64) ⌝ }
+    requires { ⌜ (frequencies ≤ mostFrequencies) × (mains ≤ mostMains) ⌝ }
     ensures { λ r. ⌜ placeGives r ≡ newPlace (namesFrom (now (names .entry)) 0 frequencies) (placesIn 3 (now (cards .entry)) mains) (columns (now (line .entry)) 6 5) ⌝ }
 {
     match place_named(line, 6, names, frequencies) {
@@ -110,10 +113,10 @@ pub fn next_main(
     mains: usize,
     satellites: usize,
 ) -> MainRead
-    requires { ⌜ (frequencies ≤ 160) × (mains ≤ 64) × (satellites ≤ 256) ⌝ }
+    requires { ⌜ (frequencies ≤ mostFrequencies) × (mains ≤ mostMains) × (satellites ≤ mostSatellites) ⌝ }
     ensures { λ r. ⌜ mainGives r ≡ nextMain (namesFrom (now (names .entry)) 0 frequencies) (placesIn 3 (now (cards .entry)) mains) satellites (now (line .entry)) ⌝ }
 {
-    match begins(line, mains, 64) {
+    match begins(line, mains, MAINS) {
         Opening::Ends => MainRead {
             step: MainStep::Ends,
             place: 0,

@@ -4,6 +4,7 @@ ghost use mathlib.Core.List.{[], _∷_};
 ghost use Prim.Native.Nat.{_+_, _-_, _*_, _≤_, _<_, min};
 ghost use lib.ListN.{length, set, take};
 ghost use lib.Seq.{sets};
+ghost use Rattle.limits.specs.Limits.{mostSatellites, satellitesACard};
 ghost use Rattle.table.specs.inner.View.{listed, satelliteOf};
 ghost use Rattle.card_mains.specs.Satellites.{satellitesOn, satelliteCard};
 ghost use Rattle.card.specs.inner.Answers.{faultGives};
@@ -12,10 +13,18 @@ use crate::satellitefields::SatelliteRead;
 use crate::satellitefields::satellite_fields;
 use card::Fault;
 use card::Refusal;
+use limits::SATELLITES_A_CARD;
+use table::SATELLITE_ANGLES;
+use table::SATELLITE_RATIOS;
 
 // Stores satellite k: its differences and phase, its ratio and mark.
-fn put_satellite(angles: &mut [i8; 1024], ratios: &mut [u32; 512], k: usize, s: SatelliteRead)
-    requires { ⌜ (k < 256) × (length (s .differences) ≡ 6) ⌝ }
+fn put_satellite(
+    angles: &mut [i8; SATELLITE_ANGLES],
+    ratios: &mut [u32; SATELLITE_RATIOS],
+    k: usize,
+    s: SatelliteRead,
+)
+    requires { ⌜ (k < mostSatellites) × (length (s .differences) ≡ 6) ⌝ }
     ensures { λ _. ⌜ now (angles .exit) ≡ set (sets (now (angles .entry)) (4 * k) (take 3 (s .differences))) (4 * k + 3) (s .phase) ⌝ }
     ensures { λ _. ⌜ now (ratios .exit) ≡ sets (now (ratios .entry)) (2 * k) (s .ratio ∷ s .mark ∷ []) ⌝ }
 {
@@ -32,10 +41,10 @@ fn satellites_on(
     line: &[u8],
     first: usize,
     count: usize,
-    angles: &mut [i8; 1024],
-    ratios: &mut [u32; 512],
+    angles: &mut [i8; SATELLITE_ANGLES],
+    ratios: &mut [u32; SATELLITE_RATIOS],
 ) -> Fault
-    requires { ⌜ (first + count ≤ 256) × (count ≤ 3) × SatelliteRoom (now angles) (now ratios) ⌝ }
+    requires { ⌜ (first + count ≤ mostSatellites) × (count ≤ satellitesACard) × SatelliteRoom (now angles) (now ratios) ⌝ }
     ensures { λ r. ⌜ faultGives r (listed (satelliteOf (now (angles .exit)) (now (ratios .exit))) first count) ≡ satellitesOn (now (line .entry)) [] 0 count ⌝ }
     ensures { λ _. ⌜ Kept (satelliteOf (now (angles .exit)) (now (ratios .exit))) (satelliteOf (now (angles .entry)) (now (ratios .entry))) first × SatelliteRoom (now (angles .exit)) (now (ratios .exit)) ⌝ }
 {
@@ -58,9 +67,13 @@ fn satellites_on(
 
 // How many satellites stand on the next card.
 pub fn at_most_three(count: usize) -> usize
-    ensures { λ r. ⌜ r ≡ min count 3 ⌝ }
+    ensures { λ r. ⌜ r ≡ min count satellitesACard ⌝ }
 {
-    if count < 3 { count } else { 3 }
+    if count < SATELLITES_A_CARD {
+        count
+    } else {
+        SATELLITES_A_CARD
+    }
 }
 
 // The satellite card where `count` are still to come, stored from satellite `first` on.
@@ -68,11 +81,11 @@ pub fn satellite_card(
     line: &[u8],
     first: usize,
     count: usize,
-    angles: &mut [i8; 1024],
-    ratios: &mut [u32; 512],
+    angles: &mut [i8; SATELLITE_ANGLES],
+    ratios: &mut [u32; SATELLITE_RATIOS],
 ) -> Fault
-    requires { ⌜ (first + count ≤ 256) × SatelliteRoom (now angles) (now ratios) ⌝ }
-    ensures { λ r. ⌜ faultGives r (listed (satelliteOf (now (angles .exit)) (now (ratios .exit))) first (min count 3)) ≡ satelliteCard count (now (line .entry)) ⌝ }
+    requires { ⌜ (first + count ≤ mostSatellites) × SatelliteRoom (now angles) (now ratios) ⌝ }
+    ensures { λ r. ⌜ faultGives r (listed (satelliteOf (now (angles .exit)) (now (ratios .exit))) first (min count satellitesACard)) ≡ satelliteCard count (now (line .entry)) ⌝ }
     ensures { λ _. ⌜ Kept (satelliteOf (now (angles .exit)) (now (ratios .exit))) (satelliteOf (now (angles .entry)) (now (ratios .entry))) first × SatelliteRoom (now (angles .exit)) (now (ratios .exit)) ⌝ }
 {
     if columns::line_good(line) {

@@ -2,6 +2,7 @@
 ghost use mathlib.Core.Path.{_≡_};
 ghost use Prim.Native.Nat.{_≤_};
 ghost use lib.ListN.{length};
+ghost use Rattle.limits.specs.Limits.{mostColumns};
 ghost use Rattle.card.specs.Card.{bad};
 ghost use Rattle.card.specs.inner.Answers.{numberOf};
 ghost use Rattle.card_mains.specs.Satellite.{satellite};
@@ -38,7 +39,7 @@ fn failed(r: Refusal) -> SatelliteRead
 
 // The satellite from column `at` of the line on.
 pub fn satellite_fields(line: &[u8], at: usize) -> SatelliteRead
-    requires { ⌜ at ≤ 80 ⌝ }
+    requires { ⌜ at ≤ mostColumns ⌝ }
     ensures { λ r. ⌜ (satelliteGives r ≡ satellite (now (line .entry)) at) × (length (r .differences) ≡ 6) ⌝ }
 {
     let row = small_row(line, at, 3, 9);

@@ -5,6 +5,7 @@ use mathlib.Core.Bool.{cond, _||_, not}
 use lib.Dec.{ltb, eqb}
 use lib.IntN.{ℤ, pos, natAbs}
 use lib.Signed.{quotZ, remZ}
+use Rattle.limits.specs.Limits.{mostSizes}
 use Rattle.card.specs.Formats.{coefficientField}
 use Rattle.card.specs.Card.{Card, good, bad, number, _>>=_}
 
@@ -12,7 +13,7 @@ use Rattle.card.specs.Card.{Card, good, bad, number, _>>=_}
 -- "3 number outside its stated range, coefficient not whole, or the one that takes the sizes past 12"; it is not 0
 unfoldable pub coefficient : ℕ → ℤ → Card ℤ
 coefficient sizes hundredths =
-    cond (eqb (natAbs hundredths) 0 || not (eqb (natAbs (remZ hundredths (pos 100))) 0) || ltb 12 (sizes + natAbs (quotZ hundredths (pos 100))))
+    cond (eqb (natAbs hundredths) 0 || not (eqb (natAbs (remZ hundredths (pos 100))) 0) || ltb mostSizes (sizes + natAbs (quotZ hundredths (pos 100))))
     (bad 3)
     (good (quotZ hundredths (pos 100)))
 

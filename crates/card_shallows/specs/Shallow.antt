@@ -3,6 +3,7 @@ use Prim.Native.Nat.{ℕ, _+_}
 use mathlib.Core.List.{List, [], _++_}
 use lib.ListN.{length}
 use lib.IntN.{natAbs}
+use Rattle.limits.specs.Limits.{mostShallows}
 use Rattle.columns.specs.Columns.{columns}
 use Rattle.table.specs.Table.{Shallow}
 use Rattle.card.specs.Formats.{shallowName, partCountField}
@@ -19,4 +20,4 @@ shallowCard names mains shallows line = do
 
 -- "128 shallow"
 unfoldable pub nextShallow : List (List ℕ) → List ℕ → List ℕ → List ℕ → Next Shallow
-nextShallow names mains shallows line = nextCard 128 (length shallows) line (shallowCard names mains shallows line)
+nextShallow names mains shallows line = nextCard mostShallows (length shallows) line (shallowCard names mains shallows line)

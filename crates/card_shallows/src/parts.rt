@@ -2,6 +2,7 @@
 ghost use mathlib.Core.Path.{_≡_};
 ghost use mathlib.Core.List.{[]};
 ghost use Prim.Native.Nat.{_≤_, _<_};
+ghost use Rattle.limits.specs.Limits.{mostFrequencies, mostMains, mostSizes};
 ghost use Rattle.columns.specs.Names.{namesFrom};
 ghost use Rattle.card.specs.Formats.{partColumn};
 ghost use Rattle.card.specs.Card.{opened, readFields};
@@ -32,7 +33,7 @@ fn part(
     maincards: &[u16],
     mains: usize,
 ) -> PartRead
-    requires { ⌜ (j < 4) × (sizes ≤ 12) × (frequencies ≤ 160) × (mains ≤ 64) ⌝ }
+    requires { ⌜ (j < 4) × (sizes ≤ mostSizes) × (frequencies ≤ mostFrequencies) × (mains ≤ mostMains) ⌝ }
     ensures { λ r. ⌜ partGives r ≡ shallows.part (namesFrom (now (names .entry)) 0 frequencies) (placesIn 3 (now (maincards .entry)) mains) sizes (now (line .entry)) (partColumn j) ⌝ }
 {
     let at = 14 + 15 * j;
@@ -69,7 +70,7 @@ pub fn parts_on(
     maincards: &[u16],
     mains: usize,
 ) -> ShallowRead
-    requires { ⌜ (count ≤ 4) × (frequencies ≤ 160) × (mains ≤ 64) ⌝ }
+    requires { ⌜ (count ≤ 4) × (frequencies ≤ mostFrequencies) × (mains ≤ mostMains) ⌝ }
     ensures { λ r. ⌜ shallowGives r ≡ opened readFields (withParts place (partsOn (namesFrom (now (names .entry)) 0 frequencies) (placesIn 3 (now (maincards .entry)) mains) (now (line .entry)) [] 0 0 count)) ⌝ }
 {
     let mut card = [place, count, 0, 0, 0, 0];

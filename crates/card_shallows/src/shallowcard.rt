@@ -2,6 +2,7 @@
 ghost use mathlib.Core.Path.{_≡_};
 ghost use mathlib.Core.List.{_++_};
 ghost use Prim.Native.Nat.{_≤_, _+_};
+ghost use Rattle.limits.specs.Limits.{mostFrequencies, mostMains, mostShallows};
 ghost use Rattle.columns.specs.Columns.{columns};
 ghost use Rattle.columns.specs.Names.{namesFrom};
 ghost use Rattle.card.specs.Card.{newPlace, opened, readFields, fails};
@@ -20,6 +21,7 @@ use card::natural_field;
 use card::places::Place;
 use card::places::is_among;
 use card::places::place_named;
+use limits::SHALLOWS;
 
 // A card that earns a refusal.
 fn failed(r: Refusal) -> ShallowRead
@@ -42,7 +44,7 @@ fn own_place(
     cards: &[u16],
     count: usize,
 ) -> Place
-    requires { ⌜ (frequencies ≤ 160) × (mains ≤ 64) × (count ≤ 128) ⌝ }
+    requires { ⌜ (frequencies ≤ mostFrequencies) × (mains ≤ mostMains) × (count ≤ mostShallows) ⌝ }
     ensures { λ r. ⌜ placeGives r ≡ newPlace (namesFrom (now (names .entry)) 0 frequencies) (placesIn 3 (now (maincards .entry)) mains ++ placesIn 6 (now (cards .entry)) count) (columns (now (line .entry)) 6 5) ⌝ }
 {
     match place_named(line, 6, names, frequencies) {
@@ -69,7 +71,7 @@ fn shallow_card(
     cards: &[u16],
     count: usize,
 ) -> ShallowRead
-    requires { ⌜ (frequencies ≤ 160) × (mains ≤ 64) × (count ≤ 128) ⌝ }
+    requires { ⌜ (frequencies ≤ mostFrequencies) × (mains ≤ mostMains) × (count ≤ mostShallows) ⌝ }
     ensures { λ r. ⌜ shallowGives r ≡ opened readFields (shallowCard (namesFrom (now (names .entry)) 0 frequencies) (placesIn 3 (now (maincards .entry)) mains) (placesIn 6 (now (cards .entry)) count) (now (line .entry))) ⌝ }
 {
     match own_place(line, names, frequencies, maincards, mains, cards, count) {
@@ -99,10 +101,10 @@ pub fn next_shallow(
     cards: &[u16],
     count: usize,
 ) -> ShallowRead
-    requires { ⌜ (frequencies ≤ 160) × (mains ≤ 64) × (count ≤ 128) ⌝ }
+    requires { ⌜ (frequencies ≤ mostFrequencies) × (mains ≤ mostMains) × (count ≤ mostShallows) ⌝ }
     ensures { λ r. ⌜ shallowGives r ≡ nextShallow (namesFrom (now (names .entry)) 0 frequencies) (placesIn 3 (now (maincards .entry)) mains) (placesIn 6 (now (cards .entry)) count) (now (line .entry)) ⌝ }
 {
-    match begins(line, count, 128) {
+    match begins(line, count, SHALLOWS) {
         Opening::Ends => ShallowRead {
             step: ShallowStep::Ends,
             card: [0u16; 6],

@@ -2,6 +2,7 @@
 ghost use mathlib.Core.Path.{_≡_};
 ghost use mathlib.Core.List.{[]};
 ghost use Prim.Native.Nat.{_≤_, _+_, _*_, _<_};
+ghost use Rattle.limits.specs.Limits.{mostFrequencies, mostMains, mostShallows};
 ghost use Rattle.columns.specs.Names.{namesFrom};
 ghost use Rattle.card_shallows.specs.Shallows.{shallowsFrom};
 ghost use Rattle.card.specs.inner.Places.{placesIn};
@@ -16,16 +17,20 @@ use card::Refusal;
 use card::lines::Progress;
 use card::lines::after_line;
 use card::lines::line_at;
+use table::COEFFICIENTS;
+use table::MAIN_CARDS;
+use table::NAMES;
+use table::SHALLOW_CARDS;
 
 // Stores the rows of shallow constituent k.
 fn put_shallow(
-    cards: &mut [u16; 768],
-    coefficients: &mut [i8; 512],
+    cards: &mut [u16; SHALLOW_CARDS],
+    coefficients: &mut [i8; COEFFICIENTS],
     k: usize,
     card: [u16; 6],
     row: [i8; 4],
 )
-    requires { ⌜ k < 128 ⌝ }
+    requires { ⌜ k < mostShallows ⌝ }
     ensures { λ _. ⌜ now (cards .exit) ≡ sets (now (cards .entry)) (6 * k) card ⌝ }
     ensures { λ _. ⌜ now (coefficients .exit) ≡ sets (now (coefficients .entry)) (4 * k) row ⌝ }
 {
@@ -37,8 +42,8 @@ fn put_shallow(
 pub struct Shallows {
     pub progress: Progress,
     pub count: usize,
-    pub cards: [u16; 768],
-    pub coefficients: [i8; 512],
+    pub cards: [u16; SHALLOW_CARDS],
+    pub coefficients: [i8; COEFFICIENTS],
 }
 
 // Part 4, from a byte of the file on, which begins line n.
@@ -46,17 +51,17 @@ pub fn read_shallows(
     file: &[u8],
     at: usize,
     n: usize,
-    names: &[u8; 800],
+    names: &[u8; NAMES],
     frequencies: usize,
-    maincards: &[u16; 192],
+    maincards: &[u16; MAIN_CARDS],
     mains: usize,
 ) -> Shallows
-    requires { ⌜ (at ≤ length (now file)) × (n ≤ at + 1) × (frequencies ≤ 160) × (mains ≤ 64) ⌝ }
+    requires { ⌜ (at ≤ length (now file)) × (n ≤ at + 1) × (frequencies ≤ mostFrequencies) × (mains ≤ mostMains) ⌝ }
     ensures { λ r. ⌜ readingGives (now (file .entry)) (r .progress) (listed (shallowOf (r .cards) (r .coefficients)) 0 (r .count)) ≡ shallowsFrom (namesFrom (now (names .entry)) 0 frequencies) (placesIn 3 (now (maincards .entry)) mains) (linesOf (drop at (now (file .entry)))) n [] ⌝ }
-    ensures { λ r. ⌜ r .count ≤ 128 ⌝ }
+    ensures { λ r. ⌜ r .count ≤ mostShallows ⌝ }
 {
-    let mut cards = [0u16; 768];
-    let mut coefficients = [0i8; 512];
+    let mut cards = [0u16; SHALLOW_CARDS];
+    let mut coefficients = [0i8; COEFFICIENTS];
     let mut count = 0;
     let mut here = at;
     let mut line_number = n;

@@ -2,6 +2,7 @@
 -- Assumes nothing.
 use Prim.Native.Nat.{_≤_}
 use mathlib.Core.List.{List}
+use Rattle.limits.specs.Limits.{mostMinutes, mostRecords}
 use Rattle.cosine.specs.Fixed.{IsTable}
 use Rattle.table.specs.inner.View.{tableOf}
 use Rattle.station.specs.inner.Station.{stationOf}
@@ -27,6 +28,6 @@ view c = stateOf (c .tabled) (tableOf (c .table)) (c .stationed) (stationOf (c .
 pub record Made (c : Clock) : Type 0 where
   pub cosines : IsTable (c .cosines)
   pub table : InRange (c .table .frequencies) (c .table .speeds)
-  pub count : c .count ≤ 146
-  pub last : c .last ≤ 44_640
+  pub count : c .count ≤ mostRecords
+  pub last : c .last ≤ mostMinutes
   pub month : InRange (c .count) (c .frequencies)

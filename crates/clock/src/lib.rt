@@ -20,6 +20,8 @@ ghost use Rattle.clock.specs.inner.Parts.{accepts, withTable, withStatio
 use calls::asked;
 use calls::settings;
 use card_file::reader;
+use cosine::ENTRIES;
+use limits::RECORDS;
 use month_prepared::Month;
 use refusals::Answer;
 use refusals::Refusal;
@@ -33,7 +35,7 @@ use turns::strides;
 
 // What the clock keeps. Only the calls below make or change one.
 pub struct Clock {
-    cosines: [u32; 1025],
+    cosines: [u32; ENTRIES],
     tabled: bool,
     table: Table,
     stationed: bool,
@@ -41,11 +43,11 @@ pub struct Clock {
     dated: bool,
     last: u64,
     count: usize,
-    arguments: [u64; 146],
-    lags: [u16; 146],
-    frequencies: [u64; 146],
-    ps: [i32; 146],
-    qs: [i32; 146],
+    arguments: [u64; RECORDS],
+    lags: [u16; RECORDS],
+    frequencies: [u64; RECORDS],
+    ps: [i32; RECORDS],
+    qs: [i32; RECORDS],
 }
 
 // The names of a table's frequencies, five bytes each by place, and how many there are.
@@ -85,11 +87,11 @@ pub fn new() -> Clock
         dated: false,
         last: 0,
         count: 0,
-        arguments: [0u64; 146],
-        lags: [0u16; 146],
-        frequencies: [0u64; 146],
-        ps: [0i32; 146],
-        qs: [0i32; 146],
+        arguments: [0u64; RECORDS],
+        lags: [0u16; RECORDS],
+        frequencies: [0u64; RECORDS],
+        ps: [0i32; RECORDS],
+        qs: [0i32; RECORDS],
     }
 }
 

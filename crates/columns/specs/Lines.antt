@@ -4,6 +4,7 @@ use mathlib.Core.List.{List, [], _∷_}
 use mathlib.Core.Bool.{Bool, cond, not, _&&_}
 use lib.Dec.{leb, eqb}
 use lib.ListN.{length, drop}
+use Rattle.limits.specs.Limits.{mostColumns}
 use Rattle.columns.specs.Bytes.{among, blank, every, leading}
 
 -- a byte in front of the first line
@@ -30,7 +31,7 @@ restLines file = drop (length (firstLine file) + 1) file
 
 -- "at most 80 columns, bytes 32 to 126"; a line that is not so is refused by 1
 abbrev pub lineGood : List ℕ → Bool
-lineGood line = leb (length line) 80 && every (among 32 126) line
+lineGood line = leb (length line) mostColumns && every (among 32 126) line
 
 -- "A blank card is blanks throughout."
 abbrev pub blankCard : List ℕ → Bool

@@ -6,6 +6,7 @@ ghost use Rattle.columns.specs.Bytes.{among, every, leading};
 ghost use Rattle.columns.specs.Lines.{firstLine, restLines, lineGood, blankCard};
 ghost use Rattle.columns.specs.Columns as columns;
 ghost use Rattle.columns.specs.Columns.{columns};
+use limits::COLUMNS;
 
 pub mod names; // names of five columns
 
@@ -90,7 +91,7 @@ pub fn all_among(line: &[u8], k: usize, end: usize, low: u8, high: u8) -> bool
 pub fn line_good(line: &[u8]) -> bool
     ensures { λ r. ⌜ r ≡ lineGood (now (line .entry)) ⌝ }
 {
-    if 80 < line.len() {
+    if COLUMNS < line.len() {
         return false;
     }
     all_among(line, 0, line.len(), 32, 126)

@@ -3,6 +3,7 @@
 // Ten units of a drawing make a pixel.
 ghost use mathlib.Core.Path.{_≡_};
 ghost use Prim.Native.Nat.{_-_, _<_, _≤_, min};
+ghost use Rattle.limits.specs.Limits.{mostMinutes};
 ghost use Rattle.drawing_plots.specs.Plots.{afterDays, dayFirst, dayLast, monthCount, dayPlot, weekDays, weekLast, weekPlot, monthFoot};
 use crate::scale;
 use crate::scale::Plot;
@@ -22,7 +23,7 @@ pub fn few(days: u32) -> u16
 // The minute of the month after so many days, of 31 at most.
 fn after_days(days: u32) -> u32
     ensures is { λ r. ⌜ r ≡ afterDays days ⌝ }
-    ensures small { λ r. ⌜ r ≤ 44_640 ⌝ }
+    ensures small { λ r. ⌜ r ≤ mostMinutes ⌝ }
 {
     few(days) as u32 * 1_440
 }

@@ -4,6 +4,7 @@ use mathlib.Core.List.{List}
 use mathlib.Core.Bool.{true, false, cond}
 use lib.Dec.{ltb, eqb}
 use lib.IntN.{natAbs}
+use Rattle.limits.specs.Limits.{mostMains, mostSizes}
 use Rattle.columns.specs.Columns.{columns}
 use Rattle.columns.specs.Lines.{linesOf}
 use Rattle.fields.specs.declared.Field.{Field}
@@ -39,7 +40,7 @@ sizeIn field.OutOfRange = 0
 unfoldable pub sizeFault : ℕ → ℕ → ℕ → Fault
 sizeFault j before size =
     cond (eqb (size % 100) 0)
-    (cond (eqb size 0) (Of Coefficient (j + 1) trouble.OutOfRange) (cond (ltb 1200 (before + size)) (Of Coefficient (j + 1) trouble.PastTwelve) Unsaid))
+    (cond (eqb size 0) (Of Coefficient (j + 1) trouble.OutOfRange) (cond (ltb (100 * mostSizes) (before + size)) (Of Coefficient (j + 1) trouble.PastTwelve) Unsaid))
     (Of Coefficient 0 trouble.NotWhole)
 
 -- the size of part j's coefficient on a line
@@ -105,7 +106,7 @@ abbrev pub countFault : Kind → ℕ → Fault
 countFault kind.Frequency mains = only Card trouble.TooManyFrequencies
 countFault kind.Longitudes mains = Unsaid
 countFault kind.Increases mains = Unsaid
-countFault kind.Main mains = only Card (cond (ltb mains 64) trouble.TooManySatellites trouble.TooManyMains)
+countFault kind.Main mains = only Card (cond (ltb mains mostMains) trouble.TooManySatellites trouble.TooManyMains)
 countFault kind.Satellites mains = Unsaid
 countFault kind.Shallow mains = only Card trouble.TooManyShallows
 countFault kind.Behind mains = Unsaid

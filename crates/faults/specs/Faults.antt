@@ -4,6 +4,7 @@ use mathlib.Core.List.{List, [], _∷_}
 use mathlib.Core.Bool.{cond}
 use lib.Dec.{ltb}
 use lib.ListN.{length}
+use Rattle.limits.specs.Limits.{mostColumns}
 use Rattle.columns.specs.Bytes.{blank, every}
 use Rattle.columns.specs.Columns.{columns}
 use Rattle.fields.specs.declared.Field.{Field}
@@ -30,7 +31,7 @@ only what trouble = Of what 0 trouble
 
 -- "1 line over 80 columns or a byte outside 32 to 126": which of the two a bad line is
 unfoldable pub badLine : List ℕ → Fault
-badLine line = only Card (cond (ltb 80 (length line)) TooLong BadByte)
+badLine line = only Card (cond (ltb mostColumns (length line)) TooLong BadByte)
 
 -- "4 a constituent's own name blank, or twice": which of the two the name in five columns is
 unfoldable pub badName : List ℕ → ℕ → Fault

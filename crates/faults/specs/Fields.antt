@@ -2,6 +2,7 @@
 use Prim.Native.Nat.{ℕ, _+_, _*_, _/_, _%_, min}
 use mathlib.Core.Bool.{cond}
 use lib.Dec.{ltb, eqb}
+use Rattle.limits.specs.Limits.{satellitesACard}
 use Rattle.card.specs.Formats as format
 use Rattle.faults.specs.declared.Place.{Place}
 use Rattle.faults.specs.declared.What.the-variants.{Frequency, Longitude, Increase, Doodson, Phase, SatelliteCount, Difference, SatellitePhase, Ratio, PartCount, Coefficient}
@@ -49,6 +50,6 @@ fieldCount kind.Frequency due = 1
 fieldCount kind.Longitudes due = 5
 fieldCount kind.Increases due = 5
 fieldCount kind.Main due = 8
-fieldCount kind.Satellites due = 5 * min due 3
+fieldCount kind.Satellites due = 5 * min due satellitesACard
 fieldCount kind.Shallow due = 1
 fieldCount kind.Behind due = 0

@@ -3,6 +3,7 @@ use Prim.Native.Nat.{ℕ, zero, suc, _+_, _-_, min}
 use mathlib.Core.List.{List, [], _∷_}
 use mathlib.Core.Bool.{Bool, true, false, cond, not}
 use lib.IntN.{ℤ, natAbs}
+use Rattle.limits.specs.Limits.{mostMains, satellitesACard}
 use Rattle.columns.specs.Columns.{columns}
 use Rattle.columns.specs.Lines.{blankCard}
 use Rattle.columns.specs.Names.{same}
@@ -27,7 +28,7 @@ dueBehind line Frequency due = 0
 dueBehind line Longitudes due = 0
 dueBehind line Increases due = 0
 dueBehind line Main due = satellitesOn line
-dueBehind line Satellites due = due - 3
+dueBehind line Satellites due = due - satellitesACard
 dueBehind line Shallow due = 0
 dueBehind line Behind due = 0
 
@@ -51,7 +52,7 @@ abbrev pub mainsBehind : Kind → ℕ → ℕ
 mainsBehind Frequency mains = mains
 mainsBehind Longitudes mains = mains
 mainsBehind Increases mains = mains
-mainsBehind Main mains = min 64 (mains + 1)
+mainsBehind Main mains = min mostMains (mains + 1)
 mainsBehind Satellites mains = mains
 mainsBehind Shallow mains = mains
 mainsBehind Behind mains = mains

@@ -3,6 +3,7 @@ use Prim.Native.Nat.{ℕ, _-_}
 use mathlib.Core.List.{List}
 use mathlib.Core.Bool.{cond}
 use lib.Dec.{leb}
+use Rattle.limits.specs.Limits.{mostAmplitude, mostPhase}
 use Rattle.fields.specs.declared.Format.the-variants.{Fixed}
 use Rattle.columns.specs.Lines.{linesOf}
 use Rattle.card.specs.Formats.{upTo}
@@ -25,10 +26,10 @@ abbrev pub minutes : Place
 minutes = placed Minutes 0 minutesField
 
 abbrev pub amplitude : Place
-amplitude = placed Amplitude 0 (upTo 65_535 38 8 (Fixed 4))
+amplitude = placed Amplitude 0 (upTo mostAmplitude 38 8 (Fixed 4))
 
 abbrev pub phaseLag : Place
-phaseLag = placed PhaseLag 0 (upTo 35_999 46 7 (Fixed 2))
+phaseLag = placed PhaseLag 0 (upTo mostPhase 46 7 (Fixed 2))
 
 -- the first of two fields of a line that has a fault, or else another fault
 unfoldable pub firstOf : List ℕ → Place → Place → Fault → Fault

@@ -25,6 +25,7 @@ use card::Natural;
 use columns::names;
 use fields::Field;
 use fields::Format;
+use limits::MAINS;
 use refusals::Refusal;
 
 // The first field of a card that has a fault.
@@ -201,7 +202,7 @@ fn name_column(kind: Kind) -> usize
 fn main_count(mains: usize) -> Fault
     ensures { λ r. ⌜ r ≡ countFault kind.Main mains ⌝ }
 {
-    if mains < 64 {
+    if mains < MAINS {
         return of_card(Trouble::TooManySatellites);
     }
     of_card(Trouble::TooManyMains)

@@ -1,6 +1,7 @@
 // The number fields of each card of the card file, as 01's formats have them.
 ghost use mathlib.Core.Path.{_≡_};
 ghost use Prim.Native.Nat.{_+_, _≤_, _<_};
+ghost use Rattle.limits.specs.Limits.{mostColumns};
 ghost use Rattle.card.specs.Formats as format;
 ghost use Rattle.faults.specs.Faults.{placed};
 ghost use Rattle.faults.specs.declared.What.the-variants as what;
@@ -9,6 +10,7 @@ use crate::Place;
 use crate::What;
 use crate::cardlines::Kind;
 use fields::Format;
+use limits::FREQUENCY;
 
 // The frequency of part 1.
 fn frequency() -> Place
@@ -21,7 +23,7 @@ fn frequency() -> Place
         width: 13,
         format: Format::Fixed(10),
         low: 0,
-        high: 4_999_999_999,
+        high: FREQUENCY as i64,
     }
 }
 
@@ -96,7 +98,7 @@ fn main_field(k: usize) -> Place
 
 // A field of the satellite that begins at a column, the card's number `which`: three differences, phase, ratio.
 fn satellite_field(at: usize, which: usize, k: usize) -> Place
-    requires { ⌜ at ≤ 80 ⌝ }
+    requires { ⌜ at ≤ mostColumns ⌝ }
     ensures { λ r. ⌜ r ≡ satelliteField at which k ⌝ }
 {
     if k < 3 {

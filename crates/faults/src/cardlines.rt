@@ -10,6 +10,7 @@ use card::lines;
 use card::natural_field;
 use columns::names;
 use fields::Format;
+use limits::MAINS;
 
 // The kinds of a card, by the part in which it stands.
 pub enum Kind {
@@ -98,7 +99,7 @@ fn mains_behind(kind: Kind, mains: usize) -> usize
         Kind::Frequency => mains,
         Kind::Longitudes => mains,
         Kind::Increases => mains,
-        Kind::Main => if mains < 64 { mains + 1 } else { 64 },
+        Kind::Main => if mains < MAINS { mains + 1 } else { MAINS },
         Kind::Satellites => mains,
         Kind::Shallow => mains,
         Kind::Behind => mains,

@@ -17,6 +17,7 @@ use card::lines;
 use columns::names;
 use fields::Field;
 use fields::Format;
+use limits::COLUMNS;
 
 // What is at fault: a field of a card, its name, or the card itself.
 pub enum What {
@@ -116,7 +117,7 @@ pub fn of_name(trouble: Trouble) -> Fault
 pub fn bad_line(line: &[u8]) -> Fault
     ensures { λ r. ⌜ r ≡ badLine (now (line .entry)) ⌝ }
 {
-    if 80 < line.len() {
+    if COLUMNS < line.len() {
         return of_card(Trouble::TooLong);
     }
     of_card(Trouble::BadByte)

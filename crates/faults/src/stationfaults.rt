@@ -10,6 +10,8 @@ use crate::What;
 use crate::field_fault;
 use crate::is_found;
 use fields::Format;
+use limits::AMPLITUDE;
+use limits::PHASE;
 use refusals::Refusal;
 
 // The latitude's degrees.
@@ -53,7 +55,7 @@ fn amplitude() -> Place
         width: 8,
         format: Format::Fixed(4),
         low: 0,
-        high: 65_535,
+        high: AMPLITUDE as i64,
     }
 }
 
@@ -68,7 +70,7 @@ fn phase_lag() -> Place
         width: 7,
         format: Format::Fixed(2),
         low: 0,
-        high: 35_999,
+        high: PHASE as i64,
     }
 }
 

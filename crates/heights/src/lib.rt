@@ -3,6 +3,7 @@
 ghost use mathlib.Core.Path.{_≡_};
 ghost use Prim.Native.Nat.{_≤_, _^_};
 ghost use lib.IntN.{natAbs};
+ghost use Rattle.limits.specs.Limits.{mostMinutes, mostRecords};
 ghost use Rattle.cosine.specs.Fixed.{IsTable};
 ghost use Rattle.month_prepared.specs.inner.View.{constituentsFrom};
 ghost use Rattle.heights.specs.Height.{heightAt};
@@ -15,19 +16,20 @@ pub mod distance; // nearness
 use crate::minuteangle::angle_at;
 use crate::shares::share_at;
 use cosine::ENTRIES;
+use limits::RECORDS;
 
 // The height at a minute.
 pub fn height<'a>(
     table: &'a [u32; ENTRIES],
-    arguments: &'a [u64; 146],
-    lags: &'a [u16; 146],
-    frequencies: &'a [u64; 146],
-    ps: &'a [i32; 146],
-    qs: &'a [i32; 146],
+    arguments: &'a [u64; RECORDS],
+    lags: &'a [u16; RECORDS],
+    frequencies: &'a [u64; RECORDS],
+    ps: &'a [i32; RECORDS],
+    qs: &'a [i32; RECORDS],
     count: usize,
     minute: u64,
 ) -> i64
-    requires { ⌜ IsTable (now table) × ((count ≤ 146) × (minute ≤ 44_640)) ⌝ }
+    requires { ⌜ IsTable (now table) × ((count ≤ mostRecords) × (minute ≤ mostMinutes)) ⌝ }
     ensures { λ r. ⌜ r ≡ heightAt (constituentsFrom (now (arguments .entry)) (now (lags .entry)) (now (frequencies .entry)) (now (ps .entry)) (now (qs .entry)) count) minute ⌝ }
     ensures { λ r. ⌜ natAbs r ≤ 2 ^ 28 ⌝ }
 {

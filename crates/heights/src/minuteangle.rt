@@ -1,19 +1,18 @@
 // A constituent's angle at a minute.
 ghost use mathlib.Core.Path.{_≡_};
 ghost use Prim.Native.Nat.{_≤_, _<_};
+ghost use Rattle.limits.specs.Limits.{mostFrequency, mostMinutes};
 ghost use Rattle.angles.specs.Ticks.{turn};
 ghost use Rattle.heights.specs.Angle.{angle};
 use angles::CENTIDEGREE;
 use angles::TURN;
+use limits::FREQUENCY;
 
 // A frequency of 10^-10 cycle an hour moves an angle by this many ticks a minute,
 pub const ADVANCE: u64 = 1_314;
 
 // so a frequency of this many moves it by a whole turn.
 pub const LAP: u64 = TURN / ADVANCE;
-
-// The most that a card gives.
-const MOST: u64 = 4_999_999_999;
 
 // Minutes from the month's start to its instant.
 const INSTANT: u64 = 21_600;
@@ -28,7 +27,7 @@ fn wide(x: u16) -> u64
 
 // A constituent's angle at a minute, of a V below a turn and a frequency that a card can have: one division.
 fn angle_of_card(argument: u64, lag: u16, frequency: u64, minute: u64) -> u64
-    requires { ⌜ (argument < turn) × ((frequency ≤ 4_999_999_999) × (minute ≤ 44_640)) ⌝ }
+    requires { ⌜ (argument < turn) × ((frequency ≤ mostFrequency) × (minute ≤ mostMinutes)) ⌝ }
     ensures { λ r. ⌜ r ≡ angle argument lag frequency minute ⌝ }
 {
     let start = argument + (200 * TURN - wide(lag) * CENTIDEGREE);
@@ -38,10 +37,10 @@ fn angle_of_card(argument: u64, lag: u16, frequency: u64, minute: u64) -> u64
 
 // A constituent's angle at a minute.
 pub fn angle_at(argument: u64, lag: u16, frequency: u64, minute: u64) -> u64
-    requires { ⌜ minute ≤ 44_640 ⌝ }
+    requires { ⌜ minute ≤ mostMinutes ⌝ }
     ensures { λ r. ⌜ r ≡ angle argument lag frequency minute ⌝ }
 {
-    if argument < TURN && frequency <= MOST {
+    if argument < TURN && frequency <= FREQUENCY {
         return angle_of_card(argument, lag, frequency, minute);
     }
     let f = frequency % LAP;

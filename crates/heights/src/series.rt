@@ -4,6 +4,7 @@ ghost use mathlib.Core.Path.{_≡_};
 ghost use Prim.Native.Nat.{_+_, _*_, _%_, _≤_, _<_, _^_};
 ghost use lib.IntN.{natAbs};
 ghost use lib.ListN.{length};
+ghost use Rattle.limits.specs.Limits.{mostMinutes, mostRecords, mostStep};
 ghost use Rattle.angles.specs.Ticks.{turn};
 ghost use Rattle.cosine.specs.Fixed.{IsTable};
 ghost use Rattle.month_prepared.specs.inner.View.{constituentsFrom};
@@ -15,19 +16,20 @@ use crate::minuteangle::angle_at;
 use crate::shares::share_at;
 use angles::TURN;
 use cosine::ENTRIES;
+use limits::RECORDS;
 
 // The angles of the first `count` constituents at a minute.
 fn angles_at<'a>(
-    arguments: &'a [u64; 146],
-    lags: &'a [u16; 146],
-    frequencies: &'a [u64; 146],
+    arguments: &'a [u64; RECORDS],
+    lags: &'a [u16; RECORDS],
+    frequencies: &'a [u64; RECORDS],
     count: usize,
     minute: u64,
-) -> [u64; 146]
-    requires { ⌜ (count ≤ 146) × (minute ≤ 44_640) ⌝ }
+) -> [u64; RECORDS]
+    requires { ⌜ (count ≤ mostRecords) × (minute ≤ mostMinutes) ⌝ }
     ensures { λ r. ⌜ Angles (now (arguments .entry)) (now (lags .entry)) (now (frequencies .entry)) count minute r ⌝ }
 {
-    let mut angles = [0u64; 146];
+    let mut angles = [0u64; RECORDS];
     let mut k: usize = 0;
     while k < count {
         angles[k] = angle_at(arguments[k], lags[k], frequencies[k], minute);
@@ -38,18 +40,18 @@ fn angles_at<'a>(
 
 // What a constituent advances in `step` minutes.
 fn advance(frequency: u64, step: u64) -> u64
-    requires { ⌜ step ≤ 1_440 ⌝ }
+    requires { ⌜ step ≤ mostStep ⌝ }
     ensures { λ r. ⌜ r ≡ 1_314 * frequency * step % turn ⌝ }
 {
     frequency % LAP * step % LAP * ADVANCE
 }
 
 // What the first `count` constituents advance in `step` minutes.
-fn advances(frequencies: &[u64; 146], count: usize, step: u64) -> [u64; 146]
-    requires { ⌜ (count ≤ 146) × (step ≤ 1_440) ⌝ }
+fn advances(frequencies: &[u64; RECORDS], count: usize, step: u64) -> [u64; RECORDS]
+    requires { ⌜ (count ≤ mostRecords) × (step ≤ mostStep) ⌝ }
     ensures { λ r. ⌜ Advances (now (frequencies .entry)) count step r ⌝ }
 {
-    let mut ticks = [0u64; 146];
+    let mut ticks = [0u64; RECORDS];
     let mut k: usize = 0;
     while k < count {
         ticks[k] = advance(frequencies[k], step);
@@ -68,9 +70,9 @@ fn sum_of(angle: u64, ticks: u64) -> u64
 }
 
 // Moves the first `count` angles on, each by its own advance.
-fn move_on(angles: &mut [u64; 146], ticks: &[u64; 146], count: usize)
-    requires { ⌜ (length (now angles) ≡ 146) × ((count ≤ 146) × (Below count (now angles) × Below count (now ticks))) ⌝ }
-    ensures { λ r. ⌜ length (now (angles .exit)) ≡ 146 ⌝ }
+fn move_on(angles: &mut [u64; RECORDS], ticks: &[u64; RECORDS], count: usize)
+    requires { ⌜ (length (now angles) ≡ mostRecords) × ((count ≤ mostRecords) × (Below count (now angles) × Below count (now ticks))) ⌝ }
+    ensures { λ r. ⌜ length (now (angles .exit)) ≡ mostRecords ⌝ }
     ensures { λ r. ⌜ MovedOn count (now (ticks .entry)) (now (angles .entry)) (now (angles .exit)) ⌝ }
 {
     let mut k: usize = 0;
@@ -83,12 +85,12 @@ fn move_on(angles: &mut [u64; 146], ticks: &[u64; 146], count: usize)
 // The height of the first `count` constituents at the minute that the angles are for.
 fn height_of<'a>(
     table: &'a [u32; ENTRIES],
-    angles: &'a [u64; 146],
-    ps: &'a [i32; 146],
-    qs: &'a [i32; 146],
+    angles: &'a [u64; RECORDS],
+    ps: &'a [i32; RECORDS],
+    qs: &'a [i32; RECORDS],
     count: usize,
 ) -> i64
-    requires { ⌜ IsTable (now table) × (count ≤ 146) ⌝ }
+    requires { ⌜ IsTable (now table) × (count ≤ mostRecords) ⌝ }
     ensures { λ r. ⌜ HeightOf (now (angles .entry)) (now (ps .entry)) (now (qs .entry)) count r ⌝ }
     ensures { λ r. ⌜ natAbs r ≤ 2 ^ 28 ⌝ }
 {
@@ -104,17 +106,17 @@ fn height_of<'a>(
 // The heights at start, start + step, start + 2 × step and so on, one for each lent place.
 pub fn series<'a>(
     table: &'a [u32; ENTRIES],
-    arguments: &'a [u64; 146],
-    lags: &'a [u16; 146],
-    frequencies: &'a [u64; 146],
-    ps: &'a [i32; 146],
-    qs: &'a [i32; 146],
+    arguments: &'a [u64; RECORDS],
+    lags: &'a [u16; RECORDS],
+    frequencies: &'a [u64; RECORDS],
+    ps: &'a [i32; RECORDS],
+    qs: &'a [i32; RECORDS],
     count: usize,
     start: u64,
     step: u64,
     out: &mut [i64],
 )
-    requires { ⌜ IsTable (now table) × ((count ≤ 146) × ((start ≤ 44_640) × (step ≤ 1_440))) ⌝ }
+    requires { ⌜ IsTable (now table) × ((count ≤ mostRecords) × ((start ≤ mostMinutes) × (step ≤ mostStep))) ⌝ }
     ensures { λ r. ⌜ now (out .exit) ≡ seriesOf (constituentsFrom (now (arguments .entry)) (now (lags .entry)) (now (frequencies .entry)) (now (ps .entry)) (now (qs .entry)) count) start step (length (now (out .entry))) ⌝ }
 {
     let mut angles = angles_at(arguments, lags, frequencies, count, start);

@@ -1,6 +1,8 @@
 // A station's constituents in a month: V, frequency and the weights P and Q of each record, or refusal 11.
 use angles::floor_div;
 use calendar::day_count;
+use cosine::ENTRIES;
+use limits::FREQUENCIES;
 use month_arguments::astronomy::longitudes_on;
 use month_pairs::pairs::Corrected;
 use month_prepared::Month;
@@ -52,7 +54,7 @@ fn weight_of(amplitude: u16, x: i64) -> i32
 }
 
 // The frequency of a place, or 0 past the last.
-fn frequency_at(speeds: &[u64; 160], frequencies: usize, place: u8) -> u64
+fn frequency_at(speeds: &[u64; FREQUENCIES], frequencies: usize, place: u8) -> u64
     ensures { λ r. ⌜ r ≡ getD (frequenciesOf (now (speeds .entry)) frequencies) place 0 ⌝ }
 {
     if (place as usize) < frequencies {
@@ -63,7 +65,12 @@ fn frequency_at(speeds: &[u64; 160], frequencies: usize, place: u8) -> u64
 }
 
 // The month of a station's records: each in its turn, until one is refused by 11.
-fn prepare_records(cosines: &[u32; 1025], table: Table, station: Station, given: Given) -> Prepared
+fn prepare_records(
+    cosines: &[u32; ENTRIES],
+    table: Table,
+    station: Station,
+    given: Given,
+) -> Prepared
     requires { ⌜ IsTable (now cosines) ⌝ }
     requires { ⌜ IsGiven given ⌝ }
     requires { ⌜ given .mains ≡ table .mains ⌝ }
@@ -119,7 +126,7 @@ fn prepare_records(cosines: &[u32; 1025], table: Table, station: Station, given:
 
 // A station's month: every record's constituent, or the first record, from 1, that is refused by 11.
 pub fn prepare(
-    cosines: &[u32; 1025],
+    cosines: &[u32; ENTRIES],
     table: Table,
     station: Station,
     year: u32,

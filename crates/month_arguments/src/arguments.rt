@@ -1,9 +1,14 @@
 // The argument V of a main and of a shallow-water constituent, in ticks.
+use crate::KEPT;
 use crate::astronomy::Longitudes;
 use angles::CENTICYCLE;
 use angles::TURN;
 use angles::mod_turn;
 use angles::size;
+use limits::MAINS;
+use table::COEFFICIENTS;
+use table::MAIN_ANGLES;
+use table::SHALLOW_CARDS;
 use table::entries::integer_at;
 use table::entries::natural_at;
 ghost use mathlib.Core.Path.{_≡_};
@@ -33,7 +38,7 @@ fn multiple(number: i8, angle: u64) -> i64
 }
 
 // An angle as often as a number of a main's row says.
-fn term(angles: &[i8; 448], row: usize, column: usize, angle: u64) -> i64
+fn term(angles: &[i8; MAIN_ANGLES], row: usize, column: usize, angle: u64) -> i64
     ensures { λ r. ⌜ r ≡ getD (integers 7 (now (angles .entry)) row) column (pos 0) *ℤ pos (angle % turn) ⌝ }
     ensures { λ r. ⌜ natAbs r ≤ 2 ^ 57 ⌝ }
 {
@@ -48,7 +53,7 @@ fn lunar_time(sun: u64, moon: u64) -> u64
 }
 
 // V of the main in a row of the table: its terms added up, and reduced once.
-pub fn main_argument(angles: &[i8; 448], row: usize, l: Longitudes) -> u64
+pub fn main_argument(angles: &[i8; MAIN_ANGLES], row: usize, l: Longitudes) -> u64
     ensures { λ r. ⌜ r ≡ rowArgument (longitudesOf l) (now (angles .entry)) row ⌝ }
 {
     let tau = term(angles, row, 0, lunar_time(l.sun, l.moon));
@@ -69,10 +74,10 @@ fn advanced(angle: u64, number: i8, by: u64) -> u64
 }
 
 // V of main k, from what is kept of the mains in rows of V, X and Y, or 0 past the last.
-pub fn argument_at(kept: &[i64; 192], k: usize) -> u64
+pub fn argument_at(kept: &[i64; KEPT], k: usize) -> u64
     ensures { λ r. ⌜ r ≡ getD (argumentsIn (now (kept .entry))) k 0 ⌝ }
 {
-    if 64 <= k {
+    if MAINS <= k {
         return 0;
     }
     size(kept[3 * k])
@@ -80,9 +85,9 @@ pub fn argument_at(kept: &[i64; 192], k: usize) -> u64
 
 // V of the shallow constituent in a row of the table, from the mains' V: the sum over its parts of coefficient times V.
 pub fn shallow_argument<'a>(
-    kept: &'a [i64; 192],
-    cards: &'a [u16; 768],
-    coefficients: &'a [i8; 512],
+    kept: &'a [i64; KEPT],
+    cards: &'a [u16; SHALLOW_CARDS],
+    coefficients: &'a [i8; COEFFICIENTS],
     row: usize,
 ) -> u64
     ensures { λ r. ⌜ r ≡ fromParts (argumentsIn (now (kept .entry))) (shallowOf (now (cards .entry)) (now (coefficients .entry)) row) ⌝ }

@@ -13,17 +13,21 @@ ghost use Rattle.month_pairs.specs.inner.Rows.{pairsOf};
 use crate::pairs::Corrected;
 use crate::pairs::check;
 use crate::pairs::times_part;
+use limits::MAINS;
+use month_arguments::KEPT;
 use month_satellites::satellites::Pair;
 use month_satellites::satellites::index;
+use table::COEFFICIENTS;
+use table::SHALLOW_CARDS;
 use table::entries::integer_at;
 use table::entries::natural_at;
 
 // The pair of main k by its sums X and Y, from what is kept of the mains in rows of V, X and Y: unless it is too large, or (2^20, 0) past the last.
-pub fn pair_at(kept: &[i64; 192], k: usize) -> Corrected
+pub fn pair_at(kept: &[i64; KEPT], k: usize) -> Corrected
     ensures { λ r. ⌜ correctedOf r ≡ getD (pairsOf (now (kept .entry))) k (pair one) ⌝ }
     ensures { λ r. ⌜ Small r ⌝ }
 {
-    if 64 <= k {
+    if MAINS <= k {
         return Corrected::Within(Pair { x: 1_048_576, y: 0 });
     }
     let x = kept[3 * k + 1];
@@ -33,9 +37,9 @@ pub fn pair_at(kept: &[i64; 192], k: usize) -> Corrected
 
 // A pair multiplied by part j of the shallow constituent in row k.
 fn times_row_part<'a>(
-    kept: &'a [i64; 192],
-    cards: &'a [u16; 768],
-    coefficients: &'a [i8; 512],
+    kept: &'a [i64; KEPT],
+    cards: &'a [u16; SHALLOW_CARDS],
+    coefficients: &'a [i8; COEFFICIENTS],
     k: usize,
     j: usize,
     p: Pair,
@@ -50,9 +54,9 @@ fn times_row_part<'a>(
 
 // The pair of the shallow constituent in row k.
 pub fn shallow_pair<'a>(
-    kept: &'a [i64; 192],
-    cards: &'a [u16; 768],
-    coefficients: &'a [i8; 512],
+    kept: &'a [i64; KEPT],
+    cards: &'a [u16; SHALLOW_CARDS],
+    coefficients: &'a [i8; COEFFICIENTS],
     k: usize,
 ) -> Corrected
     ensures { λ r. ⌜ correctedOf r ≡ fromParts (pairsOf (now (kept .entry))) (shallowOf (now (cards .entry)) (now (coefficients .entry)) k) ⌝ }

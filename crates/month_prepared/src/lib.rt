@@ -2,17 +2,19 @@
 ghost use mathlib.Core.Path.{_≡_};
 ghost use mathlib.Core.List.{[]};
 ghost use Prim.Native.Nat.{min};
+ghost use Rattle.limits.specs.Limits.{mostRecords};
 ghost use Rattle.month_prepared.specs.inner.View.{constituentsOf};
+use limits::RECORDS;
 
 // A station's constituents in a prepared month: V in ticks, phase lag in hundredths of a degree, frequency in 10^-10 cycle an hour,
 // weights P and Q, the first `count` places of each.
 pub struct Month {
     pub count: usize,
-    pub arguments: [u64; 146],
-    pub lags: [u16; 146],
-    pub frequencies: [u64; 146],
-    pub ps: [i32; 146],
-    pub qs: [i32; 146],
+    pub arguments: [u64; RECORDS],
+    pub lags: [u16; RECORDS],
+    pub frequencies: [u64; RECORDS],
+    pub ps: [i32; RECORDS],
+    pub qs: [i32; RECORDS],
 }
 
 // A month with no constituents.
@@ -21,17 +23,17 @@ pub fn no_constituents() -> Month
 {
     Month {
         count: 0,
-        arguments: [0; 146],
-        lags: [0; 146],
-        frequencies: [0; 146],
-        ps: [0; 146],
-        qs: [0; 146],
+        arguments: [0; RECORDS],
+        lags: [0; RECORDS],
+        frequencies: [0; RECORDS],
+        ps: [0; RECORDS],
+        qs: [0; RECORDS],
     }
 }
 
 // How many constituents a month with this count holds.
 pub fn held(count: usize) -> usize
-    ensures { λ r. ⌜ r ≡ min count 146 ⌝ }
+    ensures { λ r. ⌜ r ≡ min count mostRecords ⌝ }
 {
-    if count < 146 { count } else { 146 }
+    if count < RECORDS { count } else { RECORDS }
 }

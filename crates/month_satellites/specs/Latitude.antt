@@ -1,13 +1,14 @@
 -- 01, "Satellites and weights": the latitude factors G, in units of 2^-20.
 use Prim.Native.Nat.{ℕ, _*_, _^_, min, max}
 use lib.IntN.{ℤ, pos, negsuc, negℤ, natAbs, _-ℤ_, _*ℤ_}
+use Rattle.limits.specs.Limits.{mostLatitude}
 use Rattle.angles.specs.Ticks.{arcMinute}
 use Rattle.angles.specs.Floor.{floorDiv}
 use Rattle.cosine.specs.Fixed.{fixedSine}
 
 -- "Latitudes under 5 degrees in size count as 5": the size in minutes, from 300 to 5,400. (No station's latitude is larger.)
 unfoldable pub latitudeSize : ℤ → ℕ
-latitudeSize latitude = min 5_400 (max 300 (natAbs latitude))
+latitudeSize latitude = min mostLatitude (max 300 (natAbs latitude))
 
 -- "S20 = floor(fixed sine of the latitude's size / 2^10)." It is above 0.
 unfoldable pub s20 : ℤ → ℕ

@@ -5,11 +5,11 @@ ghost use lib.IntN.{natAbs};
 ghost use Rattle.cosine.specs.Fixed.{IsTable};
 ghost use Rattle.month_satellites.specs.Latitude.{latitudeSize, s20, diurnalNorth, semidiurnalNorth, bySide, factorsAt};
 ghost use Rattle.month_satellites.specs.inner.Factors.{factorMost, IsS20, AreFactors, factorsOf};
+use angles::ARC_MINUTE;
 use angles::floor_div;
 use cosine::ENTRIES;
 use cosine::wave;
-
-const ARC_MINUTE: u64 = 36_500_000_000;
+use limits::LATITUDE;
 
 // Both factors of a latitude, in units of 2^-20.
 pub struct Factors {
@@ -33,8 +33,8 @@ fn minutes(latitude: i32) -> u64
     if m < 300 {
         return 300;
     }
-    if 5_400 < m {
-        return 5_400;
+    if LATITUDE as u64 < m {
+        return LATITUDE as u64;
     }
     m
 }

@@ -10,14 +10,15 @@ ghost use Rattle.month_satellites.specs.inner.Factors.{factorMost, AreFa
 ghost use Rattle.month_satellites.specs.inner.Ranges.{plainMost, termMost, sumMost, AreAngles, Sized};
 ghost use Rattle.month_satellites.specs.inner.View.{longitudesOf, theSatellite, pairOf};
 use crate::latitude::Factors;
+use angles::CENTICYCLE;
 use angles::floor_div;
 use angles::mod_turn;
 use cosine::ENTRIES;
 use cosine::wave;
+use table::SATELLITE_ANGLES;
+use table::SATELLITE_RATIOS;
 use table::at_i8;
 use table::at_u32;
-
-const CENTICYCLE: u64 = 7_884_000_000_000;
 
 // The longitudes that satellites go by, in ticks: lunar perigee p, the node's negative N', solar perigee p'.
 pub struct Nodal {
@@ -106,7 +107,11 @@ pub fn index(n: u16) -> usize
 }
 
 // Satellite k of the table.
-fn satellite_at<'a>(angles: &'a [i8; 1024], ratios: &'a [u32; 512], k: usize) -> Satellite
+fn satellite_at<'a>(
+    angles: &'a [i8; SATELLITE_ANGLES],
+    ratios: &'a [u32; SATELLITE_RATIOS],
+    k: usize,
+) -> Satellite
     requires { ⌜ k < 2 ^ 32 ⌝ }
     ensures { λ r. ⌜ theSatellite r ≡ satelliteOf (now (angles .entry)) (now (ratios .entry)) k ⌝ }
 {
@@ -138,8 +143,8 @@ fn terms_of(cosines: &[u32; ENTRIES], s: Satellite, g: Factors, l: Nodal) -> Pai
 // The sum over a main's satellites, not yet checked for size.
 pub fn main_sum<'a>(
     cosines: &'a [u32; ENTRIES],
-    angles: &'a [i8; 1024],
-    ratios: &'a [u32; 512],
+    angles: &'a [i8; SATELLITE_ANGLES],
+    ratios: &'a [u32; SATELLITE_RATIOS],
     first: u16,
     count: u16,
     g: Factors,

@@ -2,12 +2,20 @@
 use crate::workings::Given;
 use crate::workings::work_main;
 use crate::workings::work_parts;
+use cosine::ENTRIES;
+use month_arguments::KEPT;
 use month_arguments::arguments::argument_at;
 use month_arguments::arguments::shallow_argument;
 use month_pairs::nodal::pair_at;
 use month_pairs::nodal::shallow_pair;
 use month_pairs::pairs::Corrected;
 use month_satellites::satellites::Pair;
+use table::COEFFICIENTS;
+use table::MAIN_ANGLES;
+use table::MAIN_CARDS;
+use table::SATELLITE_ANGLES;
+use table::SATELLITE_RATIOS;
+use table::SHALLOW_CARDS;
 use table::definitions::Found;
 ghost use Rattle.cosine.specs.Fixed.{IsTable};
 ghost use Rattle.month_workings.specs.inner.Given.{IsGiven, argumentBy, correctedBy, KeptBy};
@@ -22,14 +30,14 @@ pub struct Worked {
 // Works out the mains that a constituent needs, those that are not yet.
 pub fn work_mains<'a>(
     found: Found,
-    cosines: &'a [u32; 1025],
-    maincards: &'a [u16; 192],
-    mainangles: &'a [i8; 448],
-    satelliteangles: &'a [i8; 1024],
-    ratios: &'a [u32; 512],
-    shallowcards: &'a [u16; 768],
+    cosines: &'a [u32; ENTRIES],
+    maincards: &'a [u16; MAIN_CARDS],
+    mainangles: &'a [i8; MAIN_ANGLES],
+    satelliteangles: &'a [i8; SATELLITE_ANGLES],
+    ratios: &'a [u32; SATELLITE_RATIOS],
+    shallowcards: &'a [u16; SHALLOW_CARDS],
     given: Given,
-    kept: &mut [i64; 192],
+    kept: &mut [i64; KEPT],
 )
     requires { ⌜ IsTable (now cosines) ⌝ }
     requires { ⌜ IsGiven given ⌝ }
@@ -69,9 +77,9 @@ pub fn work_mains<'a>(
 // V and the pair of a constituent, from what is kept of the mains.
 pub fn from_mains<'a>(
     found: Found,
-    kept: &'a [i64; 192],
-    shallowcards: &'a [u16; 768],
-    coefficients: &'a [i8; 512],
+    kept: &'a [i64; KEPT],
+    shallowcards: &'a [u16; SHALLOW_CARDS],
+    coefficients: &'a [i8; COEFFICIENTS],
 ) -> Worked
     ensures { λ r. ⌜ FromMains (now (kept .entry)) (now (shallowcards .entry)) (now (coefficients .entry)) found r ⌝ }
 {

@@ -1,6 +1,7 @@
 // The mains that a month needs, each worked out once: its V, and its sums X and Y, kept in a row of three. A V of T or more stands for one that is not worked out yet.
 ghost use mathlib.Core.Path.{_≡_};
 ghost use Prim.Native.Nat.{_<_};
+ghost use Rattle.limits.specs.Limits.{mostMains};
 ghost use Rattle.angles.specs.Ticks.{turn};
 ghost use Rattle.cosine.specs.Fixed.{IsTable};
 ghost use Rattle.month_arguments.specs.Longitudes.{nodal};
@@ -13,6 +14,9 @@ ghost use Rattle.table.specs.inner.View.{naturals};
 ghost use Rattle.month_workings.specs.inner.Kept.{argumentAt, noneKept, WithMain, WithParts};
 ghost use Rattle.month_workings.specs.inner.Given.{IsGiven, argumentBy, correctedBy, KeptBy};
 use angles::TURN;
+use cosine::ENTRIES;
+use limits::MAINS;
+use month_arguments::KEPT;
 use month_arguments::arguments::argument_at;
 use month_arguments::arguments::main_argument;
 use month_arguments::astronomy::Longitudes;
@@ -21,6 +25,11 @@ use month_satellites::satellites::Nodal;
 use month_satellites::satellites::Pair;
 use month_satellites::satellites::index;
 use month_satellites::satellites::main_sum;
+use table::MAIN_ANGLES;
+use table::MAIN_CARDS;
+use table::SATELLITE_ANGLES;
+use table::SATELLITE_RATIOS;
+use table::SHALLOW_CARDS;
 use table::entries::natural_at;
 
 // What every main is worked out from, besides its rows of the table: the latitude factors, the longitudes, and how many mains there are.
@@ -31,10 +40,10 @@ pub struct Given {
 }
 
 // V of a main that is not worked out yet: T.
-const NOT_YET: i64 = 788_400_000_000_000;
+const NOT_YET: i64 = TURN as i64;
 
 // Room for 64 mains, none of them worked out yet.
-pub fn none_kept() -> [i64; 192]
+pub fn none_kept() -> [i64; KEPT]
     ensures { λ r. ⌜ r ≡ noneKept ⌝ }
 {
     [NOT_YET; 192]
@@ -54,7 +63,7 @@ fn nodal_of(l: Longitudes) -> Nodal
 }
 
 // V of the main in row k of so many, or 0 past the last.
-fn argument_of(angles: &[i8; 448], mains: usize, k: usize, l: Longitudes) -> u64
+fn argument_of(angles: &[i8; MAIN_ANGLES], mains: usize, k: usize, l: Longitudes) -> u64
     ensures { λ r. ⌜ r ≡ argumentAt (longitudesOf l) (now (angles .entry)) mains k ⌝ }
     ensures { λ r. ⌜ r < turn ⌝ }
 {
@@ -66,10 +75,10 @@ fn argument_of(angles: &[i8; 448], mains: usize, k: usize, l: Longitudes) -> u64
 
 // The sums of the main in row k, or (2^20, 0) past the last.
 fn sum_of<'a>(
-    cosines: &'a [u32; 1025],
-    cards: &'a [u16; 192],
-    angles: &'a [i8; 1024],
-    ratios: &'a [u32; 512],
+    cosines: &'a [u32; ENTRIES],
+    cards: &'a [u16; MAIN_CARDS],
+    angles: &'a [i8; SATELLITE_ANGLES],
+    ratios: &'a [u32; SATELLITE_RATIOS],
     k: usize,
     given: Given,
 ) -> Pair
@@ -88,19 +97,19 @@ fn sum_of<'a>(
 
 // Works out the main in row k, and keeps it there.
 fn keep_main<'a>(
-    cosines: &'a [u32; 1025],
-    cards: &'a [u16; 192],
-    angles: &'a [i8; 448],
-    satelliteangles: &'a [i8; 1024],
-    ratios: &'a [u32; 512],
+    cosines: &'a [u32; ENTRIES],
+    cards: &'a [u16; MAIN_CARDS],
+    angles: &'a [i8; MAIN_ANGLES],
+    satelliteangles: &'a [i8; SATELLITE_ANGLES],
+    ratios: &'a [u32; SATELLITE_RATIOS],
     k: usize,
     given: Given,
-    kept: &mut [i64; 192],
+    kept: &mut [i64; KEPT],
 )
     requires { ⌜ IsTable (now cosines) ⌝ }
     requires { ⌜ IsGiven given ⌝ }
     requires { ⌜ KeptBy given (now cards) (now angles) (now satelliteangles) (now ratios) (now kept) ⌝ }
-    requires { ⌜ k < 64 ⌝ }
+    requires { ⌜ k < mostMains ⌝ }
     ensures { λ _. ⌜ WithMain (argumentBy given (now (angles .entry))) (correctedBy given (now (cards .entry)) (now (satelliteangles .entry)) (now (ratios .entry))) k (now (kept .entry)) (now (kept .exit)) ⌝ }
 {
     let p = sum_of(cosines, cards, satelliteangles, ratios, k, given);
@@ -114,21 +123,21 @@ fn keep_main<'a>(
 
 // Works out the main in row k, if it is not yet.
 pub fn work_main<'a>(
-    cosines: &'a [u32; 1025],
-    cards: &'a [u16; 192],
-    angles: &'a [i8; 448],
-    satelliteangles: &'a [i8; 1024],
-    ratios: &'a [u32; 512],
+    cosines: &'a [u32; ENTRIES],
+    cards: &'a [u16; MAIN_CARDS],
+    angles: &'a [i8; MAIN_ANGLES],
+    satelliteangles: &'a [i8; SATELLITE_ANGLES],
+    ratios: &'a [u32; SATELLITE_RATIOS],
     k: usize,
     given: Given,
-    kept: &mut [i64; 192],
+    kept: &mut [i64; KEPT],
 )
     requires { ⌜ IsTable (now cosines) ⌝ }
     requires { ⌜ IsGiven given ⌝ }
     requires { ⌜ KeptBy given (now cards) (now angles) (now satelliteangles) (now ratios) (now kept) ⌝ }
     ensures { λ _. ⌜ WithMain (argumentBy given (now (angles .entry))) (correctedBy given (now (cards .entry)) (now (satelliteangles .entry)) (now (ratios .entry))) k (now (kept .entry)) (now (kept .exit)) ⌝ }
 {
-    if 64 <= k {
+    if MAINS <= k {
         return;
     }
     if argument_at(kept, k) < TURN {
@@ -148,15 +157,15 @@ pub fn work_main<'a>(
 
 // Works out the mains of the parts of the shallow constituent in a row, those that are not yet.
 pub fn work_parts<'a>(
-    cosines: &'a [u32; 1025],
-    cards: &'a [u16; 192],
-    angles: &'a [i8; 448],
-    satelliteangles: &'a [i8; 1024],
-    ratios: &'a [u32; 512],
-    shallowcards: &'a [u16; 768],
+    cosines: &'a [u32; ENTRIES],
+    cards: &'a [u16; MAIN_CARDS],
+    angles: &'a [i8; MAIN_ANGLES],
+    satelliteangles: &'a [i8; SATELLITE_ANGLES],
+    ratios: &'a [u32; SATELLITE_RATIOS],
+    shallowcards: &'a [u16; SHALLOW_CARDS],
     row: usize,
     given: Given,
-    kept: &mut [i64; 192],
+    kept: &mut [i64; KEPT],
 )
     requires { ⌜ IsTable (now cosines) ⌝ }
     requires { ⌜ IsGiven given ⌝ }

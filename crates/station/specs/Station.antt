@@ -5,8 +5,9 @@ use mathlib.Core.List.{List, [], _∷_}
 use mathlib.Core.Bool.{Bool, true, false, cond}
 use lib.ListN.{length}
 use lib.Dec.{eqb, leb, ltb}
-use lib.IntN.{ℤ, pos, negsuc}
+use lib.IntN.{ℤ, pos, negℤ}
 use lib.Signed.{ltZ}
+use Rattle.limits.specs.Limits.{mostAmplitude, mostLatitude, mostPhase, mostRecords}
 use Rattle.refusals.specs.Outcome.{Outcome, accepted, refuseIf, andThen}
 use Rattle.station.specs.declared.records.Record.{Record}
 
@@ -26,7 +27,7 @@ unfoldable pub recordOutcome : ℕ → List ℕ → ℕ → Record → Outcome
 recordOutcome frequencies earlier k r =
     refuseIf (leb frequencies (r .place)) 5 k
     (refuseIf (repeated (r .place) earlier) 4 k
-    (refuseIf (ltb 65_535 (r .amplitude)) 3 k (refuseIf (ltb 35_999 (r .phase)) 3 k accepted)))
+    (refuseIf (ltb mostAmplitude (r .amplitude)) 3 k (refuseIf (ltb mostPhase (r .phase)) 3 k accepted)))
 
 -- the records from number k on, each in its turn
 unfoldable pub recordsOutcome : ℕ → List ℕ → ℕ → List Record → Outcome
@@ -37,6 +38,6 @@ recordsOutcome frequencies earlier k (r ∷ rs) =
 -- "A station checks latitude (place 0), count (place 147, the first record too many), then each record". Latitude is -5,400 to 5,400.
 unfoldable pub stationOutcome : ℕ → ℤ → List Record → Outcome
 stationOutcome frequencies latitude rs =
-    refuseIf (ltZ latitude (negsuc 5_399)) 3 0
-    (refuseIf (ltZ (pos 5_400) latitude) 3 0
-    (refuseIf (ltb 146 (length rs)) 6 147 (recordsOutcome frequencies [] 1 rs)))
+    refuseIf (ltZ latitude (negℤ (pos mostLatitude))) 3 0
+    (refuseIf (ltZ (pos mostLatitude) latitude) 3 0
+    (refuseIf (ltb mostRecords (length rs)) 6 (mostRecords + 1) (recordsOutcome frequencies [] 1 rs)))

@@ -1,6 +1,7 @@
 // A station: a latitude and its constituents' records, accepted whole or refused at the first record that is at fault.
 ghost use mathlib.Core.Path.{_≡_};
 ghost use Prim.Native.Nat.{_+_, _%_, _<_, _≤_};
+ghost use Rattle.limits.specs.Limits.{mostRecords};
 ghost use Rattle.refusals.specs.Outcome.{outcomeOf};
 ghost use Rattle.station.specs.Station.{repeated, recordOutcome};
 ghost use Rattle.station.specs.inner.Station.{placesBefore, noStation, putRecord};
@@ -11,6 +12,10 @@ pub mod records; // the lent row of records, taken apart
 pub mod recordarrays; // records in three arrays
 
 use crate::records::Rows;
+use limits::AMPLITUDE;
+use limits::LATITUDE;
+use limits::PHASE;
+use limits::RECORDS;
 use refusals::Answer;
 use refusals::Refusal;
 
@@ -18,9 +23,9 @@ use refusals::Refusal;
 pub struct Station {
     pub latitude: i32,
     pub count: usize,
-    pub places: [u8; 146],
-    pub amplitudes: [u16; 146],
-    pub lags: [u16; 146],
+    pub places: [u8; RECORDS],
+    pub amplitudes: [u16; RECORDS],
+    pub lags: [u16; RECORDS],
 }
 
 // What a station call says, and the station where it is accepted.
@@ -36,15 +41,15 @@ pub fn no_station(latitude: i32) -> Station
     Station {
         latitude,
         count: 0,
-        places: [0u8; 146],
-        amplitudes: [0u16; 146],
-        lags: [0u16; 146],
+        places: [0u8; RECORDS],
+        amplitudes: [0u16; RECORDS],
+        lags: [0u16; RECORDS],
     }
 }
 
 // Whether one of the first k places is this one.
-fn is_repeated(places: &[u8; 146], k: usize, place: u8) -> bool
-    requires { ⌜ k ≤ 146 ⌝ }
+fn is_repeated(places: &[u8; RECORDS], k: usize, place: u8) -> bool
+    requires { ⌜ k ≤ mostRecords ⌝ }
     ensures { λ r. ⌜ r ≡ repeated place (placesBefore (now (places .entry)) k) ⌝ }
 {
     let mut left = k;
@@ -59,7 +64,7 @@ fn is_repeated(places: &[u8; 146], k: usize, place: u8) -> bool
 
 // Record k, from 0: its place is in the table and new, its amplitude and its phase lag are in range.
 fn record_answer(frequencies: usize, rows: Rows, k: usize) -> Answer
-    requires { ⌜ k < 146 ⌝ }
+    requires { ⌜ k < mostRecords ⌝ }
     ensures { λ r. ⌜ outcomeOf r ≡ recordOutcome frequencies (placesBefore (rows .places) k) (k + 1) (recordAt rows k) ⌝ }
 {
     let place = rows.places[k];
@@ -69,10 +74,10 @@ fn record_answer(frequencies: usize, rows: Rows, k: usize) -> Answer
     if is_repeated(&rows.places, k, place) {
         return Answer::Refused(Refusal::BadName, k + 1);
     }
-    if 65_535 < rows.amplitudes[k] {
+    if AMPLITUDE < rows.amplitudes[k] {
         return Answer::Refused(Refusal::OutOfRange, k + 1);
     }
-    if 35_999 < rows.phases[k] {
+    if PHASE < rows.phases[k] {
         return Answer::Refused(Refusal::OutOfRange, k + 1);
     }
     Answer::Accepted
@@ -80,7 +85,7 @@ fn record_answer(frequencies: usize, rows: Rows, k: usize) -> Answer
 
 // The station with record k kept.
 fn with_record(station: Station, k: usize, place: u8, amplitude: u16, phase: u16) -> Station
-    requires { ⌜ k < 146 ⌝ }
+    requires { ⌜ k < mostRecords ⌝ }
     ensures { λ r. ⌜ r ≡ putRecord station k place amplitude phase ⌝ }
 {
     let mut out = station;
@@ -100,7 +105,7 @@ fn narrow(x: u32) -> u16
 
 // The first n records: each is checked in its turn, and added to the station, which starts with none.
 fn take_records(frequencies: usize, empty: Station, n: usize, rows: Rows) -> Taken
-    requires { ⌜ n ≤ 146 ⌝ }
+    requires { ⌜ n ≤ mostRecords ⌝ }
     ensures { λ r. ⌜ RecordsPost frequencies empty n rows r ⌝ }
 {
     let mut station = empty;
@@ -126,26 +131,31 @@ fn take_records(frequencies: usize, empty: Station, n: usize, rows: Rows) -> Tak
     }
 }
 
+// The least latitude, and the number of the first record too many.
+const SOUTHMOST: i32 = -LATITUDE;
+
+const FIRST_TOO_MANY: usize = RECORDS + 1;
+
 // A station of n records, of which the first 146 are in the rows: accepted whole, or refused with 01's number and place.
 pub fn take_station(frequencies: usize, latitude: i32, n: usize, rows: Rows) -> Taken
     ensures { λ r. ⌜ StationPost frequencies latitude n rows r ⌝ }
 {
     let station = no_station(latitude);
-    if latitude < -5_400 {
+    if latitude < SOUTHMOST {
         return Taken {
             answer: Answer::Refused(Refusal::OutOfRange, 0),
             station,
         };
     }
-    if 5_400 < latitude {
+    if LATITUDE < latitude {
         return Taken {
             answer: Answer::Refused(Refusal::OutOfRange, 0),
             station,
         };
     }
-    if 146 < n {
+    if RECORDS < n {
         return Taken {
-            answer: Answer::Refused(Refusal::TooMany, 147),
+            answer: Answer::Refused(Refusal::TooMany, FIRST_TOO_MANY),
             station,
         };
     }

@@ -3,24 +3,26 @@ ghost use mathlib.Core.Path.{_≡_};
 ghost use mathlib.Core.Bool.{false};
 ghost use Prim.Native.Nat.{_<_, min};
 ghost use lib.ListN.{length};
+ghost use Rattle.limits.specs.Limits.{mostRecords};
 ghost use Rattle.station.specs.inner.Rows.{rowsUpto, putRow, noRows};
 ghost use Rattle.station.specs.Arrays.{oneLength, lacking, recordsIn};
 use crate::records::Rows;
+use limits::RECORDS;
 
 // No records.
 fn no_rows() -> Rows
     ensures { λ r. ⌜ r ≡ noRows ⌝ }
 {
     Rows {
-        places: [0u8; 146],
-        amplitudes: [0u32; 146],
-        phases: [0u32; 146],
+        places: [0u8; RECORDS],
+        amplitudes: [0u32; RECORDS],
+        phases: [0u32; RECORDS],
     }
 }
 
 // Rows with one more record.
 fn with_record(rows: Rows, k: usize, place: u8, amplitude: u32, phase: u32) -> Rows
-    requires { ⌜ k < 146 ⌝ }
+    requires { ⌜ k < mostRecords ⌝ }
     ensures { λ r. ⌜ r ≡ putRow rows k place amplitude phase ⌝ }
 {
     let mut out = rows;
@@ -41,9 +43,9 @@ fn shorter(a: usize, b: usize) -> usize
 pub fn rows_in(places: &[u8], amplitudes: &[u32], phases: &[u32]) -> Rows
     requires { ⌜ length (now amplitudes) ≡ length (now places) ⌝ }
     requires { ⌜ length (now phases) ≡ length (now places) ⌝ }
-    ensures { λ r. ⌜ r ≡ rowsUpto (recordsIn (now (places .entry)) (now (amplitudes .entry)) (now (phases .entry))) (min (length (now (places .entry))) 146) ⌝ }
+    ensures { λ r. ⌜ r ≡ rowsUpto (recordsIn (now (places .entry)) (now (amplitudes .entry)) (now (phases .entry))) (min (length (now (places .entry))) mostRecords) ⌝ }
 {
-    let most = shorter(places.len(), 146);
+    let most = shorter(places.len(), RECORDS);
     let mut rows = no_rows();
     let mut k: usize = 0;
     while k < most {

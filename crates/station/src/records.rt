@@ -2,7 +2,9 @@
 ghost use mathlib.Core.Path.{_≡_};
 ghost use Prim.Native.Nat.{_<_, min};
 ghost use lib.ListN.{length};
+ghost use Rattle.limits.specs.Limits.{mostRecords};
 ghost use Rattle.station.specs.inner.Rows.{noRows, putRow, rowsUpto};
+use limits::RECORDS;
 
 // One of a station's constituents, as it is lent: its place in the table, its amplitude and its phase lag.
 pub struct Record {
@@ -13,14 +15,14 @@ pub struct Record {
 
 // The records taken apart: an array for each field.
 pub struct Rows {
-    pub places: [u8; 146],
-    pub amplitudes: [u32; 146],
-    pub phases: [u32; 146],
+    pub places: [u8; RECORDS],
+    pub amplitudes: [u32; RECORDS],
+    pub phases: [u32; RECORDS],
 }
 
 // Rows with one more record.
 fn put(rows: Rows, k: usize, place: u8, amplitude: u32, phase: u32) -> Rows
-    requires { ⌜ k < 146 ⌝ }
+    requires { ⌜ k < mostRecords ⌝ }
     ensures { λ r. ⌜ r ≡ putRow rows k place amplitude phase ⌝ }
 {
     let mut out = rows;
@@ -35,22 +37,22 @@ fn none() -> Rows
     ensures { λ r. ⌜ r ≡ noRows ⌝ }
 {
     Rows {
-        places: [0u8; 146],
-        amplitudes: [0u32; 146],
-        phases: [0u32; 146],
+        places: [0u8; RECORDS],
+        amplitudes: [0u32; RECORDS],
+        phases: [0u32; RECORDS],
     }
 }
 
 // Past 146 nothing is taken: a longer row is refused by its count.
 fn at_most(n: usize) -> usize
-    ensures { λ r. ⌜ r ≡ min n 146 ⌝ }
+    ensures { λ r. ⌜ r ≡ min n mostRecords ⌝ }
 {
-    if n < 146 { n } else { 146 }
+    if n < RECORDS { n } else { RECORDS }
 }
 
 // The records taken apart, the first 146 of them: the thin function over the lent slice of structs. Its proof is a walk by hand.
 pub fn rows_of(rs: &[Record]) -> Rows
-    ensures { λ r. ⌜ r ≡ rowsUpto (now (rs .entry)) (min (length (now (rs .entry))) 146) ⌝ }
+    ensures { λ r. ⌜ r ≡ rowsUpto (now (rs .entry)) (min (length (now (rs .entry))) mostRecords) ⌝ }
 {
     let m = at_most(rs.len());
     let mut rows = none();

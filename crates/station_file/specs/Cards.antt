@@ -6,6 +6,7 @@ use mathlib.Core.List.{List}
 use mathlib.Core.Bool.{Bool, _||_}
 use lib.Dec.{eqb}
 use lib.IntN.{ℤ, pos, natAbs}
+use Rattle.limits.specs.Limits.{mostRecords}
 use Rattle.columns.specs.Columns.{column, columns}
 use Rattle.columns.specs.Names.{placeOf}
 use Rattle.fields.specs.Number.{signed}
@@ -48,4 +49,4 @@ recordFields names line = do
 
 -- the next constituent card, after so many; "at most 146 constituents": a card past 146 is 6 before its fields
 unfoldable pub nextRecord : List (List ℕ) → ℕ → List ℕ → Next Record
-nextRecord names before line = nextCard 146 before line (recordFields names line)
+nextRecord names before line = nextCard mostRecords before line (recordFields names line)

@@ -1,6 +1,7 @@
 // The two cards of the station file (001, section 3.3): the station card's latitude, and the record of a constituent card.
 ghost use mathlib.Core.Path.{_≡_};
 ghost use Prim.Native.Nat.{_+_, _≤_, _<_, min};
+ghost use Rattle.limits.specs.Limits.{mostFrequencies};
 ghost use Rattle.columns.specs.Names.{namesFrom};
 ghost use Rattle.fields.specs.Number.{signed};
 ghost use Rattle.card.specs.inner.Answers as parts;
@@ -14,6 +15,8 @@ use card::lines::Opening;
 use card::lines::begins;
 use card::natural_field;
 use columns::names;
+use limits::FREQUENCIES;
+use limits::RECORDS;
 
 // The station card's latitude in minutes, or the refusal that the card earns.
 pub enum Latitude {
@@ -90,7 +93,7 @@ pub fn station_card(line: &[u8]) -> Latitude
 
 // The record on a constituent card: name, amplitude, phase lag.
 fn record_fields(line: &[u8], names: &[u8], frequencies: usize) -> RecordStep
-    requires { ⌜ frequencies ≤ 160 ⌝ }
+    requires { ⌜ frequencies ≤ mostFrequencies ⌝ }
     ensures { λ r. ⌜ recordGives r ≡ opened readFields (recordFields (namesFrom (now (names .entry)) 0 frequencies) (now (line .entry))) ⌝ }
 {
     match names::find_name(names::name_part(line, 5), names, frequencies) {
@@ -123,16 +126,16 @@ fn record_fields(line: &[u8], names: &[u8], frequencies: usize) -> RecordStep
 
 // At most 160 frequencies: a card file has no more.
 fn at_most(n: usize) -> usize
-    ensures { λ r. ⌜ r ≡ min n 160 ⌝ }
+    ensures { λ r. ⌜ r ≡ min n mostFrequencies ⌝ }
 {
-    if n < 160 { n } else { 160 }
+    if n < FREQUENCIES { n } else { FREQUENCIES }
 }
 
 // The next constituent card, after `count` of them. The names are rows of five bytes, one for each frequency of the card file.
 pub fn record_card(line: &[u8], names: &[u8], frequencies: usize, count: usize) -> RecordStep
-    ensures { λ r. ⌜ recordGives r ≡ nextRecord (namesFrom (now (names .entry)) 0 (min frequencies 160)) count (now (line .entry)) ⌝ }
+    ensures { λ r. ⌜ recordGives r ≡ nextRecord (namesFrom (now (names .entry)) 0 (min frequencies mostFrequencies)) count (now (line .entry)) ⌝ }
 {
-    match begins(line, count, 146) {
+    match begins(line, count, RECORDS) {
         Opening::Ends => RecordStep::Ends,
         Opening::Fields => record_fields(line, names, at_most(frequencies)),
         Opening::Fails(r) => RecordStep::Fails(r),

@@ -3,6 +3,7 @@ ghost use mathlib.Core.Path.{_≡_};
 ghost use mathlib.Core.List.{[]};
 ghost use Prim.Native.Nat.{_+_, _≤_, _<_, min};
 ghost use lib.ListN.{length, drop};
+ghost use Rattle.limits.specs.Limits.{mostFrequencies, mostRecords};
 ghost use Rattle.columns.specs.Lines.{linesOf};
 ghost use Rattle.columns.specs.Names.{namesFrom};
 ghost use Rattle.refusals.specs.Outcome.{numberOf};
@@ -17,6 +18,7 @@ use crate::stationfields::station_card;
 use card::Refusal;
 use card::lines::line_at;
 use card::lines::next_line;
+use limits::RECORDS;
 use refusals::Answer;
 use station::records::Rows;
 
@@ -33,15 +35,15 @@ fn no_rows() -> Rows
     ensures { λ r. ⌜ r ≡ noRows ⌝ }
 {
     Rows {
-        places: [0u8; 146],
-        amplitudes: [0u32; 146],
-        phases: [0u32; 146],
+        places: [0u8; RECORDS],
+        amplitudes: [0u32; RECORDS],
+        phases: [0u32; RECORDS],
     }
 }
 
 // Rows with record k.
 fn put(rows: Rows, k: usize, place: u8, amplitude: u32, phase: u32) -> Rows
-    requires { ⌜ k < 146 ⌝ }
+    requires { ⌜ k < mostRecords ⌝ }
     ensures { λ r. ⌜ r ≡ putRow rows k place amplitude phase ⌝ }
 {
     let mut out = rows;
@@ -69,7 +71,7 @@ fn named(r: Refusal) -> refusals::Refusal
 // A file that is refused at a line.
 fn refused(r: Refusal, line: usize) -> StationCards
     ensures { λ s. ⌜ fileOf s ≡ refusedAs r line ⌝ }
-    ensures { λ s. ⌜ s .count ≤ 146 ⌝ }
+    ensures { λ s. ⌜ s .count ≤ mostRecords ⌝ }
 {
     StationCards {
         answer: Answer::Refused(named(r), line),
@@ -88,8 +90,8 @@ fn read_records(
     frequencies: usize,
 ) -> StationCards
     requires { ⌜ first ≤ length (now file) ⌝ }
-    ensures { λ r. ⌜ fileOf r ≡ recordsOn latitude (namesFrom (now (names .entry)) 0 (min frequencies 160)) (linesOf (drop first (now (file .entry)))) 2 [] ⌝ }
-    ensures { λ r. ⌜ r .count ≤ 146 ⌝ }
+    ensures { λ r. ⌜ fileOf r ≡ recordsOn latitude (namesFrom (now (names .entry)) 0 (min frequencies mostFrequencies)) (linesOf (drop first (now (file .entry)))) 2 [] ⌝ }
+    ensures { λ r. ⌜ r .count ≤ mostRecords ⌝ }
 {
     let mut rows = no_rows();
     let mut count = 0;
@@ -124,8 +126,8 @@ fn read_records(
 
 // A station file: accepted whole, or refused with 01's number and line. The names are rows of five bytes, one for each frequency of the card file.
 pub fn read_station(file: &[u8], names: &[u8], frequencies: usize) -> StationCards
-    ensures { λ r. ⌜ fileOf r ≡ stationFile (namesFrom (now (names .entry)) 0 (min frequencies 160)) (now (file .entry)) ⌝ }
-    ensures { λ r. ⌜ r .count ≤ 146 ⌝ }
+    ensures { λ r. ⌜ fileOf r ≡ stationFile (namesFrom (now (names .entry)) 0 (min frequencies mostFrequencies)) (now (file .entry)) ⌝ }
+    ensures { λ r. ⌜ r .count ≤ mostRecords ⌝ }
 {
     if file.len() == 0 {
         return refused(Refusal::Ended, 1);

@@ -4,6 +4,7 @@ use card::Natural;
 use card::natural_field;
 use files::checksum;
 use libc::STDOUT_FILENO;
+use limits::RECORDS;
 use refusals::Answer;
 use station::records::Rows;
 use station_file::stationcards;
@@ -33,7 +34,7 @@ fn put_record(place: u8, amplitude: u32, phase: u32) {
 // The records, a line each.
 fn put_records(count: usize, rows: Rows) {
     let mut k = 0;
-    while k < 146 && k < count {
+    while k < RECORDS && k < count {
         put_record(rows.places[k], rows.amplitudes[k], rows.phases[k]);
         k += 1;
     }

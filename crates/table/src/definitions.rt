@@ -1,5 +1,6 @@
 // What stands at a place of the table: a main, a shallow-water constituent, or nothing, by its row.
 use crate::entries::natural_at;
+use limits::PLACES;
 ghost use Prim.Native.Nat.{_≤_};
 ghost use lib.ListN.{length};
 ghost use Rattle.table.specs.inner.Found.{placeIn, FirstRows, FindsBy};
@@ -12,16 +13,16 @@ pub enum Found {
 }
 
 // For each place the first of so many rows that has it, or their number. (From the last row to the first, so that the first stays.)
-pub fn first_rows(cards: &[u16], width: usize, rows: usize) -> [usize; 256]
+pub fn first_rows(cards: &[u16], width: usize, rows: usize) -> [usize; PLACES]
     requires { ⌜ (width ≤ 8) × (length (now cards) ≤ 1024) ⌝ }
     ensures { λ r. ⌜ FirstRows (placeIn width (now (cards .entry))) rows r ⌝ }
 {
-    let mut first = [rows; 256];
+    let mut first = [rows; PLACES];
     let mut row = rows;
     while 0 < row {
         row -= 1;
         let place = natural_at(cards, width, row, 0) as usize;
-        if place < 256 {
+        if place < PLACES {
             first[place] = row;
         }
     }
@@ -30,9 +31,9 @@ pub fn first_rows(cards: &[u16], width: usize, rows: usize) -> [usize; 256]
 
 // What stands at a place, by the first rows of so many mains and of so many shallow-water constituents.
 pub fn find<'a>(
-    mainrows: &'a [usize; 256],
+    mainrows: &'a [usize; PLACES],
     mains: usize,
-    shallowrows: &'a [usize; 256],
+    shallowrows: &'a [usize; PLACES],
     shallows: usize,
     place: u8,
 ) -> Found

@@ -6,26 +6,46 @@ ghost use lib.Seq.{sets};
 ghost use lib.IntN.{pos};
 ghost use Rattle.table.specs.Table.{noCards};
 ghost use Rattle.table.specs.inner.View.{tableOf};
+use limits::FREQUENCIES;
+use limits::MAINS;
+use limits::SATELLITES;
+use limits::SHALLOWS;
 
 pub mod entries; // a number of a row
 pub mod definitions; // what stands at a place
 
-// 01's table; `specs/View.antt` says what each row holds.
+// The rows of the table's arrays, one behind the other: names of five bytes; three numbers and seven angles a main; four angles and two
+// numbers a satellite; six numbers and four coefficients a shallow-water constituent.
+pub const NAMES: usize = 5 * FREQUENCIES;
+
+pub const MAIN_CARDS: usize = 3 * MAINS;
+
+pub const MAIN_ANGLES: usize = 7 * MAINS;
+
+pub const SATELLITE_ANGLES: usize = 4 * SATELLITES;
+
+pub const SATELLITE_RATIOS: usize = 2 * SATELLITES;
+
+pub const SHALLOW_CARDS: usize = 6 * SHALLOWS;
+
+pub const COEFFICIENTS: usize = 4 * SHALLOWS;
+
+// 01's table; `specs/inner/View.antt` says what each row holds.
 pub struct Table {
     pub frequencies: usize,
-    pub names: [u8; 800],
-    pub speeds: [u64; 160],
+    pub names: [u8; NAMES],
+    pub speeds: [u64; FREQUENCIES],
     pub longitudes: [u64; 5],
     pub increases: [u64; 5],
     pub mains: usize,
-    pub maincards: [u16; 192],
-    pub mainangles: [i8; 448],
+    pub maincards: [u16; MAIN_CARDS],
+    pub mainangles: [i8; MAIN_ANGLES],
     pub satellites: usize,
-    pub satelliteangles: [i8; 1024],
-    pub satelliteratios: [u32; 512],
+    pub satelliteangles: [i8; SATELLITE_ANGLES],
+    pub satelliteratios: [u32; SATELLITE_RATIOS],
     pub shallows: usize,
-    pub shallowcards: [u16; 768],
-    pub coefficients: [i8; 512],
+    pub shallowcards: [u16; SHALLOW_CARDS],
+    pub coefficients: [i8; COEFFICIENTS],
 }
 
 // A table with no entry.
@@ -34,27 +54,20 @@ pub fn no_cards() -> Table
 {
     Table {
         frequencies: 0,
-        names: [0u8; 800],
-        speeds: [0u64; 160],
+        names: [0u8; NAMES],
+        speeds: [0u64; FREQUENCIES],
         longitudes: [0u64; 5],
         increases: [0u64; 5],
         mains: 0,
-        maincards: [0u16; 192],
-        mainangles: [0i8; 448],
+        maincards: [0u16; MAIN_CARDS],
+        mainangles: [0i8; MAIN_ANGLES],
         satellites: 0,
-        satelliteangles: [0i8; 1024],
-        satelliteratios: [0u32; 512],
+        satelliteangles: [0i8; SATELLITE_ANGLES],
+        satelliteratios: [0u32; SATELLITE_RATIOS],
         shallows: 0,
-        shallowcards: [0u16; 768],
-        coefficients: [0i8; 512],
+        shallowcards: [0u16; SHALLOW_CARDS],
+        coefficients: [0i8; COEFFICIENTS],
     }
-}
-
-// Number i of the row of bytes, or 0 past its end.
-pub fn at_u8(xs: &[u8], i: usize) -> u8
-    ensures { λ r. ⌜ r ≡ getD (now (xs .entry)) i 0 ⌝ }
-{
-    if i < xs.len() { xs[i] } else { 0 }
 }
 
 // Number i, or 0 past the end.

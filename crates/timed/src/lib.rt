@@ -12,10 +12,15 @@ ghost use Rattle.timed.specs.Often.{recordsIn, readOften, datedOften, se
 mod often; // repeated calls
 
 use clock::Clock;
+use limits::RECORDS;
 use station::records::Rows;
 
 // A station's rows, from the lent arrays.
-fn rows_from<'a>(places: &'a [u8; 146], amplitudes: &'a [u32; 146], phases: &'a [u32; 146]) -> Rows
+fn rows_from<'a>(
+    places: &'a [u8; RECORDS],
+    amplitudes: &'a [u32; RECORDS],
+    phases: &'a [u32; RECORDS],
+) -> Rows
     ensures { λ r. ⌜ r ≡ record { places = now (places .entry); amplitudes = now (amplitudes .entry); phases = now (phases .entry) } ⌝ }
 {
     Rows {
@@ -59,9 +64,9 @@ pub extern "C" fn timed_cards<'a>(
     file: &'a [u8],
     latitude: i32,
     records: usize,
-    places: &'a [u8; 146],
-    amplitudes: &'a [u32; 146],
-    phases: &'a [u32; 146],
+    places: &'a [u8; RECORDS],
+    amplitudes: &'a [u32; RECORDS],
+    phases: &'a [u32; RECORDS],
     year: u32,
     month: u32,
     repeats: u32,
@@ -84,9 +89,9 @@ pub extern "C" fn timed_dates<'a>(
     file: &'a [u8],
     latitude: i32,
     records: usize,
-    places: &'a [u8; 146],
-    amplitudes: &'a [u32; 146],
-    phases: &'a [u32; 146],
+    places: &'a [u8; RECORDS],
+    amplitudes: &'a [u32; RECORDS],
+    phases: &'a [u32; RECORDS],
     year: u32,
     repeats: u32,
     heights: &mut [i64],
@@ -105,9 +110,9 @@ pub extern "C" fn timed_series<'a>(
     file: &'a [u8],
     latitude: i32,
     records: usize,
-    places: &'a [u8; 146],
-    amplitudes: &'a [u32; 146],
-    phases: &'a [u32; 146],
+    places: &'a [u8; RECORDS],
+    amplitudes: &'a [u32; RECORDS],
+    phases: &'a [u32; RECORDS],
     year: u32,
     month: u32,
     repeats: u32,
@@ -126,9 +131,9 @@ pub extern "C" fn timed_turns<'a>(
     file: &'a [u8],
     latitude: i32,
     records: usize,
-    places: &'a [u8; 146],
-    amplitudes: &'a [u32; 146],
-    phases: &'a [u32; 146],
+    places: &'a [u8; RECORDS],
+    amplitudes: &'a [u32; RECORDS],
+    phases: &'a [u32; RECORDS],
     year: u32,
     month: u32,
     last: u32,
@@ -153,9 +158,9 @@ pub extern "C" fn timed_heights<'a>(
     file: &'a [u8],
     latitude: i32,
     records: usize,
-    places: &'a [u8; 146],
-    amplitudes: &'a [u32; 146],
-    phases: &'a [u32; 146],
+    places: &'a [u8; RECORDS],
+    amplitudes: &'a [u32; RECORDS],
+    phases: &'a [u32; RECORDS],
     year: u32,
     month: u32,
     minutes: &'a [u32],

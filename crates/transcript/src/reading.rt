@@ -7,6 +7,7 @@ ghost use Rattle.station.specs.inner.Rows.{noRows};
 ghost use Rattle.transcript.specs.inner.Posts.{FilePost, HeardPost, Lent, keptRow};
 use crate::input;
 use crate::input::Window;
+use limits::RECORDS;
 use script::Call;
 use script::Entry;
 use station::records::Rows;
@@ -159,9 +160,9 @@ fn no_rows() -> Rows
     ensures { λ r. ⌜ r ≡ noRows ⌝ }
 {
     Rows {
-        places: [0u8; 146],
-        amplitudes: [0u32; 146],
-        phases: [0u32; 146],
+        places: [0u8; RECORDS],
+        amplitudes: [0u32; RECORDS],
+        phases: [0u32; RECORDS],
     }
 }
 
@@ -169,7 +170,7 @@ fn no_rows() -> Rows
 fn with_row(rows: Rows, k: usize, place: u8, amplitude: u32, phase: u32) -> Rows
     ensures { λ r. ⌜ r ≡ keptRow rows k place amplitude phase ⌝ }
 {
-    if 146 <= k {
+    if RECORDS <= k {
         return rows;
     }
     let mut out = rows;

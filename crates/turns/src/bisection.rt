@@ -4,12 +4,14 @@ ghost use mathlib.Core.Bool.{cond};
 ghost use Prim.Native.Nat.{_+_, _≤_, _<_};
 ghost use lib.Dec.{ltb};
 ghost use lib.IntN.{natAbs};
+ghost use Rattle.limits.specs.Limits.{mostMinutes, mostRecords};
 ghost use Rattle.cosine.specs.Fixed.{IsTable};
 ghost use Rattle.turns.specs.inner.Lists.{InRange, slopeOf};
 ghost use Rattle.turns.specs.inner.Bisection.{BracketPre, TurnedPost};
 use crate::sense::differs;
 use crate::slopes::slope;
 use cosine::ENTRIES;
+use limits::RECORDS;
 
 // A turn's minute; the later of the two ends that hold the change, and the slope there.
 pub struct Turned {
@@ -28,7 +30,7 @@ pub struct Bracket {
 
 // The turn between two ends one minute apart: the end with the smaller slope size, the earlier if equal.
 fn turn_between(minute: u64, early: i64, late: i64) -> Turned
-    requires { ⌜ minute < 44_640 ⌝ }
+    requires { ⌜ minute < mostMinutes ⌝ }
     ensures { λ r. ⌜ r .turn ≡ cond (ltb (natAbs late) (natAbs early)) (minute + 1) minute ⌝ }
     ensures { λ r. ⌜ (r .later ≡ minute + 1) × (r .slope ≡ late) ⌝ }
 {
@@ -50,15 +52,15 @@ fn turn_between(minute: u64, early: i64, late: i64) -> Turned
 // Halves a bracket until its ends are one minute apart, and gives the turn between them.
 pub fn bisect<'a>(
     table: &'a [u32; ENTRIES],
-    arguments: &'a [u64; 146],
-    lags: &'a [u16; 146],
-    frequencies: &'a [u64; 146],
-    ps: &'a [i32; 146],
-    qs: &'a [i32; 146],
+    arguments: &'a [u64; RECORDS],
+    lags: &'a [u16; RECORDS],
+    frequencies: &'a [u64; RECORDS],
+    ps: &'a [i32; RECORDS],
+    qs: &'a [i32; RECORDS],
     count: usize,
     bracket: Bracket,
 ) -> Turned
-    requires { ⌜ IsTable (now table) × ((count ≤ 146) × InRange count (now frequencies)) ⌝ }
+    requires { ⌜ IsTable (now table) × ((count ≤ mostRecords) × InRange count (now frequencies)) ⌝ }
     requires { ⌜ BracketPre (slopeOf (now arguments) (now lags) (now frequencies) (now ps) (now qs) count) bracket ⌝ }
     ensures { λ r. ⌜ TurnedPost (slopeOf (now (arguments .entry)) (now (lags .entry)) (now (frequencies .entry)) (now (ps .entry)) (now (qs .entry)) count) (bracket .start) (bracket .length) r ⌝ }
 {

@@ -4,6 +4,7 @@ ghost use mathlib.Core.Path.{_≡_};
 ghost use mathlib.Core.List.{map};
 ghost use Prim.Native.Nat.{_≤_, _<_};
 ghost use lib.ListN.{length};
+ghost use Rattle.limits.specs.Limits.{mostMinutes, mostRecords};
 ghost use Rattle.cosine.specs.Fixed.{IsTable};
 ghost use Rattle.turns.specs.inner.Lists.{InRange, slopeOf};
 ghost use Rattle.turns.specs.Search.{turnsOf};
@@ -22,6 +23,8 @@ pub mod strides; // a station's stride
 use crate::search::Reach;
 use crate::search::Summary;
 use cosine::ENTRIES;
+use limits::MINUTES;
+use limits::RECORDS;
 use month_prepared::Month;
 
 // What a search returns: what it found, or that there are more turns than a lent buffer holds.
@@ -33,17 +36,17 @@ pub enum Searched {
 // Writes the kept minutes and their heights from the front of the lent buffers.
 fn write_turns<'a>(
     table: &'a [u32; ENTRIES],
-    arguments: &'a [u64; 146],
-    lags: &'a [u16; 146],
-    frequencies: &'a [u64; 146],
-    ps: &'a [i32; 146],
-    qs: &'a [i32; 146],
+    arguments: &'a [u64; RECORDS],
+    lags: &'a [u16; RECORDS],
+    frequencies: &'a [u64; RECORDS],
+    ps: &'a [i32; RECORDS],
+    qs: &'a [i32; RECORDS],
     count: usize,
     kept: &'a [u16],
     minutes: &mut [u32],
     heights: &mut [i64],
 )
-    requires { ⌜ IsTable (now table) × (count ≤ 146) ⌝ }
+    requires { ⌜ IsTable (now table) × (count ≤ mostRecords) ⌝ }
     requires { ⌜ Minutes (now kept) × ((length (now kept) ≤ length (now minutes)) × (length (now kept) ≤ length (now heights))) ⌝ }
     ensures { λ r. ⌜ now (minutes .exit) ≡ inFront (now (kept .entry)) (now (minutes .entry)) ⌝ }
     ensures { λ r. ⌜ now (heights .exit) ≡ inFront (map (heightOf (now (arguments .entry)) (now (lags .entry)) (now (frequencies .entry)) (now (ps .entry)) (now (qs .entry)) count) (now (kept .entry))) (now (heights .entry)) ⌝ }
@@ -68,15 +71,15 @@ pub fn turns(
     minutes: &mut [u32],
     heights: &mut [i64],
 ) -> Searched
-    requires { ⌜ IsTable (now table) × ((month .count ≤ 146) × InRange (month .count) (month .frequencies)) ⌝ }
-    requires { ⌜ (0 < stride) × ((stride ≤ 720) × ((first ≤ last) × (last ≤ 44_640))) ⌝ }
+    requires { ⌜ IsTable (now table) × ((month .count ≤ mostRecords) × InRange (month .count) (month .frequencies)) ⌝ }
+    requires { ⌜ (0 < stride) × ((stride ≤ 720) × ((first ≤ last) × (last ≤ mostMinutes))) ⌝ }
     ensures { λ r. ⌜ givenOf r (now (minutes .exit)) (now (heights .exit)) ≡ given (heightOf (month .arguments) (month .lags) (month .frequencies) (month .ps) (month .qs) (month .count)) (turnsOf (slopeOf (month .arguments) (month .lags) (month .frequencies) (month .ps) (month .qs) (month .count)) stride first last) (now (minutes .entry)) (now (heights .entry)) ⌝ }
 {
     let reach = Reach {
         stride: stride,
         last: last,
     };
-    let mut kept = [0u16; 44640];
+    let mut kept = [0u16; MINUTES];
     let found = search::find_turns(
         table,
         &month.arguments,

@@ -2,6 +2,7 @@
 ghost use mathlib.Core.Path.{_≡_};
 ghost use Prim.Native.Nat.{_≤_, _<_};
 ghost use lib.ListN.{length};
+ghost use Rattle.limits.specs.Limits.{mostMinutes, mostRecords};
 ghost use Rattle.cosine.specs.Fixed.{IsTable};
 ghost use Rattle.turns.specs.inner.Lists.{InRange, slopeOf};
 ghost use Rattle.turns.specs.Search.{turnsOf};
@@ -12,6 +13,8 @@ use crate::sense::differs;
 use crate::sense::rises;
 use crate::slopes::slope;
 use cosine::ENTRIES;
+use limits::MINUTES;
+use limits::RECORDS;
 
 // How many turns were found, and whether the first is high.
 pub struct Summary {
@@ -37,17 +40,17 @@ struct Next {
 // Strides from a minute until the ends' slopes differ in sense, and finds the turn between them.
 fn next_turn<'a>(
     table: &'a [u32; ENTRIES],
-    arguments: &'a [u64; 146],
-    lags: &'a [u16; 146],
-    frequencies: &'a [u64; 146],
-    ps: &'a [i32; 146],
-    qs: &'a [i32; 146],
+    arguments: &'a [u64; RECORDS],
+    lags: &'a [u16; RECORDS],
+    frequencies: &'a [u64; RECORDS],
+    ps: &'a [i32; RECORDS],
+    qs: &'a [i32; RECORDS],
     count: usize,
     reach: Reach,
     minute: u64,
     here: i64,
 ) -> Next
-    requires { ⌜ IsTable (now table) × ((count ≤ 146) × InRange count (now frequencies)) ⌝ }
+    requires { ⌜ IsTable (now table) × ((count ≤ mostRecords) × InRange count (now frequencies)) ⌝ }
     requires { ⌜ Reaches reach × (minute ≤ reach .last) ⌝ }
     requires { ⌜ here ≡ slopeOf (now arguments) (now lags) (now frequencies) (now ps) (now qs) count minute ⌝ }
     ensures { λ r. ⌜ NextPost (slopeOf (now (arguments .entry)) (now (lags .entry)) (now (frequencies .entry)) (now (ps .entry)) (now (qs .entry)) count) (reach .stride) (reach .last) minute r ⌝ }
@@ -90,19 +93,19 @@ fn next_turn<'a>(
 // Finds every turn, and keeps the minutes.
 pub fn find_turns<'a>(
     table: &'a [u32; ENTRIES],
-    arguments: &'a [u64; 146],
-    lags: &'a [u16; 146],
-    frequencies: &'a [u64; 146],
-    ps: &'a [i32; 146],
-    qs: &'a [i32; 146],
+    arguments: &'a [u64; RECORDS],
+    lags: &'a [u16; RECORDS],
+    frequencies: &'a [u64; RECORDS],
+    ps: &'a [i32; RECORDS],
+    qs: &'a [i32; RECORDS],
     count: usize,
     reach: Reach,
     first: u64,
-    kept: &mut [u16; 44640],
+    kept: &mut [u16; MINUTES],
 ) -> Summary
-    requires { ⌜ IsTable (now table) × ((count ≤ 146) × InRange count (now frequencies)) ⌝ }
+    requires { ⌜ IsTable (now table) × ((count ≤ mostRecords) × InRange count (now frequencies)) ⌝ }
     requires { ⌜ Reaches reach × (first ≤ reach .last) ⌝ }
-    requires { ⌜ length (now kept) ≡ 44_640 ⌝ }
+    requires { ⌜ length (now kept) ≡ mostMinutes ⌝ }
     ensures { λ r. ⌜ FoundPost (turnsOf (slopeOf (now (arguments .entry)) (now (lags .entry)) (now (frequencies .entry)) (now (ps .entry)) (now (qs .entry)) count) (reach .stride) first (reach .last)) (now (kept .exit)) r ⌝ }
 {
     let here = slope(table, arguments, lags, frequencies, ps, qs, count, first);

@@ -2,17 +2,19 @@
 ghost use mathlib.Core.Path.{_≡_};
 ghost use Prim.Native.Nat.{_*_, _≤_, _^_};
 ghost use lib.IntN.{natAbs};
+ghost use Rattle.limits.specs.Limits.{mostFrequency, mostMinutes, mostRecords};
 ghost use Rattle.cosine.specs.Fixed.{IsTable};
 ghost use Rattle.turns.specs.Slope.{fall};
 ghost use Rattle.turns.specs.inner.Lists.{InRange, slopeOf};
 use cosine::ENTRIES;
 use heights::minuteangle;
 use heights::shares;
+use limits::RECORDS;
 
 // What a constituent of weights P and Q takes from the slope at an angle.
 fn fall_at(table: &[u32; ENTRIES], angle: u64, p: i32, q: i32, frequency: u64) -> i64
     requires { ⌜ IsTable (now table) ⌝ }
-    requires { ⌜ frequency ≤ 4_999_999_999 ⌝ }
+    requires { ⌜ frequency ≤ mostFrequency ⌝ }
     ensures { λ r. ⌜ r ≡ fall p q frequency angle ⌝ }
     ensures { λ r. ⌜ natAbs r ≤ 2 ^ 32 * 4_999_999 ⌝ }
 {
@@ -24,16 +26,16 @@ fn fall_at(table: &[u32; ENTRIES], angle: u64, p: i32, q: i32, frequency: u64) -
 // The slope of the first `count` constituents at a minute.
 pub fn slope<'a>(
     table: &'a [u32; ENTRIES],
-    arguments: &'a [u64; 146],
-    lags: &'a [u16; 146],
-    frequencies: &'a [u64; 146],
-    ps: &'a [i32; 146],
-    qs: &'a [i32; 146],
+    arguments: &'a [u64; RECORDS],
+    lags: &'a [u16; RECORDS],
+    frequencies: &'a [u64; RECORDS],
+    ps: &'a [i32; RECORDS],
+    qs: &'a [i32; RECORDS],
     count: usize,
     minute: u64,
 ) -> i64
-    requires { ⌜ IsTable (now table) × ((count ≤ 146) × InRange count (now frequencies)) ⌝ }
-    requires { ⌜ minute ≤ 44_640 ⌝ }
+    requires { ⌜ IsTable (now table) × ((count ≤ mostRecords) × InRange count (now frequencies)) ⌝ }
+    requires { ⌜ minute ≤ mostMinutes ⌝ }
     ensures { λ r. ⌜ r ≡ slopeOf (now (arguments .entry)) (now (lags .entry)) (now (frequencies .entry)) (now (ps .entry)) (now (qs .entry)) count minute ⌝ }
 {
     let mut falls: i64 = 0;

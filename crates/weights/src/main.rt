@@ -8,6 +8,7 @@ ghost use Rattle.calendar.specs.Calendar.{inRange};
 ghost use Rattle.transcript.specs.inner.Posts.{Lent};
 use calls::settings;
 use card_file::reader;
+use limits::RECORDS;
 use month_prepared::Month;
 use refusals::Answer;
 use station::Station;
@@ -120,7 +121,7 @@ fn put_constituent(page: &mut [u8], at: usize, argument: u64, p: i32, q: i32) ->
 fn put_month(page: &mut [u8], at: usize, month: Month) -> usize {
     let mut next = output::put_bytes(page, at, b"month");
     let mut i = 0;
-    while i < 146 && i < month.count {
+    while i < RECORDS && i < month.count {
         next = put_constituent(page, next, month.arguments[i], month.ps[i], month.qs[i]);
         i += 1;
     }

@@ -4,6 +4,7 @@ use mathlib.Core.Path.{_≡_}
 use mathlib.Core.List.{List}
 use lib.ListN.{length, getD}
 use lib.IntN.{ℤ}
+use Rattle.limits.specs.Limits.{mostMains, mostSatellites, satellitesACard}
 use Rattle.table.specs.inner.View.{listed, naturals, mainOf}
 use Rattle.table.specs.Table.{Main}
 use Rattle.card.specs.inner.Answers.{numberOf, faultGives}
@@ -17,7 +18,7 @@ use Rattle.card_constituents.specs.Satellites.{withCard}
 
 -- the arrays of mains have all their rows
 abbrev pub MainRoom : List ℕ → List ℤ → Type 0
-MainRoom cards angles = (length cards ≡ 192) × (length angles ≡ 448)
+MainRoom cards angles = (length cards ≡ 3 * mostMains) × (length angles ≡ 7 * mostMains)
 
 -- where the satellites of main k end: its row has its place, its first satellite, and their count
 abbrev pub satellitesEnd : List ℕ → ℕ → ℕ
@@ -48,12 +49,12 @@ MainsKept cards angles before anglesbefore m = (sat : List ℤ) (ratios : List �
 -- a main that a card gives had room, for its satellites too, and has none so far
 abbrev pub Begun : MainStep → List ℕ → ℕ → ℕ → Type 0
 Begun main.Ends cards m satellites = Unit
-Begun (main.Gives count) cards m satellites = (m < 64) × (satellites + count ≤ 256) × (satellitesEnd cards m ≡ satellites) × Stored cards m satellites
+Begun (main.Gives count) cards m satellites = (m < mostMains) × (satellites + count ≤ mostSatellites) × (satellitesEnd cards m ≡ satellites) × Stored cards m satellites
 Begun (main.Fails r) cards m satellites = Unit
 
 -- a main with a satellite card more has its satellites behind those of the mains before
 abbrev pub Grown : Fault → List ℕ → ℕ → ℕ → ℕ → Type 0
-Grown fault.Clear cards m satellites count = (satellitesEnd cards m ≡ satellites + min count 3) × Stored cards m satellites
+Grown fault.Clear cards m satellites count = (satellitesEnd cards m ≡ satellites + min count satellitesACard) × Stored cards m satellites
 Grown (fault.Bad r) cards m satellites count = Unit
 
 -- the mains of rows of cards and of satellites, over rows of Doodson numbers and phases

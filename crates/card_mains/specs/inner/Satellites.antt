@@ -4,6 +4,7 @@ use mathlib.Core.Path.{_≡_}
 use mathlib.Core.List.{List}
 use lib.ListN.{length}
 use lib.IntN.{ℤ}
+use Rattle.limits.specs.Limits.{mostSatellites}
 
 -- the entries before one are as they were
 abbrev pub Kept : {A : Type 0} → (ℕ → A) → (ℕ → A) → ℕ → Type 0
@@ -11,4 +12,4 @@ Kept now before n = (k : ℕ) → k < n → now k ≡ before k
 
 -- the arrays of satellites have all their rows
 abbrev pub SatelliteRoom : List ℤ → List ℕ → Type 0
-SatelliteRoom angles ratios = (length angles ≡ 1024) × (length ratios ≡ 512)
+SatelliteRoom angles ratios = (length angles ≡ 4 * mostSatellites) × (length ratios ≡ 2 * mostSatellites)

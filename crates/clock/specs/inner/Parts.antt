@@ -2,6 +2,7 @@
 -- Assumes nothing.
 use Prim.Native.Nat.{ℕ, min}
 use mathlib.Core.Bool.{true, false}
+use Rattle.limits.specs.Limits.{mostRecords}
 use Rattle.table.specs.declared.Table.{Table}
 use Rattle.station.specs.declared.Station.{Station}
 use Rattle.month_prepared.specs.declared.Month.{Month}
@@ -59,7 +60,7 @@ withMonth c last m =
       station = c .station;
       dated = true;
       last = last;
-      count = min (m .count) 146;
+      count = min (m .count) mostRecords;
       arguments = m .arguments;
       lags = m .lags;
       frequencies = m .frequencies;

@@ -3,6 +3,7 @@ use Prim.Native.Nat.{ℕ, _+_, _*_}
 use mathlib.Core.List.{List}
 use lib.IntN.{ℤ, pos}
 use lib.ListN.{getD}
+use Rattle.limits.specs.Limits.{mostMains}
 use Rattle.table.specs.Table.{Satellite}
 use Rattle.table.specs.inner.View.{listed, naturals, satelliteOf}
 use Rattle.month_satellites.specs.Latitude.{Factors}
@@ -15,7 +16,7 @@ sumAt kept k = record { x = getD kept (3 * k + 1) (pos 0); y = getD kept (3 * k 
 
 -- the pairs of 64 mains, by refusal 11
 abbrev pub pairsOf : List ℤ → List Corrected
-pairsOf kept = listed (λ k. checked (sumAt kept k)) 0 64
+pairsOf kept = listed (λ k. checked (sumAt kept k)) 0 mostMains
 
 -- the satellites of the main in row k: a row of its place, its first satellite and their count
 unfoldable pub rowSatellites : List ℕ → List ℤ → List ℕ → ℕ → List Satellite

@@ -3,6 +3,7 @@ use Prim.Native.Nat.{ℕ, zero, suc, _+_, min}
 use mathlib.Core.List.{List, [], _∷_}
 use lib.IntN.{ℤ, pos}
 use lib.ListN.{getD}
+use Rattle.limits.specs.Limits.{mostRecords}
 use Rattle.month_prepared.specs.Prepared.{Constituent}
 use Rattle.month_prepared.specs.declared.Month.{Month}
 
@@ -29,4 +30,4 @@ constituentsFrom arguments lags frequencies ps qs count = constituentsAfter argu
 
 -- those of a month; it has room for 146
 abbrev pub constituentsOf : Month → List Constituent
-constituentsOf m = constituentsFrom (m .arguments) (m .lags) (m .frequencies) (m .ps) (m .qs) (min (m .count) 146)
+constituentsOf m = constituentsFrom (m .arguments) (m .lags) (m .frequencies) (m .ps) (m .qs) (min (m .count) mostRecords)

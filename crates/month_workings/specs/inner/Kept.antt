@@ -4,6 +4,7 @@ use mathlib.Core.Path.{_≡_}
 use mathlib.Core.List.{List}
 use lib.IntN.{ℤ, pos}
 use lib.ListN.{length, getD, replicate}
+use Rattle.limits.specs.Limits.{mostMains}
 use Rattle.angles.specs.Ticks.{turn}
 use Rattle.table.specs.inner.View.{listed}
 use Rattle.month_arguments.specs.Longitudes.{Longitudes}
@@ -26,11 +27,11 @@ Has kept k = getD (argumentsIn kept) k 0 < turn
 
 -- no main is: every number is T
 abbrev pub noneKept : List ℤ
-noneKept = replicate 192 (pos turn)
+noneKept = replicate (3 * mostMains) (pos turn)
 
 -- V and the pair of every main that is worked out are its own
 pub record Kept (argument : ℕ → ℕ) (corrected : ℕ → Corrected) (kept : List ℤ) : Type 0 where
-  pub room : length kept ≡ 192
+  pub room : length kept ≡ 3 * mostMains
   pub arguments : (k : ℕ) → Has kept k → getD (argumentsIn kept) k 0 ≡ argument k
   pub pairs : (k : ℕ) → Has kept k → getD (pairsOf kept) k (pair one) ≡ corrected k
 

@@ -10,7 +10,9 @@ use mathlib.Core.Path.{_≡_}
 use mathlib.Core.Bool.{true, false}
 use lib.ListN.{length}
 use lib.Dec.{ltb}
-use lib.IntN.{pos, negsuc}
+use lib.IntN.{pos, negℤ}
+use Prim.Native.Nat.{_+_}
+use Rattle.limits.specs.Limits.{mostLatitude, mostRecords}
 use lib.Signed.{ltZ}
 use borrow.Author.Tests.{lt-ltb, le-ltb}
 use Rattle.refusals.specs.declared.Refusal.the-variants.{OutOfRange, TooMany}
@@ -30,25 +32,25 @@ returns : tie.Need-returns
 unfolding stationOutcome
 returns c =
     let a = c .before .before in
-    let low : ltZ (a .args .latitude) (negsuc 5399) ≡ true = rw (toZ-ofZ w32 (a .args .latitude) (a .fits .latitude)) at (c .if1 .taken) in
+    let low : ltZ (a .args .latitude) (negℤ (pos mostLatitude)) ≡ true = rw (toZ-ofZ w32 (a .args .latitude) (a .fits .latitude)) at (c .if1 .taken) in
     record { says = simp low; keeps = not-accepted _ OutOfRange 0 refl }
 
 returns-2 : tie.Need-returns-2
 unfolding stationOutcome
 returns-2 c =
     let a = c .before .before .before in
-    let low : ltZ (a .args .latitude) (negsuc 5399) ≡ false = rw (toZ-ofZ w32 (a .args .latitude) (a .fits .latitude)) at (c .before .if1 .left) in
-    let high : ltZ (pos 5400) (a .args .latitude) ≡ true = rw (toZ-ofZ w32 (a .args .latitude) (a .fits .latitude)) at (c .if2 .taken) in
+    let low : ltZ (a .args .latitude) (negℤ (pos mostLatitude)) ≡ false = rw (toZ-ofZ w32 (a .args .latitude) (a .fits .latitude)) at (c .before .if1 .left) in
+    let high : ltZ (pos mostLatitude) (a .args .latitude) ≡ true = rw (toZ-ofZ w32 (a .args .latitude) (a .fits .latitude)) at (c .if2 .taken) in
     record { says = simp (low, high); keeps = not-accepted _ OutOfRange 0 refl }
 
 returns-3 : tie.Need-returns-3
 unfolding stationOutcome
 returns-3 c =
     let a = c .before .before .before .before in
-    let low : ltZ (a .args .latitude) (negsuc 5399) ≡ false = rw (toZ-ofZ w32 (a .args .latitude) (a .fits .latitude)) at (c .before .before .if1 .left) in
-    let high : ltZ (pos 5400) (a .args .latitude) ≡ false = rw (toZ-ofZ w32 (a .args .latitude) (a .fits .latitude)) at (c .before .if2 .left) in
-    let long : ltb 146 (length (recordsOf (a .args .rows) (a .args .n))) ≡ true = rw (records-length (a .args .rows .places) (a .args .rows .amplitudes) (a .args .rows .phases) 0 (a .args .n)) (lt-ltb _ _ (c .if3 .taken)) in
-    record { says = simp (low, high, long); keeps = not-accepted _ TooMany 147 refl }
+    let low : ltZ (a .args .latitude) (negℤ (pos mostLatitude)) ≡ false = rw (toZ-ofZ w32 (a .args .latitude) (a .fits .latitude)) at (c .before .before .if1 .left) in
+    let high : ltZ (pos mostLatitude) (a .args .latitude) ≡ false = rw (toZ-ofZ w32 (a .args .latitude) (a .fits .latitude)) at (c .before .if2 .left) in
+    let long : ltb mostRecords (length (recordsOf (a .args .rows) (a .args .n))) ≡ true = rw (records-length (a .args .rows .places) (a .args .rows .amplitudes) (a .args .rows .phases) 0 (a .args .n)) (lt-ltb _ _ (c .if3 .taken)) in
+    record { says = simp (low, high, long); keeps = not-accepted _ TooMany (mostRecords + 1) refl }
 
 take-records-requires : tie.Need-take-records-requires
 take-records-requires c κs = search needs
@@ -57,9 +59,9 @@ returns-4 : tie.Need-returns-4
 unfolding stationOutcome
 returns-4 c =
     let a = c .before .before .before .before .before in
-    let low : ltZ (a .args .latitude) (negsuc 5399) ≡ false = rw (toZ-ofZ w32 (a .args .latitude) (a .fits .latitude)) at (c .before .before .before .if1 .left) in
-    let high : ltZ (pos 5400) (a .args .latitude) ≡ false = rw (toZ-ofZ w32 (a .args .latitude) (a .fits .latitude)) at (c .before .before .if2 .left) in
-    let short : ltb 146 (length (recordsOf (a .args .rows) (a .args .n))) ≡ false = rw (records-length (a .args .rows .places) (a .args .rows .amplitudes) (a .args .rows .phases) 0 (a .args .n)) (le-ltb _ _ (c .before .if3 .left)) in
+    let low : ltZ (a .args .latitude) (negℤ (pos mostLatitude)) ≡ false = rw (toZ-ofZ w32 (a .args .latitude) (a .fits .latitude)) at (c .before .before .before .if1 .left) in
+    let high : ltZ (pos mostLatitude) (a .args .latitude) ≡ false = rw (toZ-ofZ w32 (a .args .latitude) (a .fits .latitude)) at (c .before .before .if2 .left) in
+    let short : ltb mostRecords (length (recordsOf (a .args .rows) (a .args .n))) ≡ false = rw (records-length (a .args .rows .places) (a .args .rows .amplitudes) (a .args .rows .phases) 0 (a .args .n)) (le-ltb _ _ (c .before .if3 .left)) in
     record {
       says = simp (low, high, short) (c .take-records .ensures .says);
       keeps = λ e. rw (c .take-records .ensures .keeps e, c .before .before .before .before .no-station .ensures, toZ-ofZ w32 (a .args .latitude) (a .fits .latitude)) (kept-is (a .args .latitude) (a .args .rows) (a .args .n) (c .before .if3 .left));

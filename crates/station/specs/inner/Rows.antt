@@ -2,6 +2,7 @@
 use Prim.Native.Nat.{ℕ, zero, suc}
 use mathlib.Core.List.{List}
 use lib.ListN.{getD, set, replicate}
+use Rattle.limits.specs.Limits.{mostRecords}
 use Rattle.station.specs.declared.records.Record.{Record}
 use Rattle.station.specs.declared.records.Rows.{Rows}
 
@@ -13,7 +14,7 @@ abbrev pub lentAt : List Record → ℕ → Record
 lentAt rs k = getD rs k blank
 
 abbrev pub noRows : Rows
-noRows = record { places = replicate 146 0; amplitudes = replicate 146 0; phases = replicate 146 0 }
+noRows = record { places = replicate mostRecords 0; amplitudes = replicate mostRecords 0; phases = replicate mostRecords 0 }
 
 abbrev pub putRow : Rows → ℕ → ℕ → ℕ → ℕ → Rows
 putRow rows k place amplitude phase =

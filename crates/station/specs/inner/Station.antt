@@ -4,6 +4,7 @@ use Prim.Native.Nat.{ℕ, zero, suc, _+_, min}
 use mathlib.Core.List.{List, [], _∷_}
 use lib.ListN.{getD, set, replicate}
 use lib.IntN.{ℤ}
+use Rattle.limits.specs.Limits.{mostRecords}
 use Rattle.station.specs.declared.records.Rows.{Rows}
 use Rattle.station.specs.Records.{recordsFrom}
 use Rattle.station.specs.declared.Station as code
@@ -11,7 +12,7 @@ use Rattle.station.specs.Station.{Station}
 
 -- the station of the code's struct
 unfoldable pub stationOf : code.Station → Station
-stationOf s = record { latitude = s .latitude; records = recordsFrom (s .places) (s .amplitudes) (s .lags) 0 (min (s .count) 146) }
+stationOf s = record { latitude = s .latitude; records = recordsFrom (s .places) (s .amplitudes) (s .lags) 0 (min (s .count) mostRecords) }
 
 -- the places of the first k records, the last one first
 unfoldable pub placesBefore : List ℕ → ℕ → List ℕ
@@ -22,7 +23,7 @@ placesBefore places (suc k) = getD places k 0 ∷ placesBefore places k
 
 abbrev pub noStation : ℤ → code.Station
 noStation latitude =
-    record { latitude = latitude; count = 0; places = replicate 146 0; amplitudes = replicate 146 0; lags = replicate 146 0 }
+    record { latitude = latitude; count = 0; places = replicate mostRecords 0; amplitudes = replicate mostRecords 0; lags = replicate mostRecords 0 }
 
 abbrev pub putRecord : code.Station → ℕ → ℕ → ℕ → ℕ → code.Station
 putRecord s k place amplitude phase =

@@ -6,6 +6,7 @@ use mathlib.Core.List.{List}
 use lib.Dec.{eqb}
 use lib.IntN.{ℤ}
 use lib.ListN.{getD}
+use Rattle.limits.specs.Limits.{placesInAByte}
 use Rattle.table.specs.inner.View.{listed, naturals, mainOf, shallowOf}
 use Rattle.table.specs.Table as table
 use Rattle.table.specs.Definitions.{Definition, main, shallow, undefined, definitionAt}
@@ -41,7 +42,7 @@ pub record Finds (maincards : List ℕ) (mains : ℕ) (shallowcards : List ℕ) 
 
 -- for each place the first of so many rows that has it, or their number
 abbrev pub FirstRows : (ℕ → ℕ) → ℕ → List ℕ → Type 0
-FirstRows placeOf rows first = (place : ℕ) → place < 256 → getD first place 0 ≡ firstRow placeOf place 0 rows
+FirstRows placeOf rows first = (place : ℕ) → place < placesInAByte → getD first place 0 ≡ firstRow placeOf place 0 rows
 
 -- what is found by the first rows of any cards is what stands there
 abbrev pub FindsBy : List ℕ → ℕ → List ℕ → ℕ → ℕ → Found → Type 0

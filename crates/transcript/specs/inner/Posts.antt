@@ -5,6 +5,7 @@ use mathlib.Core.Bool.{true, cond}
 use mathlib.Core.List.{List}
 use lib.Dec.{ltb}
 use lib.ListN.{getD}
+use Rattle.limits.specs.Limits.{mostRecords}
 use Rattle.transcript.specs.inner.Window.{Within}
 use Rattle.station.specs.declared.records.Rows.{Rows}
 use Rattle.station.specs.inner.Rows.{putRow}
@@ -22,7 +23,7 @@ pub record FilePost (n bytes : ℕ) (left : List ℕ) (f : CardFile) : Type 0 wh
 
 -- the rows with record k, from 0: 146 are kept
 abbrev pub keptRow : Rows → ℕ → ℕ → ℕ → ℕ → Rows
-keptRow rows k place amplitude phase = cond (ltb k 146) (putRow rows k place amplitude phase) rows
+keptRow rows k place amplitude phase = cond (ltb k mostRecords) (putRow rows k place amplitude phase) rows
 
 -- what a call asks can be lent: a card file's bytes in a buffer of n, and places in buffers of m minutes and h heights
 abbrev pub Fits : ℕ → ℕ → ℕ → Asked → Type 0

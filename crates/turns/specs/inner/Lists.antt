@@ -1,5 +1,6 @@
 -- Only inner contracts cite this: the constituents that five lists hold.
 use Prim.Native.Nat.{ℕ, _≤_, _<_}
+use Rattle.limits.specs.Limits.{mostFrequency}
 use Rattle.heights.specs.Height.{heightAt}
 use Rattle.month_prepared.specs.inner.View.{constituentsFrom}
 use Rattle.turns.specs.Slope.{slopeAt}
@@ -13,7 +14,7 @@ slopeOf arguments lags frequencies ps qs count = slopeAt (constituentsFrom argum
 
 -- "cycles an hour, 0 to 0.4999999999": the first `count` frequencies are in the range of the cards
 abbrev pub InRange : ℕ → List ℕ → Type 0
-InRange count frequencies = (k : ℕ) → k < count → getD frequencies k 0 ≤ 4_999_999_999
+InRange count frequencies = (k : ℕ) → k < count → getD frequencies k 0 ≤ mostFrequency
 
 -- the height of the constituents that five lists hold
 abbrev pub heightOf : List ℕ → List ℕ → List ℕ → List ℤ → List ℤ → ℕ → ℕ → ℤ
