@@ -33,7 +33,7 @@ fn minutes(latitude: i32) -> u64
     if m < 300 {
         return 300;
     }
-    if LATITUDE as u64 < m {
+    if (LATITUDE as u64) < m {
         return LATITUDE as u64;
     }
     m
