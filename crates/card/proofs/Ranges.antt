@@ -12,7 +12,7 @@ use lib.Signed.{leZ, nonNeg}
 use mir.Syntax.{w8, w64}
 use mir.Val.{SFits, toZ, ofZ}
 use mir.ValLaws.{toZ-ofZ}
-use borrow.Author.Tests.{leb-true}
+use borrow.Author.Tests.{leb-true, le-leb}
 use native.Mathlib.Omega.{arith}
 use native.Mathlib.Numerals.{add-one}
 use Rattle.fields.specs.Number as field
@@ -20,22 +20,13 @@ use Rattle.fields.specs.Number.{inRange}
 use Rattle.fields.specs.declared.Field.the-variants.{Value, OutOfRange}
 use Rattle.fields.specs.declared.Field.{Field}
 use Rattle.columns.specs.Columns.{columns}
-use Rattle.card.specs.Formats.{Number}
-use Rattle.card.specs.Card.{good, _>>=_, fieldGives, number, numbersFrom}
-
--- the ends of a range, as the code hands them over
-pub natural-bits : (n : ℕ) → n < 2 ^ 63 → toZ w64 n ≡ pos n
-natural-bits n h = toZ-ofZ w64 (pos n) (record { sfits = h })
-
-pub minus-fits : (n : ℕ) → n ≤ 127 → SFits w64 (pos 0 -ℤ toZ w64 n)
-minus-fits n h = rw (natural-bits n (omega arith), +ℤ-idl (negℤ (pos n))) (fits n h)
-  where
-    fits : (n : ℕ) → n ≤ 127 → SFits w64 (negℤ (pos n))
-    fits zero h = record { sfits = omega arith }
-    fits (suc n) h = record { sfits = omega arith }
-
-pub minus-bits : (n : ℕ) → n ≤ 127 → toZ w64 (ofZ w64 (pos 0 -ℤ toZ w64 n)) ≡ negℤ (pos n)
-minus-bits n h = toZ-ofZ w64 (pos 0 -ℤ toZ w64 n) (minus-fits n h) ∙ rw (natural-bits n (omega arith), +ℤ-idl (negℤ (pos n)))
+use Rattle.card.specs.declared.formats.NumberField.{NumberField}
+use Rattle.card.specs.declared.formats.Row.{Row}
+use Rattle.card.specs.declared.formats.Row.the-variants as row
+use Rattle.card.specs.Formats.{rowField}
+use Rattle.card.specs.inner.Fields.{IsSmall}
+use Rattle.refusals.specs.Checked.{good, _>>=_}
+use Rattle.card.specs.Card.{fieldGives, fieldOn, number, numbersFrom}
 
 -- a number that is in its range keeps to its bounds
 pub ranged-within : (low high v : ℤ) (x : field.Number) → Value v ≡ inRange low high x → (leZ low v ≡ true) × (leZ v high ≡ true)
@@ -48,30 +39,38 @@ ranged-within low high v (field.number z) e = go (leZ low z) (leZ z high) refl r
     go true false a b q = let z : _≡_ {A = ℕ} 0 1 = cc in absurd (omega arith)
     go false t a b q = let z : _≡_ {A = ℕ} 0 1 = cc in absurd (omega arith)
 
--- a field with the range -most to most
-pub small-fits : (most : ℕ) (v : ℤ) (x : field.Number) → most ≤ 127 → Value v ≡ inRange (negℤ (pos most)) (pos most) x → SFits w8 v
-small-fits most v x h e = fits most v h (ranged-within (negℤ (pos most)) (pos most) v x e)
+pub leZ-trans : (a b c : ℤ) → leZ a b ≡ true → leZ b c ≡ true → leZ a c ≡ true
+leZ-trans (pos a) (pos b) (pos c) p q = le-leb a c (omega (arith, leb-true a b p, leb-true b c q))
+leZ-trans (pos a) (pos b) (negsuc c) p q = absurd (false≢true q)
+leZ-trans (pos a) (negsuc b) c p q = absurd (false≢true p)
+leZ-trans (negsuc a) b (pos c) p q = refl
+leZ-trans (negsuc a) (pos b) (negsuc c) p q = absurd (false≢true q)
+leZ-trans (negsuc a) (negsuc b) (negsuc c) p q = le-leb c a (omega (arith, leb-true b a p, leb-true c b q))
+
+-- a field whose range fits eight bits
+pub small-fits : (low high v : ℤ) (x : field.Number) → (leZ (negℤ (pos 127)) low ≡ true) × (leZ high (pos 127) ≡ true) → Value v ≡ inRange low high x → SFits w8 v
+small-fits low high v x (l, h) e = let r = ranged-within low high v x e in fits v (leZ-trans (negℤ (pos 127)) low v l (r .0)) (leZ-trans v high (pos 127) (r .1) h)
   where
-    fits : (most : ℕ) (v : ℤ) → most ≤ 127 → (leZ (negℤ (pos most)) v ≡ true) × (leZ v (pos most) ≡ true) → SFits w8 v
-    fits most (pos n) h (a, b) = record { sfits = omega (arith, leb-true n most b) }
-    fits zero (negsuc n) h (a, b) = absurd (false≢true a)
-    fits (suc m) (negsuc n) h (a, b) = record { sfits = omega (arith, leb-true n m a) }
+    fits : (v : ℤ) → leZ (negℤ (pos 127)) v ≡ true → leZ v (pos 127) ≡ true → SFits w8 v
+    fits (pos n) a b = record { sfits = omega (arith, leb-true n 127 b) }
+    fits (negsuc n) a b = record { sfits = omega (arith, leb-true n 126 a) }
 
 -- a field with a range that does not go below 0
-pub natural-is : (least most : ℕ) (v : ℤ) (x : field.Number) → Value v ≡ inRange (pos least) (pos most) x → T (nonNeg v) × (natAbs v ≤ most)
-natural-is least most v x e = at-least v (ranged-within (pos least) (pos most) v x e)
+pub natural-is : (low high v : ℤ) (x : field.Number) → leZ (pos 0) low ≡ true → Value v ≡ inRange low high x → T (nonNeg v) × (natAbs v ≤ natAbs high)
+natural-is low high v x l e = let r = ranged-within low high v x e in at-least v high (leZ-trans (pos 0) low v l (r .0)) (r .1)
   where
-    at-least : (v : ℤ) → (leZ (pos least) v ≡ true) × (leZ v (pos most) ≡ true) → T (nonNeg v) × (natAbs v ≤ most)
-    at-least (pos n) (a, b) = (tt, leb-true n most b)
-    at-least (negsuc n) (a, b) = absurd (false≢true a)
+    at-least : (v high : ℤ) → leZ (pos 0) v ≡ true → leZ v high ≡ true → T (nonNeg v) × (natAbs v ≤ natAbs high)
+    at-least (pos n) (pos m) a b = (tt, leb-true n m b)
+    at-least (pos n) (negsuc m) a b = absurd (false≢true b)
+    at-least (negsuc n) high a b = absurd (false≢true a)
 
 -- a row of fields, field k next: one field more, or none left
-pub numbers-more : (line : List ℕ) (f : ℕ → Number) (left : List ℤ) (k n : ℕ) → k < n
+pub numbers-more : (line : List ℕ) (f : ℕ → NumberField) (left : List ℤ) (k n : ℕ) → k < n
     → numbersFrom line f left k (n - k) ≡ (number line (f k) >>= λ v. numbersFrom line f (left ++ (v ∷ [])) (k + 1) (n - (k + 1)))
 unfolding numbersFrom
 numbers-more line f left k n h = let e : n - k ≡ suc (n - (k + 1)) = omega arith in rw e
 
-pub numbers-none : (line : List ℕ) (f : ℕ → Number) (left : List ℤ) (k n : ℕ) → n ≤ k → numbersFrom line f left k (n - k) ≡ good left
+pub numbers-none : (line : List ℕ) (f : ℕ → NumberField) (left : List ℤ) (k n : ℕ) → n ≤ k → numbersFrom line f left k (n - k) ≡ good left
 unfolding numbersFrom
 numbers-none line f left k n h = let e : n - k ≡ 0 = omega arith in rw e
 
@@ -80,6 +79,11 @@ pub take-stored : {A : Type 0} (vs : List A) (k : ℕ) (v : A) → k < length vs
 take-stored vs k v h = rw (add-one k) (take-suc-set vs k v h)
 
 -- the number in a field of the line is what the field gives
-pub number-is : (line : List ℕ) (f : Number) (x : Field) → x ≡ inRange (f .low) (f .high) (field.numberOf (f .format) (columns line (f .from) (f .width))) → fieldGives x ≡ number line f
+pub number-is : (line : List ℕ) (f : NumberField) (x : Field) → x ≡ fieldOn line f → fieldGives f x ≡ number line f
 unfolding number
-number-is line f x e = ap fieldGives e
+number-is line f x e = ap (fieldGives f) e
+
+-- a row's numbers fit eight bits
+pub row-small : (row : Row) (k : ℕ) → IsSmall (rowField row k)
+row-small row.Doodson k = (refl, refl)
+row-small (row.Differences j) k = (refl, refl)

@@ -1,3 +1,4 @@
+pub mod Faults
 pub mod Formats
 pub mod Card
 pub mod Places

@@ -5,7 +5,10 @@ ghost use lib.ListN.{length, drop};
 ghost use Rattle.columns.specs.Lines.{firstLine};
 ghost use Rattle.card.specs.Card as card;
 ghost use Rattle.card.specs.inner.Lines.{NextLine, openingGives};
-use crate::Refusal;
+use crate::faults;
+use crate::faults::Fault;
+use crate::faults::Trouble;
+use crate::faults::What;
 
 // The line that starts at a byte of the file.
 pub fn line_at(file: &[u8], at: usize) -> &[u8]
@@ -35,31 +38,31 @@ pub fn after_line(file: &[u8], at: usize, width: usize) -> usize
     end
 }
 
-// Where the reader stands behind a part, byte and line, or the refusal that the part earns.
+// Where the reader stands behind a part, byte and line, or what is wrong on a line.
 pub enum Progress {
     Reached(usize, usize),
-    Refused(Refusal, usize),
+    Refused(Fault, usize),
 }
 
 // Whether a card ends its part, has fields to read, or is refused before them.
 pub enum Opening {
     Ends,
     Fields,
-    Fails(Refusal),
+    Fails(Fault),
 }
 
-// How the card on the line begins, after `before` cards of `most`.
-pub fn begins(line: &[u8], before: usize, most: usize) -> Opening
-    ensures { λ r. ⌜ openingGives r ≡ card.opening most before (now (line .entry)) ⌝ }
+// How the card on the line begins, after `before` cards of `most`; one more is `excess`.
+pub fn begins(line: &[u8], before: usize, most: usize, excess: Trouble) -> Opening
+    ensures { λ r. ⌜ openingGives r ≡ card.opening most excess before (now (line .entry)) ⌝ }
 {
     if columns::line_good(line) {
         if columns::is_blank(line) {
             return Opening::Ends;
         }
         if most <= before {
-            return Opening::Fails(Refusal::Count);
+            return Opening::Fails(faults::only(What::Card, excess));
         }
         return Opening::Fields;
     }
-    Opening::Fails(Refusal::Line)
+    Opening::Fails(faults::bad_line(line))
 }

@@ -8,18 +8,21 @@ use native.Mathlib.Omega.{arith}
 use lib.Dec.{leb}
 use borrow.Author.Tests.{leb-false}
 use Rattle.columns.specs.Lines.{lineGood, blankCard}
-use Rattle.card.specs.Card.{Card, good, bad, gives, Opening, opening, opened, blankEnds, readFields, failsFirst}
+use Rattle.refusals.specs.Checked.{good, bad}
+use Rattle.card.specs.declared.faults.Trouble.{Trouble}
+use Rattle.card.specs.declared.faults.Fault.{Fault}
+use Rattle.card.specs.Card.{Card, gives, Opening, opening, opened, blankEnds, readFields, failsFirst}
 
 -- a card that gives something had room
-pub had-room : {A : Type 0} (most before : ℕ) (line : List ℕ) (card : Card A) (a : A) → opened (opening most before line) card ≡ gives a → before < most
+pub had-room : {A : Type 0} (most : ℕ) (excess : Trouble) (before : ℕ) (line : List ℕ) (card : Card A) (a : A) → opened (opening most excess before line) card ≡ gives a → before < most
 unfolding opening
-had-room most before line card a e = go (lineGood line) (blankCard line) (leb most before) refl e
+had-room most excess before line card a e = go _ _ (lineGood line) (blankCard line) (leb most before) refl e
   where
-    go : (s t u : Bool) → leb most before ≡ u → opened (cond s (cond t blankEnds (cond u (failsFirst 6) readFields)) (failsFirst 1)) card ≡ gives a → before < most
-    go true true u h q = let z : _≡_ {A = ℕ} 0 1 = cc in absurd (omega arith)
-    go true false true h q = let z : _≡_ {A = ℕ} 0 1 = cc in absurd (omega arith)
-    go true false false h q = leb-false most before h
-    go false t u h q = let z : _≡_ {A = ℕ} 0 1 = cc in absurd (omega arith)
+    go : (f g : Fault) (s t u : Bool) → leb most before ≡ u → opened (cond s (cond t blankEnds (cond u (failsFirst f) readFields)) (failsFirst g)) card ≡ gives a → before < most
+    go f g true true u h q = let z : _≡_ {A = ℕ} 0 1 = cc in absurd (omega arith)
+    go f g true false true h q = let z : _≡_ {A = ℕ} 0 1 = cc in absurd (omega arith)
+    go f g true false false h q = leb-false most before h
+    go f g false t u h q = let z : _≡_ {A = ℕ} 0 1 = cc in absurd (omega arith)
 
 -- what it gives is what its fields give
 pub opened-good : {A : Type 0} (o : Opening) (card : Card A) (a : A) → opened o card ≡ gives a → card ≡ good a

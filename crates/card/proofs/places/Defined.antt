@@ -11,8 +11,9 @@ use Rattle.columns.specs.Names.{same, namesFrom, placeFrom, placeOf}
 use Rattle.columns.specs.declared.names.Found.the-variants.{At}
 use Rattle.table.specs.inner.View.{listed}
 use Rattle.table.proofs.Rows.{listed-next, listed-end}
-use Rattle.card.specs.Card.{good, bad, isAmong}
-use Rattle.card.specs.Places.{mainAt}
+use Rattle.refusals.specs.Checked.{good, bad}
+use Rattle.card.specs.Card.{isAmong}
+use Rattle.card.specs.Places.{notMain, mainAt}
 
 -- names from place k on are found at place k or above, and below their end
 place-before : (name names : List ℕ) (k n place : ℕ) → placeFrom name (namesFrom names k n) k ≡ At place → place < k + n
@@ -38,13 +39,13 @@ module _ (place width : ℕ) (cards : List ℕ) (k count : ℕ) where
   unfolding isAmong
   among-none h = rw (listed-end (λ i. getD cards (width * i) 0) k count h)
 
-  pub main-more : k < count → mainAt place (listed (λ i. getD cards (width * i) 0) k (count - k)) k ≡ cond (eqb place (getD cards (width * k) 0)) (good k) (mainAt place (listed (λ i. getD cards (width * i) 0) (k + 1) (count - (k + 1))) (k + 1))
+  pub main-more : (j : ℕ) → k < count → mainAt j place (listed (λ i. getD cards (width * i) 0) k (count - k)) k ≡ cond (eqb place (getD cards (width * k) 0)) (good k) (mainAt j place (listed (λ i. getD cards (width * i) 0) (k + 1) (count - (k + 1))) (k + 1))
   unfolding mainAt
-  main-more h = rw (listed-next (λ i. getD cards (width * i) 0) k count h)
+  main-more j h = rw (listed-next (λ i. getD cards (width * i) 0) k count h)
 
-  pub main-none : count ≤ k → mainAt place (listed (λ i. getD cards (width * i) 0) k (count - k)) k ≡ bad 5
+  pub main-none : (j : ℕ) → count ≤ k → mainAt j place (listed (λ i. getD cards (width * i) 0) k (count - k)) k ≡ bad (notMain j)
   unfolding mainAt
-  main-none h = rw (listed-end (λ i. getD cards (width * i) 0) k count h)
+  main-none j h = rw (listed-end (λ i. getD cards (width * i) 0) k count h)
 
 -- among places of two kinds
 pub among-both : (place : ℕ) (ps qs : List ℕ) → isAmong place (ps ++ qs) ≡ (isAmong place ps || isAmong place qs)

@@ -6,70 +6,63 @@ use mathlib.Core.Path.{_≡_, sym, _∙_}
 use mir.Syntax.{w8, w64}
 use mir.Val.{SFits}
 use mir.ValLaws.{toZ-ofZ}
-use native.Mathlib.Omega.{arith}
-use lib.IntN.{pos, negℤ}
-use Rattle.columns.specs.Columns.{columns}
-use Rattle.fields.specs.Number.{numberOf, inRange}
 use Rattle.fields.specs.declared.Field.the-variants.{Value, Malformed, OutOfRange}
-use Rattle.card.specs.Formats.{within}
-use Rattle.card.proofs.Ranges.{natural-bits, minus-fits, minus-bits, small-fits, number-is}
+use Rattle.card.specs.Card.{fieldOn}
+use Rattle.card.proofs.Ranges.{small-fits, number-is}
+use Rattle.card.proofs.field_on.Reads as field-on-reads
+use Rattle.card.proofs.formats.fault_in.Reads as fault-in-reads
 
-cast-high : tie.Need-cast-high
-cast-high c = search needs
-
-sub-ranged-field : tie.Need-sub-ranged-field
-sub-ranged-field c = minus-fits (c .before .args .most) (omega arith)
-
-ranged-field-requires : tie.Need-ranged-field-requires
-ranged-field-requires c κs = search needs
+field-on-requires : tie.Need-field-on-requires
+field-on-requires c κs = search needs
 
 enum-known-v : tie.Need-enum-known-v
 enum-known-v c = search needs
 
-cast-t11 : tie.Need-cast-t11
-cast-t11 c =
-    let a = c .before .before .before .before .before .args in
+cast-t6 : tie.Need-cast-t6
+cast-t6 c =
+    let s = c .before .before .before .before .before in
     let v = c .before .v .given .0 .0 in
     let f : SFits w64 v = search needs in
-    let e : Value v ≡ inRange (negℤ (pos (a .most))) (pos (a .most)) (numberOf (a .format) (columns (a .line .now) (a .from) (a .width))) = sym (c .before .v .given .1) ∙ (rw (minus-bits (a .most) (omega arith), natural-bits (a .most) (omega arith)) at (c .before .before .before .ranged-field .ensures)) in
-    rw (toZ-ofZ w64 v f) (small-fits (a .most) v _ (omega arith) e)
+    let e : Value v ≡ fieldOn (s .args .line .now) (s .args .f) = sym (c .before .v .given .1) ∙ c .before .before .before .field-on .ensures in
+    rw (toZ-ofZ w64 v f) (small-fits _ _ v _ (s .pre) e)
 
 enum-told : tie.Need-enum-told
 enum-told c = search needs
 
+fault-in-requires : tie.Need-fault-in-requires
+fault-in-requires c κs = search needs
+
 enum-told-2 : tie.Need-enum-told-2
 enum-told-2 c = search needs
 
+fault-in-requires-2 : tie.Need-fault-in-requires-2
+fault-in-requires-2 c κs = search needs
+
 returns : tie.Need-returns
 returns c =
-    let a = c .before .before .before .before .before .args in
+    let s = c .before .before .before .before .before in
     let v = c .before .v .given .0 .0 in
     let f : SFits w64 v = search needs in
-    let e : Value v ≡ inRange (negℤ (pos (a .most))) (pos (a .most)) (numberOf (a .format) (columns (a .line .now) (a .from) (a .width))) = sym (c .before .v .given .1) ∙ (rw (minus-bits (a .most) (omega arith), natural-bits (a .most) (omega arith)) at (c .before .before .before .ranged-field .ensures)) in
-    let g : SFits w8 v = small-fits (a .most) v _ (omega arith) e in
-    rw (toZ-ofZ w64 v f, toZ-ofZ w8 v g) (number-is (a .line .now) (within (a .most) (a .from) (a .width) (a .format)) (Value v) e)
+    let e : Value v ≡ fieldOn (s .args .line .now) (s .args .f) = sym (c .before .v .given .1) ∙ c .before .before .before .field-on .ensures in
+    rw (toZ-ofZ w64 v f, toZ-ofZ w8 v (small-fits _ _ v _ (s .pre) e)) (number-is (s .args .line .now) (s .args .f) (Value v) e)
 
 returns-2 : tie.Need-returns-2
-returns-2 c =
-    let a = c .before .before .before .before .args in
-    number-is (a .line .now) (within (a .most) (a .from) (a .width) (a .format)) Malformed (sym (c .enum-told .given .1) ∙ (rw (minus-bits (a .most) (omega arith), natural-bits (a .most) (omega arith)) at (c .before .before .ranged-field .ensures)))
+returns-2 c = let a = c .before .before .before .before .before .args in rw (c .fault-in .ensures) (number-is (a .line .now) (a .f) Malformed (sym (c .before .enum-told .given .1) ∙ c .before .before .before .field-on .ensures))
 
 returns-3 : tie.Need-returns-3
-returns-3 c =
-    let a = c .before .before .before .before .args in
-    number-is (a .line .now) (within (a .most) (a .from) (a .width) (a .format)) OutOfRange (sym (c .enum-told2 .given .1) ∙ (rw (minus-bits (a .most) (omega arith), natural-bits (a .most) (omega arith)) at (c .before .before .ranged-field .ensures)))
+returns-3 c = let a = c .before .before .before .before .before .args in rw (c .fault-in2 .ensures) (number-is (a .line .now) (a .f) OutOfRange (sym (c .before .enum-told2 .given .1) ∙ c .before .before .before .field-on .ensures))
 
 pub small-field-spec : {M : Type 1} → statement M
 small-field-spec =
     tie.close
     (tie.spec
-    cast-high
-    sub-ranged-field
-    ranged-field-requires
+    field-on-requires
     enum-known-v
-    cast-t11
+    cast-t6
     enum-told
+    fault-in-requires
     enum-told-2
+    fault-in-requires-2
     returns
     returns-2
     returns-3)

@@ -5,33 +5,31 @@ use Rattle.card.proofs.small_row.Tie as tie
 use native.Mathlib.Omega.{arith}
 use native.Mathlib.Nat.{sub-zero}
 use mathlib.Core.Path.{_≡_, refl, ap}
-use Prim.Native.Nat.{ℕ, _+_, _-_, _*_, _≤_, _<_}
+use Prim.Native.Nat.{ℕ, _-_, _≤_, _<_}
 use lib.ListN.{length, take}
 use mir.Syntax.{w8}
 use mir.Val.{SFits}
 use mir.ValLaws.{toZ-ofZ}
-use Rattle.fields.specs.declared.Format.the-variants.{Whole}
-use Rattle.card.specs.Formats.{within}
+use Rattle.card.specs.Formats.{rowField}
 use Rattle.card.specs.Card.{numbersFrom, numbers}
-use Rattle.card.proofs.Ranges.{numbers-more, numbers-none, take-stored}
+use Rattle.card.proofs.Ranges.{numbers-more, numbers-none, take-stored, row-small}
+use Rattle.card.proofs.formats.row_field.Reads as row-field-reads
+use Rattle.card.proofs.small_field.Reads as small-field-reads
 
 abbrev Inv-loop : tie.InvT-loop
-Inv-loop line from count most values₀ k₀ values k = (k ≤ count) × (length values ≡ 6) × (numbersFrom line (λ i. within most (from + 3 * i) 3 Whole) (take k values) k (count - k) ≡ numbers line (λ i. within most (from + 3 * i) 3 Whole) count)
+Inv-loop line row count values₀ k₀ values k = (k ≤ count) × (length values ≡ 6) × (numbersFrom line (rowField row) (take k values) k (count - k) ≡ numbers line (rowField row) count)
 
 abbrev μ-loop : tie.MeasureT-loop
-μ-loop line from count most values₀ k₀ values k = count - k
+μ-loop line row count values₀ k₀ values k = count - k
 
 loop-holds : tie.Need-loop-holds Inv-loop μ-loop
 loop-holds c = (omega arith, refl, rw (sub-zero (c .before .args .count)))
 
-mul-small-field : tie.Need-mul-small-field Inv-loop μ-loop
-mul-small-field c = search needs
-
-add-small-field : tie.Need-add-small-field Inv-loop μ-loop
-add-small-field c = search needs
+row-field-requires : tie.Need-row-field-requires Inv-loop μ-loop
+row-field-requires c κs = (c .before .before .before .pre .0, omega (arith, c .loop-test .taken, c .before .before .before .pre .1))
 
 small-field-requires : tie.Need-small-field-requires Inv-loop μ-loop
-small-field-requires c κs = search needs
+small-field-requires c κs = let a = c .before .before .before .before .args in rw (c .row-field .ensures) (row-small (a .row) (c .before .before .loop .k))
 
 enum-known-v : tie.Need-enum-known-v Inv-loop μ-loop
 enum-known-v c = search needs
@@ -47,28 +45,28 @@ loop-less c = search needs
 
 loop-again : tie.Need-loop-again Inv-loop μ-loop
 loop-again c =
-    let s = c .before .before .before .before .before in
+    let s = c .before .before .before .before .before .before in
     let a = s .before .before .args in
     let v = c .before .v .given .0 .0 in
     let f : SFits w8 v = search needs in
     let h : s .loop .k < length (s .loop .values) = omega arith in
-    (omega arith, search needs, rw (toZ-ofZ w8 v f, take-stored (s .loop .values) (s .loop .k) v h) (rw (numbers-more (a .line .now) (λ i. within (a .most) (a .from + 3 * i) 3 Whole) (take (s .loop .k) (s .loop .values)) (s .loop .k) (a .count) (c .before .before .before .before .loop-test .taken), ← c .before .before .before .small-field .ensures, c .before .v .given .1) at (s .loop .inv .2)))
+    (omega arith, search needs, rw (toZ-ofZ w8 v f, take-stored (s .loop .values) (s .loop .k) v h) (rw (numbers-more (a .line .now) (rowField (a .row)) (take (s .loop .k) (s .loop .values)) (s .loop .k) (a .count) (c .before .before .before .before .before .loop-test .taken), ← c .before .before .before .before .row-field .ensures, ← c .before .before .before .small-field .ensures, c .before .v .given .1) at (s .loop .inv .2)))
 
-enum-known-r : tie.Need-enum-known-r Inv-loop μ-loop
-enum-known-r c = search needs
+enum-known-fault : tie.Need-enum-known-fault Inv-loop μ-loop
+enum-known-fault c = search needs
 
 returns : tie.Need-returns Inv-loop μ-loop
 returns c =
-    let s = c .before .before .before .before .before in
+    let s = c .before .before .before .before .before .before in
     let a = s .before .before .args in
-    (rw (numbers-more (a .line .now) (λ i. within (a .most) (a .from + 3 * i) 3 Whole) (take (s .loop .k) (s .loop .values)) (s .loop .k) (a .count) (c .before .before .before .before .loop-test .taken), ← c .before .before .before .small-field .ensures, c .before .r .given .1) at (s .loop .inv .2), s .loop .inv .1)
+    (rw (numbers-more (a .line .now) (rowField (a .row)) (take (s .loop .k) (s .loop .values)) (s .loop .k) (a .count) (c .before .before .before .before .before .loop-test .taken), ← c .before .before .before .before .row-field .ensures, ← c .before .before .before .small-field .ensures, c .before .fault .given .1) at (s .loop .inv .2), s .loop .inv .1)
 
 returns-2 : tie.Need-returns-2 Inv-loop μ-loop
 returns-2 c =
     let s = c .before in
     let a = s .before .before .args in
     let e : a .count ≡ s .loop .k = omega arith in
-    (rw (ap (λ (k : ℕ). take k (s .loop .values)) e) (rw (numbers-none (a .line .now) (λ i. within (a .most) (a .from + 3 * i) 3 Whole) (take (s .loop .k) (s .loop .values)) (s .loop .k) (a .count) (c .loop-test .left)) at (s .loop .inv .2)), s .loop .inv .1)
+    (rw (ap (λ (k : ℕ). take k (s .loop .values)) e) (rw (numbers-none (a .line .now) (rowField (a .row)) (take (s .loop .k) (s .loop .values)) (s .loop .k) (a .count) (c .loop-test .left)) at (s .loop .inv .2)), s .loop .inv .1)
 
 pub small-row-spec : {M : Type 1} → statement M
 small-row-spec =
@@ -77,14 +75,13 @@ small-row-spec =
     Inv-loop
     μ-loop
     loop-holds
-    mul-small-field
-    add-small-field
+    row-field-requires
     small-field-requires
     enum-known-v
     array-set-from-values
     add-k
     loop-less
     loop-again
-    enum-known-r
+    enum-known-fault
     returns
     returns-2)

@@ -4,7 +4,6 @@ use mathlib.Core.Path.{_≡_}
 use mathlib.Core.List.{List}
 use lib.ListN.{length, drop}
 use Rattle.columns.specs.Lines.{linesOf, restLines}
-use Rattle.card.specs.inner.Answers.{numberOf}
 use Rattle.card.specs.Card.{Reading, given, refused}
 use Rattle.card.specs.Card as card
 use Rattle.card.specs.declared.lines.Progress.{Progress}
@@ -20,12 +19,12 @@ NextLine file at r = (at < r) × (r ≤ length file) × (drop r file ≡ restLin
 abbrev pub openingGives : Opening → card.Opening
 openingGives opening.Ends = card.blankEnds
 openingGives opening.Fields = card.readFields
-openingGives (opening.Fails r) = card.failsFirst (numberOf r)
+openingGives (opening.Fails r) = card.failsFirst r
 
 -- a part of the file: what it gives, and the lines behind the byte that was reached
 abbrev pub readingGives : {A : Type 0} → List ℕ → Progress → A → Reading A
 readingGives file (Reached at n) a = given a (linesOf (drop at file)) n
-readingGives file (Refused r n) a = refused (numberOf r) n
+readingGives file (Refused r n) a = refused r n
 
 -- a line takes a byte at least
 abbrev pub Within : List ℕ → Progress → Type 0

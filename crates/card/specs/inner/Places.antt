@@ -3,15 +3,15 @@ use Prim.Native.Nat.{ℕ, _*_}
 use mathlib.Core.List.{List}
 use lib.ListN.{getD}
 use Rattle.table.specs.inner.View.{listed}
-use Rattle.card.specs.inner.Answers.{numberOf}
-use Rattle.card.specs.Card.{Card, good, bad}
+use Rattle.refusals.specs.Checked.{good, bad}
+use Rattle.card.specs.Card.{Card}
 use Rattle.card.specs.declared.places.Place.{Place}
 use Rattle.card.specs.declared.places.Place.the-variants as place
 
 -- a place
 abbrev pub placeGives : Place → Card ℕ
 placeGives (place.At p) = good p
-placeGives (place.Bad r) = bad (numberOf r)
+placeGives (place.Bad r) = bad r
 
 -- the places in the rows of cards that the table keeps: each row begins with its place
 abbrev pub placesIn : ℕ → List ℕ → ℕ → List ℕ

@@ -7,6 +7,9 @@ use Prim.Native.Nat.{_<_}
 use Rattle.card.specs.Places.{mainNamed}
 use Rattle.card.proofs.places.Defined.{place-within}
 
+part-name-requires : tie.Need-part-name-requires
+part-name-requires c κs = search needs
+
 name-part-requires : tie.Need-name-part-requires
 name-part-requires c κs = search needs
 
@@ -18,7 +21,7 @@ enum-known-place c = search needs
 
 cast-main-at : tie.Need-cast-main-at
 cast-main-at c =
-    let a = c .before .before .before .before .before .before .before .before .args in
+    let a = c .before .before .before .before .before .before .before .before .before .args in
     let h : c .before .place .given .0 .0 < a .frequencies = place-within _ (a .names .now) (a .frequencies) _ (sym (c .before .before .before .find-name .ensures) ∙ c .before .place .given .1) in
     search needs
 
@@ -28,23 +31,28 @@ main-at-requires c κs = search needs
 enum-told : tie.Need-enum-told
 enum-told c = search needs
 
+not-main-requires : tie.Need-not-main-requires
+not-main-requires c κs = search needs
+
 returns : tie.Need-returns
 unfolding mainNamed
-returns c = rw (← c .before .before .before .before .before .name-part .ensures .1, ← c .before .before .before .before .find-name .ensures, c .before .before .place .given .1) (c .main-at .ensures)
+returns c = rw (← c .before .before .before .before .before .before .part-name .ensures, ← c .before .before .before .before .before .name-part .ensures .1, ← c .before .before .before .before .find-name .ensures, c .before .before .place .given .1) (c .main-at .ensures)
 
 returns-2 : tie.Need-returns-2
 unfolding mainNamed
-returns-2 c = rw (← c .before .before .before .name-part .ensures .1, ← c .before .before .find-name .ensures, c .enum-told .given .1)
+returns-2 c = rw (c .not-main .ensures, ← c .before .before .before .before .before .part-name .ensures, ← c .before .before .before .before .name-part .ensures .1, ← c .before .before .before .find-name .ensures, c .before .enum-told .given .1)
 
 pub main-named-spec : {M : Type 1} → statement M
 main-named-spec =
     tie.close
     (tie.spec
+    part-name-requires
     name-part-requires
     find-name-requires
     enum-known-place
     cast-main-at
     main-at-requires
     enum-told
+    not-main-requires
     returns
     returns-2)

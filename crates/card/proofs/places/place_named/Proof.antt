@@ -13,9 +13,12 @@ name-part-requires c κs = search needs
 name-blank-requires : tie.Need-name-blank-requires
 name-blank-requires c κs = search needs
 
+only-requires : tie.Need-only-requires
+only-requires c κs = search needs
+
 returns : tie.Need-returns
 unfolding placeNamed
-returns c = rw (← c .before .before .name-part .ensures .1, ← c .before .name-blank .ensures, c .if1 .taken)
+returns c = rw (c .only .ensures, ← c .before .before .before .name-part .ensures .1, ← c .before .before .name-blank .ensures, c .before .if1 .taken)
 
 find-name-requires : tie.Need-find-name-requires
 find-name-requires c κs = search needs
@@ -23,8 +26,8 @@ find-name-requires c κs = search needs
 enum-known-place : tie.Need-enum-known-place
 enum-known-place c = search needs
 
-cast-t11 : tie.Need-cast-t11
-cast-t11 c =
+cast-t13 : tie.Need-cast-t13
+cast-t13 c =
     let a = c .before .before .before .before .before .before .before .before .before .args in
     let h : c .before .place .given .0 .0 < a .count = place-within _ (a .names .now) (a .count) _ (sym (c .before .before .before .find-name .ensures) ∙ c .before .place .given .1) in
     search needs
@@ -32,13 +35,16 @@ cast-t11 c =
 enum-told : tie.Need-enum-told
 enum-told c = search needs
 
+only-requires-2 : tie.Need-only-requires-2
+only-requires-2 c κs = search needs
+
 returns-2 : tie.Need-returns-2
 unfolding placeNamed
 returns-2 c = rw (← c .before .before .before .before .before .before .name-part .ensures .1, ← c .before .before .before .before .before .name-blank .ensures, c .before .before .before .before .if1 .left, ← c .before .before .before .find-name .ensures, c .before .place .given .1)
 
 returns-3 : tie.Need-returns-3
 unfolding placeNamed
-returns-3 c = rw (← c .before .before .before .before .before .name-part .ensures .1, ← c .before .before .before .before .name-blank .ensures, c .before .before .before .if1 .left, ← c .before .before .find-name .ensures, c .enum-told .given .1)
+returns-3 c = rw (c .only2 .ensures, ← c .before .before .before .before .before .before .name-part .ensures .1, ← c .before .before .before .before .before .name-blank .ensures, c .before .before .before .before .if1 .left, ← c .before .before .before .find-name .ensures, c .before .enum-told .given .1)
 
 pub place-named-spec : {M : Type 1} → statement M
 place-named-spec =
@@ -46,10 +52,12 @@ place-named-spec =
     (tie.spec
     name-part-requires
     name-blank-requires
+    only-requires
     returns
     find-name-requires
     enum-known-place
-    cast-t11
+    cast-t13
     enum-told
+    only-requires-2
     returns-2
     returns-3)
