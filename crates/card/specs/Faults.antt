@@ -12,7 +12,7 @@ use Rattle.refusals.specs.declared.Refusal.the-variants.{BadLine, BadName, Miss
 use Rattle.card.specs.declared.faults.What.{What}
 use Rattle.card.specs.declared.faults.What.the-variants.{Card}
 use Rattle.card.specs.declared.faults.Trouble.{Trouble}
-use Rattle.card.specs.declared.faults.Trouble.the-variants.{TooLong, BadByte, Malformed, OutOfRange, NotWhole, PastTwelve, Blank, Twice, NoFrequency, NoDefinition, NotMain, TooManyFrequencies, TooManyMains, TooManySatellites, TooManyShallows, TooManyRecords, EndedInFrequencies, EndedInLongitudes, EndedInMains, EndedInShallows, NoStationCard}
+use Rattle.card.specs.declared.faults.Trouble.the-variants.{TooLong, BadByte, Malformed, OutOfRange, NotWhole, PastTwelve, BadMark, SouthTwice, Blank, Twice, NoFrequency, NoDefinition, NotMain, TooManyFrequencies, TooManyMains, TooManySatellites, TooManyShallows, TooManyRecords, EndedInFrequencies, EndedInLongitudes, EndedInMains, EndedInShallows, NoStationCard}
 use Rattle.card.specs.declared.faults.Fault.{Fault}
 
 -- the row of 01's table that each trouble falls under
@@ -26,6 +26,8 @@ refusalFor Malformed = refusal.Malformed
 refusalFor OutOfRange = refusal.OutOfRange
 refusalFor NotWhole = refusal.OutOfRange
 refusalFor PastTwelve = refusal.OutOfRange
+refusalFor BadMark = refusal.OutOfRange
+refusalFor SouthTwice = refusal.OutOfRange
 -- "4 a constituent's own name blank, or twice in part 1, or twice in parts 3 and 4 together"
 refusalFor Blank = BadName
 refusalFor Twice = BadName
