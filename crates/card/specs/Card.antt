@@ -117,6 +117,10 @@ pub data Reading (A : Type 0) : Type 0 where
   given : A → List (List ℕ) → ℕ → Reading A
   refused : Fault → ℕ → Reading A
 
+-- "7 file ends inside a part; place: the line after the last": line n, after the last, where more of a part was due
+abbrev pub ended : {A : Type 0} → Trouble → ℕ → Reading A
+ended part n = refused (only what.File part) n
+
 -- where the card on line n leads: on with what it gives, or to the refusal that it earns
 abbrev pub onward : {A B : Type 0} → Card A → ℕ → (A → Reading B) → Reading B
 onward (good a) n next = next a

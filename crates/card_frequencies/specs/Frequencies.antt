@@ -7,7 +7,9 @@ use Rattle.limits.specs.Limits.{mostFrequencies}
 use Rattle.columns.specs.Columns.{columns}
 use Rattle.table.specs.Table.{Frequency}
 use Rattle.card.specs.Formats.{frequencyName, frequencyField}
-use Rattle.card.specs.Card.{Card, good, number, newName, Next, nextCard, Reading, given, refused, onwardOrEnd, _>>=_}
+use Rattle.refusals.specs.Checked.{good, _>>=_}
+use Rattle.card.specs.declared.faults.Trouble.the-variants.{TooManyFrequencies, EndedInFrequencies}
+use Rattle.card.specs.Card.{Card, number, newName, Next, nextCard, Reading, given, ended, onwardOrEnd}
 
 -- the names of the frequencies
 abbrev pub namesOf : List Frequency → List (List ℕ)
@@ -22,11 +24,11 @@ frequencyCard names line = do
 
 -- "At most 160 frequencies"
 unfoldable pub nextFrequency : List (List ℕ) → List ℕ → Next Frequency
-nextFrequency names line = nextCard mostFrequencies (length names) line (frequencyCard names line)
+nextFrequency names line = nextCard mostFrequencies TooManyFrequencies (length names) line (frequencyCard names line)
 
 -- the cards from line n on, after the frequencies of those before it; "7 file ends inside a part; place: the line after the last"
 unfoldable pub frequenciesFrom : List (List ℕ) → ℕ → List Frequency → Reading (List Frequency)
-frequenciesFrom [] n before = refused 7 n
+frequenciesFrom [] n before = ended EndedInFrequencies n
 frequenciesFrom (line ∷ lines) n before =
     onwardOrEnd (nextFrequency (namesOf before) line) n (given before lines (n + 1))
     (λ f. frequenciesFrom lines (n + 1) (before ++ (f ∷ [])))

@@ -12,7 +12,12 @@ ghost use Rattle.card_frequencies.specs.Frequencies.{frequencyCard, next
 ghost use Rattle.card_frequencies.specs.inner.Answers.{frequencyRead, frequencyGives};
 ghost use Rattle.card.specs.inner.Lines.{readingGives, Within};
 use card::Natural;
-use card::Refusal;
+use card::faults;
+use card::faults::Fault;
+use card::faults::Trouble;
+use card::faults::What;
+use card::formats;
+use card::formats::FREQUENCY_NAME;
 use card::lines::Opening;
 use card::lines::Progress;
 use card::lines::after_line;
@@ -21,34 +26,26 @@ use card::lines::line_at;
 use card::natural_field;
 use columns::names;
 use limits::FREQUENCIES;
-use limits::FREQUENCY;
 use table::NAMES;
 
-// What the next card of part 1 comes to: the part's end, a frequency, or a refusal.
+// What the next card of part 1 comes to: the part's end, a frequency, or a fault.
 pub enum FrequencyStep {
     Ends,
     Gives(u64),
-    Fails(Refusal),
+    Fails(Fault),
 }
 
 // The frequency on a card whose name is new after `count` names.
 fn frequency_fields(line: &[u8], names: &[u8], count: usize) -> Natural
     ensures { λ r. ⌜ frequencyRead (now (line .entry)) r ≡ frequencyCard (namesFrom (now (names .entry)) 0 count) (now (line .entry)) ⌝ }
 {
-    let name = names::name_part(line, 4);
+    let name = names::name_part(line, FREQUENCY_NAME);
     if names::name_blank(name) {
-        return Natural::Bad(Refusal::Name);
+        return Natural::Bad(faults::only(What::Name, Trouble::Blank));
     }
     match names::find_name(name, names, count) {
-        names::Found::At(_) => Natural::Bad(Refusal::Name),
-        names::Found::Nothing => natural_field(
-            line,
-            12,
-            13,
-            fields::Format::Fixed(10),
-            0,
-            FREQUENCY,
-        ),
+        names::Found::At(_) => Natural::Bad(faults::only(What::Name, Trouble::Twice)),
+        names::Found::Nothing => natural_field(line, formats::frequency()),
     }
 }
 
@@ -56,7 +53,7 @@ fn frequency_fields(line: &[u8], names: &[u8], count: usize) -> Natural
 fn frequency_card(line: &[u8], names: &[u8], count: usize) -> FrequencyStep
     ensures { λ r. ⌜ frequencyGives (now (line .entry)) r ≡ nextFrequency (namesFrom (now (names .entry)) 0 count) (now (line .entry)) ⌝ }
 {
-    match begins(line, count, FREQUENCIES) {
+    match begins(line, count, FREQUENCIES, Trouble::TooManyFrequencies) {
         Opening::Ends => FrequencyStep::Ends,
         Opening::Fields => match frequency_fields(line, names, count) {
             Natural::Value(v) => FrequencyStep::Gives(v),
@@ -109,7 +106,7 @@ pub fn read_frequencies(file: &[u8]) -> Frequencies
                 };
             }
             FrequencyStep::Gives(v) => {
-                put_name(&mut names, count, line, 4);
+                put_name(&mut names, count, line, FREQUENCY_NAME);
                 speeds[count] = v;
             }
             FrequencyStep::Fails(r) => {
@@ -126,7 +123,7 @@ pub fn read_frequencies(file: &[u8]) -> Frequencies
         n = n + 1;
     }
     Frequencies {
-        progress: Progress::Refused(Refusal::Ended, n),
+        progress: Progress::Refused(faults::only(What::File, Trouble::EndedInFrequencies), n),
         count: count,
         names: names,
         speeds: speeds,

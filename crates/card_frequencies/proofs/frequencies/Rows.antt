@@ -18,7 +18,10 @@ use Rattle.card.specs.declared.Natural.{Natural}
 use Rattle.card.specs.declared.Natural.the-variants as natural
 use Rattle.card_frequencies.specs.declared.frequencies.FrequencyStep.{FrequencyStep}
 use Rattle.card.specs.Formats.{frequencyName}
-use Rattle.card.specs.Card.{good, _>>=_, gives, given, refused, onwardOrEnd}
+use Rattle.refusals.specs.Checked.{good, _>>=_}
+use Rattle.limits.specs.Limits.{mostFrequencies}
+use Rattle.card.specs.declared.faults.Trouble.the-variants.{TooManyFrequencies, EndedInFrequencies}
+use Rattle.card.specs.Card.{gives, given, ended, onwardOrEnd}
 use Rattle.card_frequencies.specs.Frequencies.{frequencyCard, nextFrequency, frequenciesFrom}
 use Rattle.columns.proofs.names.Names.{names-count}
 use Rattle.card.proofs.lines.Walk.{lines-here, lines-end}
@@ -27,9 +30,9 @@ use Rattle.card_frequencies.specs.inner.Answers.{frequencyRead, frequenc
 use Rattle.card.proofs.lines.Openings.{had-room}
 use Rattle.table.proofs.Names.{names-of}
 
-pub frequency-room : (names line : List ℕ) (n : ℕ) (f : Frequency) → nextFrequency (namesFrom names 0 n) line ≡ gives f → n < 160
+pub frequency-room : (names line : List ℕ) (n : ℕ) (f : Frequency) → nextFrequency (namesFrom names 0 n) line ≡ gives f → n < mostFrequencies
 unfolding nextFrequency
-frequency-room names line n f e = rw (names-count names 0 n) at (had-room 160 (length (namesFrom names 0 n)) line (frequencyCard (namesFrom names 0 n) line) f e)
+frequency-room names line n f e = rw (names-count names 0 n) at (had-room mostFrequencies TooManyFrequencies (length (namesFrom names 0 n)) line (frequencyCard (namesFrom names 0 n) line) f e)
 
 -- the frequency is the number in its field
 pub frequency-read : (line : List ℕ) (r : Natural) → frequencyRead line r ≡ (naturalGives r >>= λ f. good (record { name = columns line frequencyName 5; frequency = natAbs f }))
@@ -75,6 +78,6 @@ module _ (file : List ℕ) (at n : ℕ) (names speeds : List ℕ) (count : ℕ) 
   frequencies-step next line r h first rest card =
       rw (lines-here file at next line h first rest, names-of names speeds 0 count, ← card)
 
-  pub frequencies-end : length file ≤ at → frequenciesFrom (linesOf (drop at file)) n (listed (frequencyOf names speeds) 0 count) ≡ refused 7 n
+  pub frequencies-end : length file ≤ at → frequenciesFrom (linesOf (drop at file)) n (listed (frequencyOf names speeds) 0 count) ≡ ended EndedInFrequencies n
   unfolding frequenciesFrom
   frequencies-end h = rw (lines-end file at h)

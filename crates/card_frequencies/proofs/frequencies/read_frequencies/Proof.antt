@@ -13,6 +13,8 @@ use Rattle.columns.specs.Columns.{columns}
 use Rattle.columns.specs.Lines.{linesOf}
 use Rattle.columns.proofs.Columns.{length-padded}
 use Rattle.table.specs.inner.View.{listed, frequencyOf}
+use Rattle.limits.specs.Limits.{mostFrequencies}
+use Rattle.card.specs.Formats.{frequencyName}
 use Rattle.card_frequencies.specs.Frequencies.{frequenciesFrom}
 use Rattle.card_frequencies.specs.inner.Answers.{frequencyGives}
 use Rattle.card_frequencies.proofs.frequencies.Rows.{frequency-room, frequency-put, frequencies-end}
@@ -20,7 +22,7 @@ use Rattle.card_frequencies.proofs.frequencies.Rows.{frequencies-step}
 
 abbrev Inv-loop : tie.InvT-loop
 Inv-loop file names₀ speeds₀ count₀ at₀ n₀ names speeds count at n =
-    (at ≤ length file) × (n ≤ at + 1) × (count ≤ 160) × (length names ≡ 800) × (length speeds ≡ 160)
+    (at ≤ length file) × (n ≤ at + 1) × (count ≤ mostFrequencies) × (length names ≡ 5 * mostFrequencies) × (length speeds ≡ mostFrequencies)
     × (frequenciesFrom (linesOf (drop at file)) n (listed (frequencyOf names speeds) 0 count) ≡ frequenciesFrom (linesOf file) 1 [])
 
 abbrev μ-loop : tie.MeasureT-loop
@@ -97,23 +99,26 @@ loop-again c =
     let next = c .before .before .before .before .before .before .before .after-line in
     let line = c .before .before .before .before .before .before .before .before .line-at .result .now in
     let v = c .before .before .before .v .given .0 .0 in
-    let room : s .loop .count < 160 = frequency-room (s .loop .names) line (s .loop .count) _ (sym (c .before .before .before .before .before .frequency-card .ensures) ∙ ap (frequencyGives line) (c .before .before .before .v .given .1)) in
-    let put : c .put-name .last .0 ≡ sets (s .loop .names) (5 * s .loop .count) (columns line 4 5) = c .put-name .ensures in
-    let len : length (s .loop .names) ≡ 800 = s .loop .inv .3 in (
+    let room : s .loop .count < mostFrequencies = frequency-room (s .loop .names) line (s .loop .count) _ (sym (c .before .before .before .before .before .frequency-card .ensures) ∙ ap (frequencyGives line) (c .before .before .before .v .given .1)) in
+    let put : c .put-name .last .0 ≡ sets (s .loop .names) (5 * s .loop .count) (columns line frequencyName 5) = c .put-name .ensures in
+    let len : length (s .loop .names) ≡ 5 * mostFrequencies = s .loop .inv .3 in (
       omega arith,
       omega arith,
       omega arith,
-      ap length put ∙ length-sets (s .loop .names) (5 * s .loop .count) (columns line 4 5) ∙ len,
+      ap length put ∙ length-sets (s .loop .names) (5 * s .loop .count) (columns line frequencyName 5) ∙ len,
       search needs,
-      rw (put, frequency-put (s .loop .names) (s .loop .speeds) (columns line 4 5) v (s .loop .count) (length-padded 32 line 4 5) (omega arith) (omega arith))
+      rw (put, frequency-put (s .loop .names) (s .loop .speeds) (columns line frequencyName 5) v (s .loop .count) (length-padded 32 line frequencyName 5) (omega arith) (omega arith))
           (rw (frequencies-step (a .file .now) (s .loop .at) (s .loop .n) (s .loop .names) (s .loop .speeds) (s .loop .count) (next .result) line (c .before .before .before .before .before .frequency-card .result) (c .before .before .before .before .before .before .before .before .before .loop-test .taken) (c .before .before .before .before .before .before .before .before .line-at .ensures) (next .ensures .2) (c .before .before .before .before .before .frequency-card .ensures), c .before .before .before .v .given .1) at (s .loop .inv .5)),
     )
 
+only-requires : tie.Need-only-requires Inv-loop μ-loop
+only-requires c κs = search needs
+
 returns-3 : tie.Need-returns-3 Inv-loop μ-loop
 returns-3 c =
-    let s = c .before in
+    let s = c .before .before in
     let a = s .before .before .args in
-    (rw (frequencies-end (a .file .now) (s .loop .at) (s .loop .n) (s .loop .names) (s .loop .speeds) (s .loop .count) (c .loop-test .left)) at (s .loop .inv .5), (tt, s .loop .inv .2))
+    (rw (c .only .ensures) (rw (frequencies-end (a .file .now) (s .loop .at) (s .loop .n) (s .loop .names) (s .loop .speeds) (s .loop .count) (c .before .loop-test .left)) at (s .loop .inv .5)), (tt, s .loop .inv .2))
 
 pub read-frequencies-spec : {M : Type 1} → statement M
 read-frequencies-spec =
@@ -139,4 +144,5 @@ read-frequencies-spec =
     add-n
     loop-less
     loop-again
+    only-requires
     returns-3)
