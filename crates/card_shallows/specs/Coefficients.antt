@@ -1,22 +1,40 @@
 -- 01, The card file, part 4: the coefficient of a part of a shallow-water constituent.
 use Prim.Native.Nat.{ℕ, _+_}
 use mathlib.Core.List.{List}
-use mathlib.Core.Bool.{cond, _||_, not}
+use mathlib.Core.Bool.{Bool, cond, not}
 use lib.Dec.{ltb, eqb}
 use lib.IntN.{ℤ, pos, natAbs}
 use lib.Signed.{quotZ, remZ}
 use Rattle.limits.specs.Limits.{mostSizes}
-use Rattle.card.specs.Formats.{coefficientField}
-use Rattle.card.specs.Card.{Card, good, bad, number, _>>=_}
+use Rattle.refusals.specs.Checked.{good, bad, _>>=_}
+use Rattle.card.specs.declared.faults.Trouble.the-variants.{OutOfRange, NotWhole, PastTwelve}
+use Rattle.card.specs.declared.formats.NumberField.{NumberField}
+use Rattle.card.specs.Formats.{faultIn, coefficientField}
+use Rattle.card.specs.Card.{Card, number}
 
--- a coefficient, of hundredths, after parts whose sizes add up to `sizes`:
--- "3 number outside its stated range, coefficient not whole, or the one that takes the sizes past 12"; it is not 0
-unfoldable pub coefficient : ℕ → ℤ → Card ℤ
-coefficient sizes hundredths =
-    cond (eqb (natAbs hundredths) 0 || not (eqb (natAbs (remZ hundredths (pos 100))) 0) || ltb mostSizes (sizes + natAbs (quotZ hundredths (pos 100))))
-    (bad 3)
-    (good (quotZ hundredths (pos 100)))
+-- the whole coefficient of so many hundredths
+abbrev pub whole : ℤ → ℤ
+whole hundredths = quotZ hundredths (pos 100)
 
--- the coefficient in the field from column `at` on, after parts whose sizes add up to `sizes`
+-- "-9 to 9, not 0"
+abbrev pub isZero : ℤ → Bool
+isZero hundredths = eqb (natAbs hundredths) 0
+
+-- "coefficient not whole"
+abbrev pub isBroken : ℤ → Bool
+isBroken hundredths = not (eqb (natAbs (remZ hundredths (pos 100))) 0)
+
+-- "or the one that takes the sizes past 12", after parts whose sizes add up to `sizes`
+abbrev pub isPast : ℕ → ℤ → Bool
+isPast sizes hundredths = ltb mostSizes (sizes + natAbs (whole hundredths))
+
+-- the coefficient of so many hundredths in a field
+unfoldable pub coefficient : NumberField → ℕ → ℤ → Card ℤ
+coefficient f sizes hundredths =
+    cond (isZero hundredths) (bad (faultIn f OutOfRange))
+    (cond (isBroken hundredths) (bad (faultIn f NotWhole))
+    (cond (isPast sizes hundredths) (bad (faultIn f PastTwelve)) (good (whole hundredths))))
+
+-- the coefficient of part j on the line
 abbrev pub coefficientIn : ℕ → List ℕ → ℕ → Card ℤ
-coefficientIn sizes line at = number line (coefficientField at) >>= coefficient sizes
+coefficientIn sizes line j = number line (coefficientField j) >>= coefficient (coefficientField j) sizes

@@ -7,7 +7,9 @@ use Rattle.limits.specs.Limits.{mostShallows}
 use Rattle.columns.specs.Columns.{columns}
 use Rattle.table.specs.Table.{Shallow}
 use Rattle.card.specs.Formats.{shallowName, partCountField}
-use Rattle.card.specs.Card.{Card, good, number, newPlace, Next, nextCard, _>>=_}
+use Rattle.refusals.specs.Checked.{good, _>>=_}
+use Rattle.card.specs.declared.faults.Trouble.the-variants.{TooManyShallows}
+use Rattle.card.specs.Card.{Card, number, newPlace, Next, nextCard}
 use Rattle.card_shallows.specs.Parts.{partsOn}
 
 -- a shallow-water card, after mains and shallow constituents with these places: name, how many parts, the parts
@@ -20,4 +22,4 @@ shallowCard names mains shallows line = do
 
 -- "128 shallow"
 unfoldable pub nextShallow : List (List ℕ) → List ℕ → List ℕ → List ℕ → Next Shallow
-nextShallow names mains shallows line = nextCard mostShallows (length shallows) line (shallowCard names mains shallows line)
+nextShallow names mains shallows line = nextCard mostShallows TooManyShallows (length shallows) line (shallowCard names mains shallows line)

@@ -4,23 +4,22 @@ ghost use mathlib.Core.List.{[]};
 ghost use Prim.Native.Nat.{_≤_, _<_};
 ghost use Rattle.limits.specs.Limits.{mostFrequencies, mostMains, mostSizes};
 ghost use Rattle.columns.specs.Names.{namesFrom};
-ghost use Rattle.card.specs.Formats.{partColumn};
 ghost use Rattle.card.specs.Card.{opened, readFields};
 ghost use Rattle.card_shallows.specs.Parts as shallows;
 ghost use Rattle.card_shallows.specs.Parts.{partsOn};
 ghost use Rattle.card.specs.inner.Places.{placesIn};
 ghost use Rattle.card_shallows.specs.inner.Answers.{partGives, withParts, shallowGives};
 use crate::coefficients::coefficient_field;
-use crate::coefficients::size;
-use card::Refusal;
+use angles::size;
 use card::Small;
+use card::faults::Fault;
 use card::places::Place;
 use card::places::main_named;
 
-// A part, its coefficient and its main's position, or the refusal that it earns.
+// A part, its coefficient and its main's position, or what is wrong with it.
 pub enum PartRead {
     Gives(i8, u16),
-    Bad(Refusal),
+    Bad(Fault),
 }
 
 // Part j of a card, after parts whose sizes add up to `sizes`.
@@ -34,23 +33,22 @@ fn part(
     mains: usize,
 ) -> PartRead
     requires { ⌜ (j < 4) × (sizes ≤ mostSizes) × (frequencies ≤ mostFrequencies) × (mains ≤ mostMains) ⌝ }
-    ensures { λ r. ⌜ partGives r ≡ shallows.part (namesFrom (now (names .entry)) 0 frequencies) (placesIn 3 (now (maincards .entry)) mains) sizes (now (line .entry)) (partColumn j) ⌝ }
+    ensures { λ r. ⌜ partGives r ≡ shallows.part (namesFrom (now (names .entry)) 0 frequencies) (placesIn 3 (now (maincards .entry)) mains) sizes (now (line .entry)) j ⌝ }
 {
-    let at = 14 + 15 * j;
-    match coefficient_field(line, at, sizes) {
-        Small::Value(c) => match main_named(line, at + 5, names, frequencies, maincards, mains) {
+    match coefficient_field(line, j, sizes) {
+        Small::Value(c) => match main_named(line, j, names, frequencies, maincards, mains) {
             Place::At(m) => PartRead::Gives(c, m),
-            Place::Bad(r) => PartRead::Bad(r),
+            Place::Bad(fault) => PartRead::Bad(fault),
         },
-        Small::Bad(r) => PartRead::Bad(r),
+        Small::Bad(fault) => PartRead::Bad(fault),
     }
 }
 
-// What the next shallow-water card comes to: the part's end, a shallow constituent, or a refusal.
+// What the next shallow-water card comes to: the part's end, a shallow constituent, or a fault.
 pub enum ShallowStep {
     Ends,
     Gives,
-    Fails(Refusal),
+    Fails(Fault),
 }
 
 // That, with the constituent's row of a place, the count of its parts and four mains, and its row of coefficients.
@@ -86,9 +84,9 @@ pub fn parts_on(
                 sizes = sizes + size(c as i64);
                 j = j + 1;
             }
-            PartRead::Bad(r) => {
+            PartRead::Bad(fault) => {
                 return ShallowRead {
-                    step: ShallowStep::Fails(r),
+                    step: ShallowStep::Fails(fault),
                     card: card,
                     coefficients: coefficients,
                 };

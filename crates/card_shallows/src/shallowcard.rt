@@ -6,15 +6,20 @@ ghost use Rattle.limits.specs.Limits.{mostFrequencies, mostMains, mostShallows}
 ghost use Rattle.columns.specs.Columns.{columns};
 ghost use Rattle.columns.specs.Names.{namesFrom};
 ghost use Rattle.card.specs.Card.{newPlace, opened, readFields, fails};
+ghost use Rattle.card.specs.Formats.{shallowName};
 ghost use Rattle.card_shallows.specs.Shallow.{shallowCard, nextShallow};
-ghost use Rattle.card.specs.inner.Answers.{numberOf};
 ghost use Rattle.card.specs.inner.Places.{placeGives, placesIn};
 ghost use Rattle.card_shallows.specs.inner.Answers.{shallowGives};
 use crate::parts::ShallowRead;
 use crate::parts::ShallowStep;
 use crate::parts::parts_on;
 use card::Natural;
-use card::Refusal;
+use card::faults;
+use card::faults::Fault;
+use card::faults::Trouble;
+use card::faults::What;
+use card::formats;
+use card::formats::SHALLOW_NAME;
 use card::lines::Opening;
 use card::lines::begins;
 use card::natural_field;
@@ -23,12 +28,12 @@ use card::places::is_among;
 use card::places::place_named;
 use limits::SHALLOWS;
 
-// A card that earns a refusal.
-fn failed(r: Refusal) -> ShallowRead
-    ensures { λ s. ⌜ shallowGives s ≡ fails (numberOf r) ⌝ }
+// A card with a fault.
+fn failed(fault: Fault) -> ShallowRead
+    ensures { λ s. ⌜ shallowGives s ≡ fails fault ⌝ }
 {
     ShallowRead {
-        step: ShallowStep::Fails(r),
+        step: ShallowStep::Fails(fault),
         card: [0u16; 6],
         coefficients: [0i8; 4],
     }
@@ -45,19 +50,19 @@ fn own_place(
     count: usize,
 ) -> Place
     requires { ⌜ (frequencies ≤ mostFrequencies) × (mains ≤ mostMains) × (count ≤ mostShallows) ⌝ }
-    ensures { λ r. ⌜ placeGives r ≡ newPlace (namesFrom (now (names .entry)) 0 frequencies) (placesIn 3 (now (maincards .entry)) mains ++ placesIn 6 (now (cards .entry)) count) (columns (now (line .entry)) 6 5) ⌝ }
+    ensures { λ r. ⌜ placeGives r ≡ newPlace (namesFrom (now (names .entry)) 0 frequencies) (placesIn 3 (now (maincards .entry)) mains ++ placesIn 6 (now (cards .entry)) count) (columns (now (line .entry)) shallowName 5) ⌝ }
 {
-    match place_named(line, 6, names, frequencies) {
+    match place_named(line, SHALLOW_NAME, names, frequencies) {
         Place::At(place) => {
             if is_among(place, maincards, 3, mains) {
-                return Place::Bad(Refusal::Name);
+                return Place::Bad(faults::only(What::Name, Trouble::Twice));
             }
             if is_among(place, cards, 6, count) {
-                return Place::Bad(Refusal::Name);
+                return Place::Bad(faults::only(What::Name, Trouble::Twice));
             }
             Place::At(place)
         }
-        Place::Bad(r) => Place::Bad(r),
+        Place::Bad(fault) => Place::Bad(fault),
     }
 }
 
@@ -75,7 +80,7 @@ fn shallow_card(
     ensures { λ r. ⌜ shallowGives r ≡ opened readFields (shallowCard (namesFrom (now (names .entry)) 0 frequencies) (placesIn 3 (now (maincards .entry)) mains) (placesIn 6 (now (cards .entry)) count) (now (line .entry))) ⌝ }
 {
     match own_place(line, names, frequencies, maincards, mains, cards, count) {
-        Place::At(place) => match natural_field(line, 11, 1, fields::Format::Whole, 1, 4) {
+        Place::At(place) => match natural_field(line, formats::part_count()) {
             Natural::Value(parts) => parts_on(
                 line,
                 place,
@@ -85,9 +90,9 @@ fn shallow_card(
                 maincards,
                 mains,
             ),
-            Natural::Bad(r) => failed(r),
+            Natural::Bad(fault) => failed(fault),
         },
-        Place::Bad(r) => failed(r),
+        Place::Bad(fault) => failed(fault),
     }
 }
 
@@ -104,13 +109,13 @@ pub fn next_shallow(
     requires { ⌜ (frequencies ≤ mostFrequencies) × (mains ≤ mostMains) × (count ≤ mostShallows) ⌝ }
     ensures { λ r. ⌜ shallowGives r ≡ nextShallow (namesFrom (now (names .entry)) 0 frequencies) (placesIn 3 (now (maincards .entry)) mains) (placesIn 6 (now (cards .entry)) count) (now (line .entry)) ⌝ }
 {
-    match begins(line, count, SHALLOWS) {
+    match begins(line, count, SHALLOWS, Trouble::TooManyShallows) {
         Opening::Ends => ShallowRead {
             step: ShallowStep::Ends,
             card: [0u16; 6],
             coefficients: [0i8; 4],
         },
         Opening::Fields => shallow_card(line, names, frequencies, maincards, mains, cards, count),
-        Opening::Fails(r) => failed(r),
+        Opening::Fails(fault) => failed(fault),
     }
 }

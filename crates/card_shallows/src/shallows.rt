@@ -13,7 +13,9 @@ ghost use Rattle.table.specs.inner.View.{listed, shallowOf};
 ghost use Rattle.card.specs.inner.Lines.{readingGives};
 use crate::parts::ShallowStep;
 use crate::shallowcard::next_shallow;
-use card::Refusal;
+use card::faults;
+use card::faults::Trouble;
+use card::faults::What;
 use card::lines::Progress;
 use card::lines::after_line;
 use card::lines::line_at;
@@ -82,9 +84,9 @@ pub fn read_shallows(
                 };
             }
             ShallowStep::Gives => put_shallow(&mut cards, &mut coefficients, count, card, row),
-            ShallowStep::Fails(r) => {
+            ShallowStep::Fails(fault) => {
                 return Shallows {
-                    progress: Progress::Refused(r, line_number),
+                    progress: Progress::Refused(fault, line_number),
                     count: count,
                     cards: cards,
                     coefficients: coefficients,
@@ -96,7 +98,7 @@ pub fn read_shallows(
         line_number = line_number + 1;
     }
     Shallows {
-        progress: Progress::Refused(Refusal::Ended, line_number),
+        progress: Progress::Refused(faults::only(What::File, Trouble::EndedInShallows), line_number),
         count: count,
         cards: cards,
         coefficients: coefficients,

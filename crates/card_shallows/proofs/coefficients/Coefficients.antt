@@ -1,30 +1,25 @@
 -- Laws of coefficients: the sizes of a quotient and a remainder are those of the sizes, and when so many hundredths are a coefficient.
 -- By cases on the sign, and by the clauses of the definition. Assumes nothing.
-use mathlib.Core.Path.{_≡_, refl, sym}
-use mathlib.Core.Bool.{Bool, true, false, false≢true, cond, _||_, not}
+use mathlib.Core.Path.{_≡_, refl}
+use mathlib.Core.Bool.{Bool, true, false, cond}
 use Prim.Native.Nat.{ℕ, zero, suc, _+_, _/_, _%_, _≤_, _<_}
 use native.Mathlib.Omega.{arith}
-use lib.Dec.{T, ltb, eqb}
 use lib.IntN.{ℤ, pos, negsuc, negℤ, natAbs}
-use lib.Signed.{ltZ, leZ, nonNeg, quotZ, remZ}
-use borrow.Author.Tests.{leb-true, ltb-true, ltb-false, eq-eqb, ne-eqb, lt-ltb, le-ltb}
+use lib.Signed.{leZ, quotZ, remZ}
+use borrow.Author.Tests.{leb-true, ltb-false, eq-eqb, ne-eqb, lt-ltb, le-ltb}
 use mir.Syntax.{w8, w64}
 use mir.Val.{SFits}
-use Rattle.card.specs.Card.{good, bad, _>>=_}
-use Rattle.card_shallows.specs.Coefficients.{coefficient}
+use Rattle.limits.specs.Limits.{mostSizes}
+use Rattle.refusals.specs.Checked.{good, bad}
+use Rattle.card.specs.declared.faults.Trouble.the-variants.{OutOfRange, NotWhole, PastTwelve}
+use Rattle.card.specs.declared.formats.NumberField.{NumberField}
+use Rattle.card.specs.Formats.{faultIn}
+use Rattle.card_shallows.specs.Coefficients.{whole, isZero, isBroken, isPast, coefficient}
 
 pub natAbs-neg : (z : ℤ) → natAbs (negℤ z) ≡ natAbs z
 natAbs-neg (pos zero) = refl
 natAbs-neg (pos (suc n)) = refl
 natAbs-neg (negsuc n) = refl
-
-pub nonNeg-neg : (z : ℤ) → ltZ z (pos 0) ≡ true → T (nonNeg (negℤ z))
-nonNeg-neg (pos n) h = absurd (omega (arith, ltb-true n 0 h))
-nonNeg-neg (negsuc n) h = tt
-
-pub nonNeg-else : (z : ℤ) → ltZ z (pos 0) ≡ false → T (nonNeg z)
-nonNeg-else (pos n) h = tt
-nonNeg-else (negsuc n) h = absurd (false≢true (sym h))
 
 pub quot-size : (z : ℤ) (n : ℕ) → natAbs (quotZ z (pos n)) ≡ natAbs z / n
 quot-size (pos a) n = refl
@@ -49,32 +44,32 @@ hundredths-size (pos n) (a, b) = leb-true n 900 b
 hundredths-size (negsuc n) (a, b) = omega (arith, leb-true n 899 a)
 
 -- when hundredths are a coefficient: not 0, whole, and no size in all past 12
-module _ (sizes : ℕ) (h : ℤ) where
-  pub coefficient-zero : natAbs h ≡ 0 → coefficient sizes h ≡ bad 3
+module _ (f : NumberField) (sizes : ℕ) (h : ℤ) where
+  pub coefficient-zero : natAbs h ≡ 0 → coefficient f sizes h ≡ bad (faultIn f OutOfRange)
   unfolding coefficient
   coefficient-zero z = rw (eq-eqb _ _ z)
 
   module _ (some : natAbs h ≡ 0 → ⊥) where
-    pub coefficient-broken : 0 < natAbs h % 100 → coefficient sizes h ≡ bad 3
+    pub coefficient-broken : 0 < natAbs h % 100 → coefficient f sizes h ≡ bad (faultIn f NotWhole)
     unfolding coefficient
     coefficient-broken part = rw (ne-eqb (natAbs h) 0 some, rem-size h 100, ne-eqb (natAbs h % 100) 0 (λ e. omega arith))
 
-    module _ (whole : natAbs h % 100 ≡ 0) where
-      pub coefficient-large : 12 < sizes + natAbs h / 100 → coefficient sizes h ≡ bad 3
+    module _ (exact : natAbs h % 100 ≡ 0) where
+      pub coefficient-large : mostSizes < sizes + natAbs h / 100 → coefficient f sizes h ≡ bad (faultIn f PastTwelve)
       unfolding coefficient
-      coefficient-large over = rw (ne-eqb (natAbs h) 0 some, rem-size h 100, eq-eqb (natAbs h % 100) 0 whole, quot-size h 100, lt-ltb 12 (sizes + natAbs h / 100) over)
+      coefficient-large over = rw (ne-eqb (natAbs h) 0 some, rem-size h 100, eq-eqb (natAbs h % 100) 0 exact, quot-size h 100, lt-ltb mostSizes (sizes + natAbs h / 100) over)
 
-      pub coefficient-good : sizes + natAbs h / 100 ≤ 12 → coefficient sizes h ≡ good (quotZ h (pos 100))
+      pub coefficient-good : sizes + natAbs h / 100 ≤ mostSizes → coefficient f sizes h ≡ good (whole h)
       unfolding coefficient
-      coefficient-good within = rw (ne-eqb (natAbs h) 0 some, rem-size h 100, eq-eqb (natAbs h % 100) 0 whole, quot-size h 100, le-ltb 12 (sizes + natAbs h / 100) within)
+      coefficient-good within = rw (ne-eqb (natAbs h) 0 some, rem-size h 100, eq-eqb (natAbs h % 100) 0 exact, quot-size h 100, le-ltb mostSizes (sizes + natAbs h / 100) within)
 
 -- a coefficient that is good leaves the sizes at 12 or below
-pub coefficient-sizes : (sizes : ℕ) (h c : ℤ) → coefficient sizes h ≡ good c → sizes + natAbs c ≤ 12
+pub coefficient-sizes : (f : NumberField) (sizes : ℕ) (h c : ℤ) → coefficient f sizes h ≡ good c → sizes + natAbs c ≤ mostSizes
 unfolding coefficient
-coefficient-sizes sizes h c e = go (eqb (natAbs h) 0) (not (eqb (natAbs (remZ h (pos 100))) 0)) (ltb 12 (sizes + natAbs (quotZ h (pos 100)))) refl e
+coefficient-sizes f sizes h c e = go (isZero h) (isBroken h) (isPast sizes h) refl e
   where
-    go : (s t u : Bool) → ltb 12 (sizes + natAbs (quotZ h (pos 100))) ≡ u → cond (s || t || u) (bad 3) (good (quotZ h (pos 100))) ≡ good c → sizes + natAbs c ≤ 12
+    go : (s t u : Bool) → isPast sizes h ≡ u → cond s (bad (faultIn f OutOfRange)) (cond t (bad (faultIn f NotWhole)) (cond u (bad (faultIn f PastTwelve)) (good (whole h)))) ≡ good c → sizes + natAbs c ≤ mostSizes
     go true t u k q = let z : _≡_ {A = ℕ} 0 1 = cc in absurd (omega arith)
     go false true u k q = let z : _≡_ {A = ℕ} 0 1 = cc in absurd (omega arith)
     go false false true k q = let z : _≡_ {A = ℕ} 0 1 = cc in absurd (omega arith)
-    go false false false k q = let e : quotZ h (pos 100) ≡ c = cc in rw (← e) (ltb-false 12 (sizes + natAbs (quotZ h (pos 100))) k)
+    go false false false k q = let e : whole h ≡ c = cc in rw (← e) (ltb-false mostSizes (sizes + natAbs (whole h)) k)

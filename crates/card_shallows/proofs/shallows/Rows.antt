@@ -11,7 +11,9 @@ use lib.Seq.{sets}
 use Rattle.columns.specs.Lines.{linesOf, firstLine, restLines}
 use Rattle.table.specs.inner.View.{listed, shallowOf}
 use Rattle.table.proofs.Rows.{listed-same, listed-one-more, listed-length, row-at, row-put, row-kept}
-use Rattle.card.specs.Card.{given, refused, onwardOrEnd}
+use Rattle.limits.specs.Limits.{mostShallows}
+use Rattle.card.specs.declared.faults.Trouble.the-variants.{TooManyShallows, EndedInShallows}
+use Rattle.card.specs.Card.{given, ended, onwardOrEnd}
 use Rattle.card_shallows.specs.Shallow.{shallowCard, nextShallow}
 use Rattle.card_shallows.specs.Shallows.{shallowPlaces, shallowsFrom}
 use Rattle.card.specs.inner.Places.{placesIn}
@@ -30,11 +32,11 @@ places-of cards coefficients k (suc n) =
     rw (row-at 0 6 cards k 0 (omega arith), add-zero (6 * k), places-of cards coefficients (suc k) n)
 
 -- a card that gives a constituent had room
-pub shallow-room : (names : List (List ℕ)) (mains : List ℕ) (cards line : List ℕ) (n : ℕ) (r : ShallowRead) → r .step ≡ Gives → shallowGives r ≡ nextShallow names mains (placesIn 6 cards n) line → n < 128
+pub shallow-room : (names : List (List ℕ)) (mains : List ℕ) (cards line : List ℕ) (n : ℕ) (r : ShallowRead) → r .step ≡ Gives → shallowGives r ≡ nextShallow names mains (placesIn 6 cards n) line → n < mostShallows
 unfolding nextShallow
 shallow-room names mains cards line n r told card =
     let e = sym card ∙ ap (λ (s : ShallowStep). stepGives s (inRows (r .card) (r .coefficients))) told in
-    rw (listed-length (λ i. getD cards (6 * i) 0) 0 n) at (had-room 128 (length (placesIn 6 cards n)) line (shallowCard names mains (placesIn 6 cards n) line) _ e)
+    rw (listed-length (λ i. getD cards (6 * i) 0) 0 n) at (had-room mostShallows TooManyShallows (length (placesIn 6 cards n)) line (shallowCard names mains (placesIn 6 cards n) line) _ e)
 
 -- a constituent stored in the next rows
 pub shallow-put : (cards : List ℕ) (coefficients : List ℤ) (card : List ℕ) (row : List ℤ) (n : ℕ) → length card ≡ 6 → length row ≡ 4 → 6 * n + 6 ≤ length cards → 4 * n + 4 ≤ length coefficients
@@ -61,6 +63,6 @@ module _ (names : List (List ℕ)) (mains : List ℕ) (file : List ℕ) (at n : 
   shallows-step next line r h first rest card =
       rw (lines-here file at next line h first rest, places-of cards coefficients 0 count, ← card)
 
-  pub shallows-end : length file ≤ at → shallowsFrom names mains (linesOf (drop at file)) n (listed (shallowOf cards coefficients) 0 count) ≡ refused 7 n
+  pub shallows-end : length file ≤ at → shallowsFrom names mains (linesOf (drop at file)) n (listed (shallowOf cards coefficients) 0 count) ≡ ended EndedInShallows n
   unfolding shallowsFrom
   shallows-end h = rw (lines-end file at h)

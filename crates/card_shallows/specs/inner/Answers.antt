@@ -5,8 +5,8 @@ use lib.ListN.{getD}
 use lib.IntN.{ℤ}
 use Rattle.table.specs.Table.{Part, Shallow}
 use Rattle.table.specs.inner.View.{listed, partOf}
-use Rattle.card.specs.Card.{Card, good, bad, _>>=_, Next, ends, gives, fails}
-use Rattle.card.specs.inner.Answers.{numberOf}
+use Rattle.refusals.specs.Checked.{good, bad, _>>=_}
+use Rattle.card.specs.Card.{Card, Next, ends, gives, fails}
 use Rattle.card_shallows.specs.declared.parts.PartRead.{PartRead}
 use Rattle.card_shallows.specs.declared.parts.PartRead.the-variants as part
 use Rattle.card_shallows.specs.declared.parts.ShallowStep.{ShallowStep}
@@ -16,7 +16,7 @@ use Rattle.card_shallows.specs.declared.parts.ShallowRead.{ShallowRead}
 -- a part
 abbrev pub partGives : PartRead → Card Part
 partGives (part.Gives c m) = good (record { coefficient = c; main = m })
-partGives (part.Bad r) = bad (numberOf r)
+partGives (part.Bad fault) = bad fault
 
 -- a shallow constituent
 abbrev pub madeOf : ℕ → List Part → Shallow
@@ -33,7 +33,7 @@ inRows card coefficients = madeOf (getD card 0 0) (listed (partOf card coefficie
 abbrev pub stepGives : ShallowStep → Shallow → Next Shallow
 stepGives step.Ends s = ends
 stepGives step.Gives s = gives s
-stepGives (step.Fails r) s = fails (numberOf r)
+stepGives (step.Fails fault) s = fails fault
 
 abbrev pub shallowGives : ShallowRead → Next Shallow
 shallowGives r = stepGives (r .step) (inRows (r .card) (r .coefficients))

@@ -16,39 +16,53 @@ use Rattle.card_shallows.proofs.coefficients.Coefficients.{quot-size, f
 size-requires : tie.Need-size-requires
 size-requires c κs = search needs
 
+fault-in-requires : tie.Need-fault-in-requires
+fault-in-requires c κs = search needs
+
 returns : tie.Need-returns
 returns c =
-    let s = c .before .before in
-    let e = c .before .size .ensures ∙ ap natAbs (toZ-ofZ w64 (s .args .hundredths) (s .fits .hundredths)) in
-    sym (coefficient-zero (s .args .sizes) (s .args .hundredths) (sym e ∙ c .if1 .taken))
+    let s = c .before .before .before in
+    let e = c .before .before .size .ensures ∙ ap natAbs (toZ-ofZ w64 (s .args .hundredths) (s .fits .hundredths)) in
+    rw (c .fault-in .ensures) (sym (coefficient-zero (s .args .f) (s .args .sizes) (s .args .hundredths) (sym e ∙ c .before .if1 .taken)))
+
+fault-in-requires-2 : tie.Need-fault-in-requires-2
+fault-in-requires-2 c κs = search needs
 
 returns-2 : tie.Need-returns-2
 returns-2 c =
-    let s = c .before .before .before in
-    let h = s .args .hundredths in
-    let e = c .before .before .size .ensures ∙ ap natAbs (toZ-ofZ w64 h (s .fits .hundredths)) in
-    sym (coefficient-broken (s .args .sizes) h (rw e at (c .before .if1 .left)) (rw e at (c .if2 .taken)))
-
-add-if3 : tie.Need-add-if3
-add-if3 c = search needs
-
-returns-3 : tie.Need-returns-3
-returns-3 c =
     let s = c .before .before .before .before in
     let h = s .args .hundredths in
     let e = c .before .before .before .size .ensures ∙ ap natAbs (toZ-ofZ w64 h (s .fits .hundredths)) in
-    let whole : natAbs h % 100 ≡ 0 = rw (← e) (omega arith) in
-    sym (coefficient-large (s .args .sizes) h (rw e at (c .before .before .if1 .left)) whole (rw e at (c .if3 .taken)))
+    rw (c .fault-in2 .ensures) (sym (coefficient-broken (s .args .f) (s .args .sizes) h (rw e at (c .before .before .if1 .left)) (rw e at (c .before .if2 .taken))))
 
-div-t10 : tie.Need-div-t10
-div-t10 c =
+add-if3 : tie.Need-add-if3
+add-if3 c =
+    let s = c .before .before .before in
+    let h = s .args .hundredths in
+    let e : c .before .before .size .result ≡ natAbs h = c .before .before .size .ensures ∙ ap natAbs (toZ-ofZ w64 h (s .fits .hundredths)) in
+    let q : c .before .before .size .result / 100 ≤ 9 = omega arith in
+    search needs
+
+fault-in-requires-3 : tie.Need-fault-in-requires-3
+fault-in-requires-3 c κs = search needs
+
+returns-3 : tie.Need-returns-3
+returns-3 c =
+    let s = c .before .before .before .before .before in
+    let h = s .args .hundredths in
+    let e = c .before .before .before .before .size .ensures ∙ ap natAbs (toZ-ofZ w64 h (s .fits .hundredths)) in
+    let exact : natAbs h % 100 ≡ 0 = rw (← e) (omega arith) in
+    rw (c .fault-in3 .ensures) (sym (coefficient-large (s .args .f) (s .args .sizes) h (rw e at (c .before .before .before .if1 .left)) exact (rw e at (c .before .if3 .taken))))
+
+div-t14 : tie.Need-div-t14
+div-t14 c =
     let s = c .before .before .before .before in
     let h = s .args .hundredths in
     let e : natAbs h / 100 ≤ 9 = omega arith in
     (omega arith, rw (toZ-ofZ w64 h (s .fits .hundredths)) (fits-64 (quotZ h (pos 100)) (rw (quot-size h 100) (omega arith))))
 
-cast-t11 : tie.Need-cast-t11
-cast-t11 c =
+cast-t15 : tie.Need-cast-t15
+cast-t15 c =
     let s = c .before .before .before .before in
     let h = s .args .hundredths in
     let e : natAbs h / 100 ≤ 9 = omega arith in
@@ -63,10 +77,21 @@ returns-4 c =
     let q : natAbs h / 100 ≤ 9 = omega arith in
     let f : SFits w64 (quotZ h (pos 100)) = fits-64 (quotZ h (pos 100)) (rw (quot-size h 100) (omega arith)) in
     let g : SFits w8 (quotZ h (pos 100)) = fits-8 (quotZ h (pos 100)) (rw (quot-size h 100) (omega arith)) in
-    let whole : natAbs h % 100 ≡ 0 = rw (← e) (omega arith) in
-    rw (toZ-ofZ w64 h (s .fits .hundredths), toZ-ofZ w64 (quotZ h (pos 100)) f, toZ-ofZ w8 (quotZ h (pos 100)) g) (sym (coefficient-good (s .args .sizes) h (rw e at (c .before .before .if1 .left)) whole (rw e at (c .if3 .left))))
+    let exact : natAbs h % 100 ≡ 0 = rw (← e) (omega arith) in
+    rw (toZ-ofZ w64 h (s .fits .hundredths), toZ-ofZ w64 (quotZ h (pos 100)) f, toZ-ofZ w8 (quotZ h (pos 100)) g) (sym (coefficient-good (s .args .f) (s .args .sizes) h (rw e at (c .before .before .if1 .left)) exact (rw e at (c .if3 .left))))
 
 pub whole-coefficient-spec : {M : Type 1} → statement M
 whole-coefficient-spec =
     tie.close
-    (tie.spec size-requires returns returns-2 add-if3 returns-3 div-t10 cast-t11 returns-4)
+    (tie.spec
+    size-requires
+    fault-in-requires
+    returns
+    fault-in-requires-2
+    returns-2
+    add-if3
+    fault-in-requires-3
+    returns-3
+    div-t14
+    cast-t15
+    returns-4)

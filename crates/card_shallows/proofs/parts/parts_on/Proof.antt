@@ -17,14 +17,14 @@ use mir.ValLaws.{toZ-ofZ}
 use mir.Facts.{sfits-widen}
 use Rattle.columns.specs.Names.{namesFrom}
 use Rattle.table.specs.inner.View.{listed, partOf}
-use Rattle.card.specs.Formats.{partColumn}
+use Rattle.limits.specs.Limits.{mostSizes}
 use Rattle.card_shallows.specs.Parts.{partsOn}
 use Rattle.card.specs.inner.Places.{placesIn}
 use Rattle.card_shallows.proofs.parts.PartLaws.{parts-more, parts-none, read-sizes, part-put}
 
 abbrev Inv-loop : tie.InvT-loop
 Inv-loop line place count names frequencies maincards mains card₀ coefficients₀ sizes₀ j₀ end card coefficients sizes j =
-    (j ≤ count) × (sizes ≤ 12) × (length card ≡ 6) × (length coefficients ≡ 4) × (getD card 0 0 ≡ place) × (getD card 1 0 ≡ count)
+    (j ≤ count) × (sizes ≤ mostSizes) × (length card ≡ 6) × (length coefficients ≡ 4) × (getD card 0 0 ≡ place) × (getD card 1 0 ≡ count)
     × (partsOn (namesFrom names 0 frequencies) (placesIn 3 maincards mains) line (listed (partOf card coefficients) 0 j) sizes j (count - j) ≡ partsOn (namesFrom names 0 frequencies) (placesIn 3 maincards mains) line [] 0 0 count)
 
 abbrev μ-loop : tie.MeasureT-loop
@@ -60,16 +60,7 @@ cast-size c =
     rw (toZ-ofZ w8 v f) (sfits-widen tt f)
 
 size-requires : tie.Need-size-requires Inv-loop μ-loop
-size-requires c κs =
-    let s = c .before .before .before .before .before in
-    let a = s .before .before .before .before .args in
-    let names = namesFrom (a .names .now) 0 (a .frequencies) in
-    let mains = placesIn 3 (a .maincards .now) (a .mains) in
-    let v = c .before .c .given .0 .0 in
-    let f : SFits w8 v = search needs in
-    let g : SFits w64 v = sfits-widen tt f in
-    let within = read-sizes names mains (a .line .now) (s .loop .sizes) (partColumn (s .loop .j)) (c .before .before .before .part .result) v _ (c .before .c .given .1) (c .before .before .before .part .ensures) in
-    rw (toZ-ofZ w8 v f, toZ-ofZ w64 v g) (omega arith)
+size-requires c κs = search needs
 
 add-sizes : tie.Need-add-sizes Inv-loop μ-loop
 add-sizes c =
@@ -81,7 +72,7 @@ add-sizes c =
     let f : SFits w8 v = search needs in
     let g : SFits w64 v = sfits-widen tt f in
     let size : c .size .result ≡ natAbs v = rw (toZ-ofZ w8 v f, toZ-ofZ w64 v g) at (c .size .ensures) in
-    let within = read-sizes names mains (a .line .now) (s .loop .sizes) (partColumn (s .loop .j)) (c .before .before .before .before .part .result) v _ (c .before .before .c .given .1) (c .before .before .before .before .part .ensures) in
+    let within = read-sizes names mains (a .line .now) (s .loop .sizes) (s .loop .j) (c .before .before .before .before .part .result) v _ (c .before .before .c .given .1) (c .before .before .before .before .part .ensures) in
     omega arith
 
 add-j : tie.Need-add-j Inv-loop μ-loop
@@ -101,7 +92,7 @@ loop-again c =
     let f : SFits w8 v = search needs in
     let g : SFits w64 v = sfits-widen tt f in
     let size : c .size .result ≡ natAbs v = rw (toZ-ofZ w8 v f, toZ-ofZ w64 v g) at (c .size .ensures) in
-    let within = read-sizes names mains (a .line .now) (s .loop .sizes) (partColumn (s .loop .j)) (c .before .before .before .before .part .result) v m (c .before .before .c .given .1) (c .before .before .before .before .part .ensures) in
+    let within = read-sizes names mains (a .line .now) (s .loop .sizes) (s .loop .j) (c .before .before .before .before .part .result) v m (c .before .before .c .given .1) (c .before .before .before .before .part .ensures) in
     let wide : 2 + s .loop .j < length (s .loop .card) = omega arith in
     let long : s .loop .j < length (s .loop .coefficients) = omega arith in (
       omega arith,
@@ -114,8 +105,8 @@ loop-again c =
           (rw (parts-more names mains (a .line .now) (listed (partOf (s .loop .card) (s .loop .coefficients)) 0 (s .loop .j)) (s .loop .sizes) (s .loop .j) (a .count) (c .before .before .before .before .before .loop-test .taken), ← c .before .before .before .before .part .ensures, c .before .before .c .given .1) at (s .loop .inv .6)),
     )
 
-enum-known-r : tie.Need-enum-known-r Inv-loop μ-loop
-enum-known-r c = search needs
+enum-known-fault : tie.Need-enum-known-fault Inv-loop μ-loop
+enum-known-fault c = search needs
 
 returns : tie.Need-returns Inv-loop μ-loop
 returns c =
@@ -123,7 +114,7 @@ returns c =
     let a = s .before .before .before .before .args in
     let names = namesFrom (a .names .now) 0 (a .frequencies) in
     let mains = placesIn 3 (a .maincards .now) (a .mains) in
-    let e = rw (parts-more names mains (a .line .now) (listed (partOf (s .loop .card) (s .loop .coefficients)) 0 (s .loop .j)) (s .loop .sizes) (s .loop .j) (a .count) (c .before .before .before .before .loop-test .taken), ← c .before .before .before .part .ensures, c .before .r .given .1) at (s .loop .inv .6) in
+    let e = rw (parts-more names mains (a .line .now) (listed (partOf (s .loop .card) (s .loop .coefficients)) 0 (s .loop .j)) (s .loop .sizes) (s .loop .j) (a .count) (c .before .before .before .before .loop-test .taken), ← c .before .before .before .part .ensures, c .before .fault .given .1) at (s .loop .inv .6) in
     rw (← e)
 
 returns-2 : tie.Need-returns-2 Inv-loop μ-loop
@@ -155,6 +146,6 @@ parts-on-spec =
     add-j
     loop-less
     loop-again
-    enum-known-r
+    enum-known-fault
     returns
     returns-2)

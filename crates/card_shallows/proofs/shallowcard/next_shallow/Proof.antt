@@ -7,6 +7,8 @@ use lib.ListN.{getD}
 use Rattle.table.proofs.Rows.{listed-length}
 use Rattle.card_shallows.specs.Shallow.{nextShallow}
 use mathlib.Core.Path.{_≡_}
+use Rattle.limits.specs.Limits.{mostShallows}
+use Rattle.card.specs.declared.faults.Trouble.the-variants.{TooManyShallows}
 use Rattle.card.specs.Card.{opening}
 use Rattle.card.specs.inner.Lines.{openingGives}
 
@@ -22,8 +24,8 @@ enum-told-2 c = search needs
 shallow-card-requires : tie.Need-shallow-card-requires
 shallow-card-requires c κs = search needs
 
-enum-known-r : tie.Need-enum-known-r
-enum-known-r c = search needs
+enum-known-fault : tie.Need-enum-known-fault
+enum-known-fault c = search needs
 
 failed-requires : tie.Need-failed-requires
 failed-requires c κs = search needs
@@ -32,7 +34,7 @@ returns : tie.Need-returns
 unfolding nextShallow
 returns c =
     let a = c .before .before .before .before .before .before .before .args in
-    let begun : openingGives (c .before .before .begins .result) ≡ opening 128 (a .count) (a .line .now) = c .before .before .begins .ensures in
+    let begun : openingGives (c .before .before .begins .result) ≡ opening mostShallows TooManyShallows (a .count) (a .line .now) = c .before .before .begins .ensures in
     rw (listed-length (λ i. getD (a .cards .now) (6 * i) 0) 0 (a .count), ← begun, c .enum-told .given .1)
 
 returns-2 : tie.Need-returns-2
@@ -41,7 +43,7 @@ returns-2 c = let a = c .before .before .before .before .before .before .before 
 
 returns-3 : tie.Need-returns-3
 unfolding nextShallow
-returns-3 c = let a = c .before .before .before .before .before .before .before .before .before .args in rw (listed-length (λ i. getD (a .cards .now) (6 * i) 0) 0 (a .count), ← c .before .before .before .before .begins .ensures, c .before .before .r .given .1) (c .failed .ensures)
+returns-3 c = let a = c .before .before .before .before .before .before .before .before .before .args in rw (listed-length (λ i. getD (a .cards .now) (6 * i) 0) 0 (a .count), ← c .before .before .before .before .begins .ensures, c .before .before .fault .given .1) (c .failed .ensures)
 
 pub next-shallow-spec : {M : Type 1} → statement M
 next-shallow-spec =
@@ -51,7 +53,7 @@ next-shallow-spec =
     enum-told
     enum-told-2
     shallow-card-requires
-    enum-known-r
+    enum-known-fault
     failed-requires
     returns
     returns-2

@@ -2,12 +2,10 @@
 use borrow.Author.Needs.{needs}
 use Rattle.card_shallows.proofs.shallowcard.own_place.Statement.{statement}
 use Rattle.card_shallows.proofs.shallowcard.own_place.Tie as tie
-use Rattle.card.specs.Card.{newPlace, placeNamed, isAmong}
+use Rattle.card.specs.Card.{newPlace, isAmong}
 use Rattle.card.proofs.places.Defined.{among-both}
 use mathlib.Core.Path.{_≡_}
-use Rattle.columns.specs.Columns.{columns}
-use Rattle.columns.specs.Names.{namesFrom}
-use Rattle.card.specs.inner.Places.{placeGives, placesIn}
+use Rattle.card.specs.inner.Places.{placesIn}
 
 place-named-requires : tie.Need-place-named-requires
 place-named-requires c κs = search needs
@@ -18,25 +16,28 @@ enum-known-place c = search needs
 is-among-requires : tie.Need-is-among-requires
 is-among-requires c κs = search needs
 
+only-requires : tie.Need-only-requires
+only-requires c κs = search needs
+
 returns : tie.Need-returns
 unfolding newPlace
-returns c =
-    let a = c .before .before .before .before .before .before .before .before .before .before .args in
-    let named : placeGives (c .before .before .before .before .before .place-named .result) ≡ placeNamed (namesFrom (a .names .now) 0 (a .frequencies)) (columns (a .line .now) 6 5) = c .before .before .before .before .before .place-named .ensures in
-    rw (← named, c .before .before .before .place .given .1, among-both, ← c .before .is-among .ensures, c .if1 .taken)
+returns c = rw (c .only .ensures, ← c .before .before .before .before .before .before .place-named .ensures, c .before .before .before .before .place .given .1, among-both, ← c .before .before .is-among .ensures, c .before .if1 .taken)
 
 is-among-requires-2 : tie.Need-is-among-requires-2
 is-among-requires-2 c κs = search needs
 
+only-requires-2 : tie.Need-only-requires-2
+only-requires-2 c κs = search needs
+
 returns-2 : tie.Need-returns-2
 unfolding newPlace
 returns-2 c =
-    let a = c .before .before .before .before .before .before .before .before .before .before .before .before .args in
-    let shallow : c .before .is-among2 .result ≡ isAmong (c .before .before .before .before .before .place .given .0 .0) (placesIn 6 (a .cards .now) (a .count)) = c .before .is-among2 .ensures in
-    rw (← c .before .before .before .before .before .before .before .place-named .ensures, c .before .before .before .before .before .place .given .1, among-both, ← c .before .before .before .is-among .ensures, c .before .before .if1 .left, ← shallow, c .if2 .taken)
+    let a = c .before .before .before .before .before .before .before .before .before .before .before .before .before .args in
+    let shallow : c .before .before .is-among2 .result ≡ isAmong (c .before .before .before .before .before .before .place .given .0 .0) (placesIn 6 (a .cards .now) (a .count)) = c .before .before .is-among2 .ensures in
+    rw (c .only2 .ensures, ← c .before .before .before .before .before .before .before .before .place-named .ensures, c .before .before .before .before .before .before .place .given .1, among-both, ← c .before .before .before .before .is-among .ensures, c .before .before .before .if1 .left, ← shallow, c .before .if2 .taken)
 
-enum-known-r : tie.Need-enum-known-r
-enum-known-r c = search needs
+enum-known-fault : tie.Need-enum-known-fault
+enum-known-fault c = search needs
 
 returns-3 : tie.Need-returns-3
 unfolding newPlace
@@ -44,7 +45,7 @@ returns-3 c = rw (← c .before .before .before .before .before .before .before 
 
 returns-4 : tie.Need-returns-4
 unfolding newPlace
-returns-4 c = rw (← c .before .before .before .place-named .ensures, c .before .r .given .1)
+returns-4 c = rw (← c .before .before .before .place-named .ensures, c .before .fault .given .1)
 
 pub own-place-spec : {M : Type 1} → statement M
 own-place-spec =
@@ -53,9 +54,11 @@ own-place-spec =
     place-named-requires
     enum-known-place
     is-among-requires
+    only-requires
     returns
     is-among-requires-2
+    only-requires-2
     returns-2
-    enum-known-r
+    enum-known-fault
     returns-3
     returns-4)

@@ -4,10 +4,7 @@ use Rattle.card_shallows.proofs.shallowcard.shallow_card.Statement.{sta
 use Rattle.card_shallows.proofs.shallowcard.shallow_card.Tie as tie
 use Prim.Native.Nat.{_≤_}
 use Rattle.card_shallows.specs.Shallow.{shallowCard}
-use mathlib.Core.Path.{_≡_}
-use Rattle.card.specs.Card.{number}
-use Rattle.card.specs.Formats.{partCountField}
-use Rattle.card.specs.inner.Answers.{naturalGives}
+use mathlib.Core.Path.{refl}
 
 own-place-requires : tie.Need-own-place-requires
 own-place-requires c κs = search needs
@@ -15,47 +12,48 @@ own-place-requires c κs = search needs
 enum-known-place : tie.Need-enum-known-place
 enum-known-place c = search needs
 
+part-count-requires : tie.Need-part-count-requires
+part-count-requires c κs = search needs
+
 natural-field-requires : tie.Need-natural-field-requires
-natural-field-requires c κs = search needs
+natural-field-requires c κs = rw (c .part-count .ensures) refl
 
 enum-known-parts : tie.Need-enum-known-parts
 enum-known-parts c = search needs
 
 cast-parts-on : tie.Need-cast-parts-on
 cast-parts-on c =
-    let few : c .before .parts .given .0 .0 ≤ 4 = rw (c .before .parts .given .1) at (c .before .before .before .natural-field .ensures .1) in
+    let few : c .before .parts .given .0 .0 ≤ 4 = rw (c .before .parts .given .1, c .before .before .before .before .part-count .ensures) at (c .before .before .before .natural-field .ensures .1) in
     search needs
 
 parts-on-requires : tie.Need-parts-on-requires
 parts-on-requires c κs =
-    let few : c .before .parts .given .0 .0 ≤ 4 = rw (c .before .parts .given .1) at (c .before .before .before .natural-field .ensures .1) in
-    (few, c .before .before .before .before .before .before .before .before .before .before .before .before .pre .0, c .before .before .before .before .before .before .before .before .before .before .before .before .pre .1)
+    let few : c .before .parts .given .0 .0 ≤ 4 = rw (c .before .parts .given .1, c .before .before .before .before .part-count .ensures) at (c .before .before .before .natural-field .ensures .1) in
+    (few, c .before .before .before .before .before .before .before .before .before .before .before .before .before .pre .0, c .before .before .before .before .before .before .before .before .before .before .before .before .before .pre .1)
 
-enum-known-r : tie.Need-enum-known-r
-enum-known-r c = search needs
+enum-known-fault : tie.Need-enum-known-fault
+enum-known-fault c = search needs
 
 failed-requires : tie.Need-failed-requires
 failed-requires c κs = search needs
 
-enum-known-r-2 : tie.Need-enum-known-r-2
-enum-known-r-2 c = search needs
+enum-known-fault-2 : tie.Need-enum-known-fault-2
+enum-known-fault-2 c = search needs
 
 failed-requires-2 : tie.Need-failed-requires-2
 failed-requires-2 c κs = search needs
 
 returns : tie.Need-returns
 unfolding shallowCard
-returns c =
-    let count : naturalGives (c .before .before .before .before .natural-field .result) ≡ number (c .before .before .before .before .before .before .before .before .before .before .before .before .before .args .line .now) partCountField = c .before .before .before .before .natural-field .ensures .0 in
-    rw (← c .before .before .before .before .before .before .before .before .own-place .ensures, c .before .before .before .before .before .before .place .given .1, ← count, c .before .before .parts .given .1) (c .parts-on .ensures)
+returns c = rw (← c .before .before .before .before .before .before .before .before .before .own-place .ensures, c .before .before .before .before .before .before .before .place .given .1, ← c .before .before .before .before .before .part-count .ensures, ← c .before .before .before .before .natural-field .ensures .0, c .before .before .parts .given .1) (c .parts-on .ensures)
 
 returns-2 : tie.Need-returns-2
 unfolding shallowCard
-returns-2 c = rw (← c .before .before .before .before .before .before .before .before .own-place .ensures, c .before .before .before .before .before .before .place .given .1, ← c .before .before .before .before .natural-field .ensures .0, c .before .before .r .given .1) (c .failed .ensures)
+returns-2 c = rw (← c .before .before .before .before .before .before .before .before .before .own-place .ensures, c .before .before .before .before .before .before .before .place .given .1, ← c .before .before .before .before .before .part-count .ensures, ← c .before .before .before .before .natural-field .ensures .0, c .before .before .fault .given .1) (c .failed .ensures)
 
 returns-3 : tie.Need-returns-3
 unfolding shallowCard
-returns-3 c = rw (← c .before .before .before .before .own-place .ensures, c .before .before .r2 .given .1) (c .failed2 .ensures)
+returns-3 c = rw (← c .before .before .before .before .own-place .ensures, c .before .before .fault2 .given .1) (c .failed2 .ensures)
 
 pub shallow-card-spec : {M : Type 1} → statement M
 shallow-card-spec =
@@ -63,13 +61,14 @@ shallow-card-spec =
     (tie.spec
     own-place-requires
     enum-known-place
+    part-count-requires
     natural-field-requires
     enum-known-parts
     cast-parts-on
     parts-on-requires
-    enum-known-r
+    enum-known-fault
     failed-requires
-    enum-known-r-2
+    enum-known-fault-2
     failed-requires-2
     returns
     returns-2

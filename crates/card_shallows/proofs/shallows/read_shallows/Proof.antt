@@ -12,6 +12,7 @@ use lib.Seq.{sets, length-sets}
 use Rattle.columns.specs.Lines.{linesOf}
 use Rattle.columns.specs.Names.{namesFrom}
 use Rattle.table.specs.inner.View.{listed, shallowOf}
+use Rattle.limits.specs.Limits.{mostShallows}
 use Rattle.card_shallows.specs.Shallows.{shallowsFrom}
 use Rattle.card.specs.inner.Places.{placesIn}
 use Rattle.card_shallows.proofs.shallows.Rows.{shallow-room, shallow-put, shallows-step, shallows-end}
@@ -101,7 +102,7 @@ loop-again c =
     let read = c .before .before .before .before .before .before .before .next-shallow in
     let card = read .result .card in
     let row = read .result .coefficients in
-    let room : s .loop .count < 128 = shallow-room names mains (s .loop .cards) line (s .loop .count) (read .result) (c .before .before .before .enum-told2 .given .1) (read .ensures) in
+    let room : s .loop .count < mostShallows = shallow-room names mains (s .loop .cards) line (s .loop .count) (read .result) (c .before .before .before .enum-told2 .given .1) (read .ensures) in
     let put : c .put-shallow .last .0 ≡ sets (s .loop .cards) (6 * s .loop .count) card = c .put-shallow .ensures .0 in
     let put′ : c .put-shallow .last .1 .0 ≡ sets (s .loop .coefficients) (4 * s .loop .count) row = c .put-shallow .ensures .1 in
     let wide : length card ≡ 6 = search needs in
@@ -115,13 +116,16 @@ loop-again c =
           (rw (shallows-step names mains (a .file .now) (s .loop .here) (s .loop .line-number) (s .loop .cards) (s .loop .coefficients) (s .loop .count) (next .result) line (read .result) (c .before .before .before .before .before .before .before .before .before .before .before .before .before .loop-test .taken) (c .before .before .before .before .before .before .before .before .before .before .before .before .line-at .ensures) (next .ensures .2) (read .ensures), c .before .before .before .enum-told2 .given .1) at (s .loop .inv .5)),
     )
 
+only-requires : tie.Need-only-requires Inv-loop μ-loop
+only-requires c κs = search needs
+
 returns-3 : tie.Need-returns-3 Inv-loop μ-loop
 returns-3 c =
-    let s = c .before in
+    let s = c .before .before in
     let a = s .before .before .args in
     let names = namesFrom (a .names .now) 0 (a .frequencies) in
     let mains = placesIn 3 (a .maincards .now) (a .mains) in
-    (rw (shallows-end names mains (a .file .now) (s .loop .here) (s .loop .line-number) (s .loop .cards) (s .loop .coefficients) (s .loop .count) (c .loop-test .left)) at (s .loop .inv .5), s .loop .inv .2)
+    (rw (c .only .ensures) (rw (shallows-end names mains (a .file .now) (s .loop .here) (s .loop .line-number) (s .loop .cards) (s .loop .coefficients) (s .loop .count) (c .before .loop-test .left)) at (s .loop .inv .5)), s .loop .inv .2)
 
 pub read-shallows-spec : {M : Type 1} → statement M
 read-shallows-spec =
@@ -145,4 +149,5 @@ read-shallows-spec =
     add-line-number
     loop-less
     loop-again
+    only-requires
     returns-3)
