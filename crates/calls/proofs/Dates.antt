@@ -19,7 +19,7 @@ use Rattle.calls.specs.Calls.{dateGives, dateReturns, dateLeaves}
 pub date-passed : (t s : Bool) (year m : ℕ) → dateBy t s year m ≡ accepted tt → (t ≡ true) × (s ≡ true) × (inRange year m ≡ true)
 date-passed true true year m e = (refl, refl, by (inRange year m) e)
   where
-    by : (c : Bool) → _≡_ {A = Outcome Unit} (answered (refuseIf {A = Unit × Unit} (not c) 8 0 (accepted (tt, tt)))) (accepted tt) → c ≡ true
+    by : (c : Bool) → _≡_ {A = Outcome Unit} (answered (refuseIf {A = Unit {0} × Unit {0}} (not c) 8 0 (accepted (tt, tt)))) (accepted tt) → c ≡ true
     by true e′ = refl
     by false e′ = not-both e′
 date-passed true false year m e = not-both e
@@ -37,8 +37,8 @@ module _ (table : Table) (station : Station) (d : Bool) (month : Month) (year m 
   unfolding dateGives
   gives-refused true true number place e = by (inRange year m) e
     where
-      by : (c : Bool) → _≡_ {A = Outcome Unit} (answered (refuseIf {A = Unit × Unit} (not c) 8 0 (accepted (tt, tt)))) (refused number place)
-          → (refuseIf (not c) 8 0 (accepted (table, station)) >>= λ (t, s). monthOf t s year m >>= λ constituents. accepted (ready constituents)) ≡ refused number place
+      by : (c : Bool) → _≡_ {A = Outcome Unit} (answered (refuseIf {A = Unit {0} × Unit {0}} (not c) 8 0 (accepted (tt, tt)))) (refused number place)
+          → (refuseIf {A = Table × Station} (not c) 8 0 (accepted (table, station)) >>= λ (t, s). monthOf t s year m >>= λ constituents. accepted (ready constituents)) ≡ refused number place
       by true e′ = not-both (sym e′)
       by false e′ = cc
   gives-refused true false number place e = cc

@@ -26,15 +26,15 @@ abbrev Asked : Type 0
 Asked = Outcome (Table × Station × Month)
 
 -- a refusal's place is 0
-no-place : {A B : Type 0} {n p number place : ℕ} → refused {A = A} n p ≡ refused number place → refused {A = B} n 0 ≡ refused number 0
+no-place : {A B : Type 0} {n p number place : ℕ} → _≡_ {A = Outcome A} (refused n p) (refused number place) → _≡_ {A = Outcome B} (refused n 0) (refused number 0)
 no-place {n} {number} e = let z : n ≡ number = cc in ap (λ (k : ℕ). refused k 0) z
 
 module _ (outside : Month → Bool) (table : Table) (station : Station) (month : Month) where
   refused-by : (t s d : Bool) (number place : ℕ) → minutesBy t s d (outside month) ≡ refused number place → ready outside (stateOf t table s station d month) ≡ refused number 0
   refused-by true true true number place e = nine (outside month) e
     where
-      nine : (o : Bool) → _≡_ {A = Outcome Unit} (answered (refuseIf {A = Unit × Unit × Unit} o 9 0 (accepted (tt, tt, tt)))) (refused number place)
-          → refuseIf o 9 0 (accepted (table, station, month)) ≡ refused number 0
+      nine : (o : Bool) → _≡_ {A = Outcome Unit} (answered (refuseIf {A = Unit {0} × Unit {0} × Unit {0}} o 9 0 (accepted (tt, tt, tt)))) (refused number place)
+          → refuseIf {A = Table × Station × Month} o 9 0 (accepted (table, station, month)) ≡ refused number 0
       nine true e′ = no-place e′
       nine false e′ = not-both (sym e′)
   refused-by true true false number place e = no-place e
@@ -44,8 +44,8 @@ module _ (outside : Month → Bool) (table : Table) (station : Station) (month :
   given-by : (t s d : Bool) → minutesBy t s d (outside month) ≡ accepted tt → ready outside (stateOf t table s station d month) ≡ accepted (table, station, month)
   given-by true true true e = nine (outside month) e
     where
-      nine : (o : Bool) → _≡_ {A = Outcome Unit} (answered (refuseIf {A = Unit × Unit × Unit} o 9 0 (accepted (tt, tt, tt)))) (accepted tt)
-          → refuseIf o 9 0 (accepted (table, station, month)) ≡ accepted (table, station, month)
+      nine : (o : Bool) → _≡_ {A = Outcome Unit} (answered (refuseIf {A = Unit {0} × Unit {0} × Unit {0}} o 9 0 (accepted (tt, tt, tt)))) (accepted tt)
+          → refuseIf {A = Table × Station × Month} o 9 0 (accepted (table, station, month)) ≡ accepted (table, station, month)
       nine true e′ = not-both e′
       nine false e′ = refl
   given-by true true false e = not-both e
