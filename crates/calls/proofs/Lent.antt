@@ -1,5 +1,6 @@
 -- What the rows' records promise of a station holds of the records lent. At most 146 records are those of their rows;
 -- of more, both are refused before a record is looked at, and nothing is left of them. Assumes nothing.
+use Prim.{Unit}
 use mathlib.Core.Path.{_≡_, refl, sym, ap, subst, _∙_}
 use Prim.Native.Nat.{ℕ, _≤_, min}
 use native.Mathlib.Omega.{arith}
@@ -10,8 +11,7 @@ use lib.Dec.{ltb}
 use lib.IntN.{ℤ, pos, negsuc}
 use lib.Signed.{ltZ}
 use borrow.Author.Tests.{ltb-false}
-use Rattle.refusals.specs.Outcome as outcome
-use Rattle.refusals.specs.Outcome.{Outcome, refuseIf}
+use Rattle.refusals.specs.Outcome.{Outcome, refused, refuseIf, onAccepted, _>>=_}
 use Rattle.table.specs.Table.{Table}
 use Rattle.station.specs.Station.{stationOutcome}
 use Rattle.station.specs.inner.Rows.{rowsUpto}
@@ -20,14 +20,14 @@ use Rattle.station.specs.declared.records.Record.{Record}
 use Rattle.station.specs.declared.records.Rows.{Rows}
 use Rattle.station.proofs.records.Copies.{records-length, lent-is}
 use Rattle.calls.specs.State.{Maybe, none, some, State}
-use Rattle.calls.specs.Returned.{refused, told, onAccepted}
-use Rattle.calls.specs.Calls.{asks, stationReturns, stationLeaves}
+use Rattle.calls.specs.Asked.{tableAsked}
+use Rattle.calls.specs.Calls.{stationReturns, stationLeaves}
 
 -- an outcome by which nothing new is left
-abbrev Turned : Outcome → Type 0
-Turned o = (new old : State) → onAccepted (told o) new old ≡ old
+abbrev Turned : Outcome Unit → Type 0
+Turned o = (new : Unit → State) (old : State) → onAccepted o new old ≡ old
 
-turned-if : (b : Bool) (number place : ℕ) (o : Outcome) → Turned o → Turned (refuseIf b number place o)
+turned-if : (b : Bool) (number place : ℕ) (o : Outcome Unit) → Turned o → Turned (refuseIf b number place o)
 turned-if true number place o h new old = refl
 turned-if false number place o h new old = h new old
 
@@ -38,19 +38,19 @@ Crowd records = ltb 146 (length records) ≡ true
 
 crowd-turned : (frequencies : ℕ) (latitude : ℤ) (records : List Record) → Crowd records → Turned (stationOutcome frequencies latitude records)
 unfolding stationOutcome
-crowd-turned frequencies latitude records many = rw many (turned-if (ltZ latitude (negsuc 5_399)) 3 0 _ (turned-if (ltZ (pos 5_400) latitude) 3 0 (outcome.refused 6 147) (λ new old. refl)))
+crowd-turned frequencies latitude records many = rw many (turned-if (ltZ latitude (negsuc 5_399)) 3 0 _ (turned-if (ltZ (pos 5_400) latitude) 3 0 (refused 6 147) (λ new old. refl)))
 
 crowds-agree : (frequencies : ℕ) (latitude : ℤ) (a b : List Record) → Crowd a → Crowd b → stationOutcome frequencies latitude a ≡ stationOutcome frequencies latitude b
 unfolding stationOutcome
 crowds-agree frequencies latitude a b many many′ = rw (many, many′) refl
 
 asked-agree : (t : Maybe Table) (latitude : ℤ) (a b : List Record) → Crowd a → Crowd b
-    → asks t (refused 21 0) (λ table. told (stationOutcome (length (table .frequencies)) latitude a)) ≡ asks t (refused 21 0) (λ table. told (stationOutcome (length (table .frequencies)) latitude b))
+    → (tableAsked t >>= λ table. stationOutcome (length (table .frequencies)) latitude a) ≡ (tableAsked t >>= λ table. stationOutcome (length (table .frequencies)) latitude b)
 asked-agree none latitude a b many many′ = refl
-asked-agree (some table) latitude a b many many′ = ap told (crowds-agree (length (table .frequencies)) latitude a b many many′)
+asked-agree (some table) latitude a b many many′ = crowds-agree (length (table .frequencies)) latitude a b many many′
 
-asked-turned : (t : Maybe Table) (latitude : ℤ) (records : List Record) → Crowd records → (new old : State)
-    → onAccepted (asks t (refused 21 0) (λ table. told (stationOutcome (length (table .frequencies)) latitude records))) new old ≡ old
+asked-turned : (t : Maybe Table) (latitude : ℤ) (records : List Record) → Crowd records → (new : Unit → State) (old : State)
+    → onAccepted (tableAsked t >>= λ table. stationOutcome (length (table .frequencies)) latitude records) new old ≡ old
 asked-turned none latitude records many new old = refl
 asked-turned (some table) latitude records many new old = crowd-turned (length (table .frequencies)) latitude records many new old
 

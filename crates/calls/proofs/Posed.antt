@@ -1,15 +1,14 @@
 -- A height, a series and turns, by what is asked first: a refusal, or what is worked out. By the cases of the state's flags.
 -- Assumes nothing.
-use mathlib.Core.Path.{_≡_, refl, sym}
+use Prim.{Unit}
+use mathlib.Core.Path.{_≡_, refl, sym, ap}
 use Prim.Native.Nat.{ℕ}
-use mathlib.Core.Bool.{Bool, true, false, cond, _||_}
+use mathlib.Core.Bool.{Bool, true, false}
 use mathlib.Core.List.{List}
-use lib.Dec.{ltb}
 use lib.IntN.{ℤ}
 use lib.ListN.{length}
-use Rattle.refusals.specs.Outcome as outcome
-use Rattle.refusals.specs.Outcome.{Outcome, refuseIf, andThen}
-use Rattle.calls.specs.Asked.{stateOutcome, heightOutcome, seriesOutcome, turnsOutcome, lastMinute, stepOutside}
+use Rattle.refusals.specs.Outcome.{Outcome, accepted, refused, refuseIf, answered, _>>=_}
+use Rattle.refusals.proofs.Laws.{not-both}
 use Rattle.table.specs.Table.{Table}
 use Rattle.station.specs.Station.{Station}
 use Rattle.turns.specs.Strides.{stationStride}
@@ -17,31 +16,41 @@ use Rattle.heights.specs.Height.{heightAt}
 use Rattle.heights.specs.Series.{seriesOf}
 use Rattle.turns.specs.Slope.{slopeAt}
 use Rattle.turns.specs.Search.{turnsOf}
-use Rattle.turns.specs.Written as written
+use Rattle.turns.specs.Written.{TurnsGiven, unlessRefused, given}
 use Rattle.calls.specs.State.{Month, State}
-use Rattle.calls.specs.inner.Flags.{stateOf}
-use Rattle.calls.specs.Returned.{Returned, accepted, heightIs, refused}
-use Rattle.calls.specs.Calls.{ready, heightReturns, SeriesGiven, seriesRefused, seriesGives, TurnsGiven, turnsRefused, turnsGives, searched}
+use Rattle.calls.specs.Asked.{minuteOutside, seriesOutside, turnsOutside}
+use Rattle.calls.specs.inner.Flags.{stateOf, minutesBy}
+use Rattle.calls.specs.Calls.{ready, heightReturns, seriesHeights, seriesGives, turnsGives}
 
--- what a call gives: by a refusal's number, or what is worked out
-abbrev byOutcome : {B : Type 0} → Outcome → (ℕ → B) → B → B
-byOutcome outcome.accepted refusal x = x
-byOutcome (outcome.refused number place) refusal x = refusal number
+abbrev Asked : Type 0
+Asked = Outcome (Table × Station × Month)
 
--- the state is asked first
-ready-by : {B : Type 0} (t s d : Bool) (table : Table) (station : Station) (month : Month) (refusal : ℕ → B) (next : Table → Station → Month → B) (o : Outcome) (x : B)
-    → next table station month ≡ byOutcome o refusal x
-    → ready (stateOf t table s station d month) refusal next ≡ byOutcome (andThen (stateOutcome t s d) o) refusal x
-unfolding stateOutcome
-ready-by false s d table station month refusal next o x e = refl
-ready-by true false d table station month refusal next o x e = refl
-ready-by true true false table station month refusal next o x e = refl
-ready-by true true true table station month refusal next o x e = e
+-- a refusal's place is 0
+no-place : {A B : Type 0} {n p number place : ℕ} → _≡_ {A = Outcome A} (refused n p) (refused number place) → _≡_ {A = Outcome B} (refused n 0) (refused number 0)
+no-place {n} {number} e = let z : n ≡ number = cc in ap (λ (k : ℕ). refused k 0) z
 
--- and then the minutes
-nine : {B : Type 0} (b : Bool) (refusal : ℕ → B) (x : B) → cond b (refusal 9) x ≡ byOutcome (refuseIf b 9 0 outcome.accepted) refusal x
-nine true refusal x = refl
-nine false refusal x = refl
+module _ (outside : Month → Bool) (table : Table) (station : Station) (month : Month) where
+  refused-by : (t s d : Bool) (number place : ℕ) → minutesBy t s d (outside month) ≡ refused number place → ready outside (stateOf t table s station d month) ≡ refused number 0
+  refused-by true true true number place e = nine (outside month) e
+    where
+      nine : (o : Bool) → _≡_ {A = Outcome Unit} (answered (refuseIf {A = Unit {0} × Unit {0} × Unit {0}} o 9 0 (accepted (tt, tt, tt)))) (refused number place)
+          → refuseIf {A = Table × Station × Month} o 9 0 (accepted (table, station, month)) ≡ refused number 0
+      nine true e′ = no-place e′
+      nine false e′ = not-both (sym e′)
+  refused-by true true false number place e = no-place e
+  refused-by true false d number place e = no-place e
+  refused-by false s d number place e = no-place e
+
+  given-by : (t s d : Bool) → minutesBy t s d (outside month) ≡ accepted tt → ready outside (stateOf t table s station d month) ≡ accepted (table, station, month)
+  given-by true true true e = nine (outside month) e
+    where
+      nine : (o : Bool) → _≡_ {A = Outcome Unit} (answered (refuseIf {A = Unit {0} × Unit {0} × Unit {0}} o 9 0 (accepted (tt, tt, tt)))) (accepted tt)
+          → refuseIf {A = Table × Station × Month} o 9 0 (accepted (table, station, month)) ≡ accepted (table, station, month)
+      nine true e′ = not-both e′
+      nine false e′ = refl
+  given-by true true false e = not-both e
+  given-by true false d e = not-both e
+  given-by false s d e = not-both e
 
 module _ (t : Bool) (table : Table) (s : Bool) (station : Station) (d : Bool) (month : Month) where
   abbrev before : State
@@ -50,65 +59,57 @@ module _ (t : Bool) (table : Table) (s : Bool) (station : Station) (d : Bool) (m
   -- ---- a height
 
   module _ (minute : ℕ) where
-    abbrev height : Returned
-    height = heightIs (heightAt (month .constituents) minute)
+    abbrev outside-height : Month → Bool
+    outside-height m = minuteOutside (m .last) minute
 
-    height-by : heightReturns before minute ≡ byOutcome (heightOutcome t s d (month .last) minute) (λ (n : ℕ). refused n 0) height
-    unfolding heightReturns heightOutcome
-    height-by =
-        ready-by t s d table station month (λ n. refused n 0)
-        (λ table station month. cond (ltb (month .last) minute) (refused 9 0) (heightIs (heightAt (month .constituents) minute)))
-        (refuseIf (ltb (month .last) minute) 9 0 outcome.accepted) height
-        (nine (ltb (month .last) minute) (λ n. refused n 0) height)
+    abbrev height-of : Asked → Outcome ℤ
+    height-of o = o >>= λ (table, station, month). accepted (heightAt (month .constituents) minute)
 
-    pub height-refused : (number place : ℕ) → heightOutcome t s d (month .last) minute ≡ outcome.refused number place → refused number 0 ≡ heightReturns before minute
-    height-refused number place e = sym (rw e at height-by)
+    pub height-refused : (number place : ℕ) → minutesBy t s d (minuteOutside (month .last) minute) ≡ refused number place → refused number 0 ≡ heightReturns before minute
+    unfolding heightReturns
+    height-refused number place e = sym (ap height-of (refused-by outside-height table station month t s d number place e))
 
-    pub height-given : heightOutcome t s d (month .last) minute ≡ outcome.accepted → height ≡ heightReturns before minute
-    height-given e = sym (rw e at height-by)
+    pub height-given : minutesBy t s d (minuteOutside (month .last) minute) ≡ accepted tt → accepted (heightAt (month .constituents) minute) ≡ heightReturns before minute
+    unfolding heightReturns
+    height-given e = sym (ap height-of (given-by outside-height table station month t s d e))
 
   -- ---- a series
 
   module _ (start step : ℕ) (heights : List ℤ) where
-    abbrev series : SeriesGiven
-    series = record { returned = accepted; heights = seriesOf (month .constituents) start step (length heights) }
+    abbrev outside-series : Month → Bool
+    outside-series m = seriesOutside (m .last) start step (length heights)
 
-    abbrev series-outcome : Outcome
-    series-outcome = seriesOutcome t s d (month .last) start step (length heights)
+    abbrev series-of : Asked → Outcome (List ℤ)
+    series-of o = o >>= λ (table, station, month). accepted (seriesOf (month .constituents) start step (length heights))
 
-    series-by : seriesGives before start step heights ≡ byOutcome series-outcome (seriesRefused heights) series
-    unfolding seriesGives seriesOutcome
-    series-by =
-        ready-by t s d table station month (seriesRefused heights)
-        (λ table station month. cond (ltb (month .last) start || stepOutside step || ltb (month .last) (lastMinute start step (length heights))) (seriesRefused heights 9) (record { returned = accepted; heights = seriesOf (month .constituents) start step (length heights) }))
-        (refuseIf (ltb (month .last) start || stepOutside step || ltb (month .last) (lastMinute start step (length heights))) 9 0 outcome.accepted) series
-        (nine (ltb (month .last) start || stepOutside step || ltb (month .last) (lastMinute start step (length heights))) (seriesRefused heights) series)
+    pub series-refused : (number place : ℕ) → minutesBy t s d (seriesOutside (month .last) start step (length heights)) ≡ refused number place
+        → record { returned = refused number 0; heights = heights } ≡ seriesGives before start step heights
+    unfolding seriesGives seriesHeights
+    series-refused number place e = rw (ap series-of (refused-by outside-series table station month t s d number place e))
 
-    pub series-refused : (number place : ℕ) → series-outcome ≡ outcome.refused number place → seriesRefused heights number ≡ seriesGives before start step heights
-    series-refused number place e = sym (rw e at series-by)
-
-    pub series-given : series-outcome ≡ outcome.accepted → series ≡ seriesGives before start step heights
-    series-given e = sym (rw e at series-by)
+    pub series-given : minutesBy t s d (seriesOutside (month .last) start step (length heights)) ≡ accepted tt
+        → record { returned = accepted tt; heights = seriesOf (month .constituents) start step (length heights) } ≡ seriesGives before start step heights
+    unfolding seriesGives seriesHeights
+    series-given e = rw (ap series-of (given-by outside-series table station month t s d e))
 
   -- ---- turns
 
   module _ (first last : ℕ) (minutes : List ℕ) (heights : List ℤ) where
-    abbrev turns : TurnsGiven
-    turns = searched (written.given (heightAt (month .constituents)) (turnsOf (slopeAt (month .constituents)) (stationStride table station) first last) minutes heights)
+    abbrev outside-turns : Month → Bool
+    outside-turns m = turnsOutside (m .last) first last
 
-    abbrev turns-outcome : Outcome
-    turns-outcome = turnsOutcome t s d (month .last) first last
+    abbrev turns-of : Asked → TurnsGiven
+    turns-of o =
+        unlessRefused o minutes heights λ (table, station, month).
+        given (heightAt (month .constituents)) (turnsOf (slopeAt (month .constituents)) (stationStride table station) first last) minutes heights
 
-    turns-by : turnsGives before first last minutes heights ≡ byOutcome turns-outcome (turnsRefused minutes heights) turns
-    unfolding turnsGives turnsOutcome
-    turns-by =
-        ready-by t s d table station month (turnsRefused minutes heights)
-        (λ table station month. cond (ltb (month .last) last || ltb last first) (turnsRefused minutes heights 9) (searched (written.given (heightAt (month .constituents)) (turnsOf (slopeAt (month .constituents)) (stationStride table station) first last) minutes heights)))
-        (refuseIf (ltb (month .last) last || ltb last first) 9 0 outcome.accepted) turns
-        (nine (ltb (month .last) last || ltb last first) (turnsRefused minutes heights) turns)
+    pub turns-refused : (number place : ℕ) → minutesBy t s d (turnsOutside (month .last) first last) ≡ refused number place
+        → record { returned = refused number 0; minutes = minutes; heights = heights } ≡ turnsGives before first last minutes heights
+    unfolding turnsGives
+    turns-refused number place e = sym (ap turns-of (refused-by outside-turns table station month t s d number place e))
 
-    pub turns-refused : (number place : ℕ) → turns-outcome ≡ outcome.refused number place → turnsRefused minutes heights number ≡ turnsGives before first last minutes heights
-    turns-refused number place e = sym (rw e at turns-by)
-
-    pub turns-given : turns-outcome ≡ outcome.accepted → turns ≡ turnsGives before first last minutes heights
-    turns-given e = sym (rw e at turns-by)
+    pub turns-given : minutesBy t s d (turnsOutside (month .last) first last) ≡ accepted tt
+        → given (heightAt (month .constituents)) (turnsOf (slopeAt (month .constituents)) (stationStride table station) first last) minutes heights
+        ≡ turnsGives before first last minutes heights
+    unfolding turnsGives
+    turns-given e = sym (ap turns-of (given-by outside-turns table station month t s d e))

@@ -1,6 +1,5 @@
 pub mod State
-pub mod Returned
-pub mod Calls
 pub mod Asked
+pub mod Calls
 pub mod Names
 pub mod inner

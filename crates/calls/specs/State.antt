@@ -22,5 +22,5 @@ pub record State : Type 0 where
   pub month : Maybe Month
 
 -- "a clock with no table, station or month"
-abbrev pub nothing : State
-nothing = record { table = none; station = none; month = none }
+abbrev pub emptyState : State
+emptyState = record { table = none; station = none; month = none }

@@ -1,16 +1,15 @@
 // What heights, series and turns ask before anything is worked out: of the state, 21 to 23, and then of the minutes, 9.
 ghost use mathlib.Core.Path.{_≡_};
-ghost use mathlib.Core.Bool.{_||_};
-ghost use lib.Dec.{ltb};
-ghost use Rattle.refusals.specs.Outcome.{accepted, refuseIf, andThen, outcomeOf};
-ghost use Rattle.calls.specs.Asked.{stateOutcome, heightOutcome, seriesOutcome, turnsOutcome, lastMinute, stepOutside};
+ghost use Rattle.refusals.specs.Outcome.{outcomeOf};
+ghost use Rattle.calls.specs.Asked.{minuteOutside, seriesOutside, turnsOutside};
+ghost use Rattle.calls.specs.inner.Flags.{minutesBy};
 use limits::STEP;
 use refusals::Answer;
 use refusals::Refusal;
 
 // Whether the table, the station and the month are there, and then whether the minutes are outside of it.
 fn minutes_answer(tabled: bool, stationed: bool, dated: bool, outside: bool) -> Answer
-    ensures { λ r. ⌜ outcomeOf r ≡ andThen (stateOutcome tabled stationed dated) (refuseIf outside 9 0 accepted) ⌝ }
+    ensures { λ r. ⌜ outcomeOf r ≡ minutesBy tabled stationed dated outside ⌝ }
 {
     if !tabled {
         return Answer::Refused(Refusal::NoTable, 0);
@@ -29,14 +28,14 @@ fn minutes_answer(tabled: bool, stationed: bool, dated: bool, outside: bool) -> 
 
 // What a height at a minute asks, in a month with this last minute.
 pub fn height_answer(tabled: bool, stationed: bool, dated: bool, last: u64, minute: u64) -> Answer
-    ensures { λ r. ⌜ outcomeOf r ≡ heightOutcome tabled stationed dated last minute ⌝ }
+    ensures { λ r. ⌜ outcomeOf r ≡ minutesBy tabled stationed dated (minuteOutside last minute) ⌝ }
 {
     minutes_answer(tabled, stationed, dated, last < minute)
 }
 
 // Whether the start is past the month's last minute, the step out of range, or the last of so many heights past the month's last minute.
 fn series_outside(last: u64, start: u64, step: u64, places: usize) -> bool
-    ensures { λ r. ⌜ r ≡ (ltb last start || stepOutside step || ltb last (lastMinute start step places)) ⌝ }
+    ensures { λ r. ⌜ r ≡ seriesOutside last start step places ⌝ }
 {
     if last < start {
         return true;
@@ -63,7 +62,7 @@ pub fn series_answer(
     step: u64,
     places: usize,
 ) -> Answer
-    ensures { λ r. ⌜ outcomeOf r ≡ seriesOutcome tabled stationed dated last start step places ⌝ }
+    ensures { λ r. ⌜ outcomeOf r ≡ minutesBy tabled stationed dated (seriesOutside last start step places) ⌝ }
 {
     minutes_answer(
         tabled,
@@ -75,7 +74,7 @@ pub fn series_answer(
 
 // Whether the last minute is past the month's, or the two are reversed.
 fn turns_outside(end: u64, first: u64, last: u64) -> bool
-    ensures { λ r. ⌜ r ≡ (ltb end last || ltb last first) ⌝ }
+    ensures { λ r. ⌜ r ≡ turnsOutside end first last ⌝ }
 {
     if end < last {
         return true;
@@ -92,7 +91,7 @@ pub fn turns_answer(
     first: u64,
     last: u64,
 ) -> Answer
-    ensures { λ r. ⌜ outcomeOf r ≡ turnsOutcome tabled stationed dated end first last ⌝ }
+    ensures { λ r. ⌜ outcomeOf r ≡ minutesBy tabled stationed dated (turnsOutside end first last) ⌝ }
 {
     minutes_answer(tabled, stationed, dated, turns_outside(end, first, last))
 }

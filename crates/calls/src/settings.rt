@@ -1,9 +1,8 @@
 // What a station, a date and a month come to, before the clock keeps them: accepted, or 21, 22, 8 and 11 with 01's places.
 ghost use mathlib.Core.Path.{_≡_};
-ghost use Rattle.refusals.specs.Outcome.{outcomeOf};
+ghost use Rattle.refusals.specs.Outcome.{outcomeOf, answered};
 ghost use Rattle.month.specs.inner.View.{preparedOf};
-ghost use Rattle.calls.specs.Returned.{answerReturned};
-ghost use Rattle.calls.specs.Calls.{preparedReturns, dateAsked};
+ghost use Rattle.calls.specs.inner.Flags.{dateBy};
 ghost use Rattle.calls.specs.inner.Posts.{TakenPost};
 use month::Preparation;
 use month::Prepared;
@@ -28,7 +27,7 @@ pub fn station_answer(tabled: bool, table: Table, latitude: i32, n: usize, rows:
 
 // What a date asks before its month is prepared: 21, 22, 8.
 pub fn date_answer(tabled: bool, stationed: bool, year: u32, month: u32) -> Answer
-    ensures { λ r. ⌜ outcomeOf r ≡ dateAsked tabled stationed year month ⌝ }
+    ensures { λ r. ⌜ outcomeOf r ≡ dateBy tabled stationed year month ⌝ }
 {
     if !tabled {
         return Answer::Refused(Refusal::NoTable, 0);
@@ -44,7 +43,7 @@ pub fn date_answer(tabled: bool, stationed: bool, year: u32, month: u32) -> Answ
 
 // What a prepared month says: that it is accepted, or 11 and the record.
 pub fn month_answer(prepared: Prepared) -> Answer
-    ensures { λ r. ⌜ answerReturned r ≡ preparedReturns (preparedOf prepared) ⌝ }
+    ensures { λ r. ⌜ outcomeOf r ≡ answered (preparedOf prepared) ⌝ }
 {
     let answer = prepared.answer;
     match answer {

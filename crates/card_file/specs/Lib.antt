@@ -1,4 +1,5 @@
 pub mod Cards
+pub mod Outcome
 pub mod Satellites
 pub mod Counts
 pub mod inner

@@ -29,7 +29,7 @@ use Rattle.card_shallows.specs.Shallows.{shallowsFrom}
 use Rattle.card_file.specs.Cards as cards
 use Rattle.card_file.specs.Cards.{allDefined, readCards}
 use Rattle.station.specs.declared.records.Record.{Record}
-use Rattle.station.specs.Station.{Station, repeated, recordOutcome, recordsOutcome, stationOutcome}
+use Rattle.station.specs.Station.{Station, placeRepeated, recordOutcome, recordsOutcome, stationOutcome}
 use Rattle.month_arguments.specs.Longitudes.{longitude, longitudesOn, times}
 use Rattle.month_arguments.specs.Arguments.{argument}
 use Rattle.month_satellites.specs.Satellites.{sumOver, mainPair}
@@ -164,7 +164,7 @@ unfolding stationReturns stationOutcome recordsOutcome
 none-accepted = rw (table-worked none)
 
 station-accepted : stationReturns (workedOut afterNone) (pos 0) z0-records ≡ accepted
-unfolding stationReturns stationOutcome recordsOutcome recordOutcome repeated
+unfolding stationReturns stationOutcome recordsOutcome recordOutcome placeRepeated
 station-accepted = rw (table-worked (some (record { latitude = pos 0; records = [] })))
 
 date-accepted : dateReturns (workedOut afterStation) 1976 7 ≡ accepted

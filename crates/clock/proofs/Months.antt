@@ -6,8 +6,8 @@ use native.Mathlib.Omega.{arith}
 use native.Mathlib.Nat.{zero-add, add-zero}
 use lib.ListN.{getD}
 use lib.IntN.{ℤ, pos}
-use Rattle.refusals.specs.Outcome as outcome
-use Rattle.refusals.specs.Outcome.{outcomeOf, numberOf}
+use Rattle.refusals.specs.Outcome.{Outcome, accepted, refused, outcomeOf, numberOf, answered, onAccepted}
+use Rattle.refusals.proofs.Laws.{not-both}
 use Rattle.refusals.specs.declared.Refusal.{Refusal}
 use Rattle.refusals.specs.declared.Answer.{Answer}
 use Rattle.refusals.specs.declared.Answer.the-variants.{Accepted, Refused}
@@ -18,15 +18,15 @@ use Rattle.month_prepared.specs.declared.Month.{Month}
 use Rattle.month_prepared.specs.inner.View.{constituentsAfter, constituentsOf}
 use Rattle.calendar.specs.Calendar.{monthMinutes}
 use Rattle.calendar.proofs.Months.{minutes-short}
-use Rattle.month.specs.Month.{monthOf, prepared}
+use Rattle.month.specs.Month.{monthOf}
 use Rattle.month.specs.inner.View.{answeredWith, preparedOf}
 use Rattle.month.specs.declared.Prepared.{Prepared}
 use Rattle.month.specs.declared.Preparation.{Preparation}
 use Rattle.month.specs.declared.Preparation.the-variants as preparation
 use Rattle.month.proofs.Ranges.{prepared-in-range}
+use Rattle.calls.specs.State.{State}
 use Rattle.clock.specs.declared.Clock.{Clock}
-use Rattle.calls.specs.Returned.{accepted, answerReturned}
-use Rattle.calls.specs.Calls.{preparedReturns, dateAsked}
+use Rattle.calls.specs.inner.Flags.{dateBy}
 use Rattle.calls.proofs.Dates.{date-refused, date-prepared}
 use Rattle.clock.specs.View.{view, monthIn, Made}
 use Rattle.clock.specs.Posts.{DatePost}
@@ -44,16 +44,16 @@ frequency-at vs ls fs ps qs k (suc n) (suc i) none h =
     frequency-at vs ls fs ps qs (k + 1) n i none (omega arith) ∙ ap (λ (j : ℕ). getD fs j 0) (let e : k + 1 + i ≡ k + suc i = omega arith in e)
 
 -- accepted is what is ready
-ready-by : (answer : Preparation) (m : Month) → preparedReturns (answeredWith answer m) ≡ accepted → answeredWith answer m ≡ prepared (constituentsOf m)
+ready-by : (answer : Preparation) (m : Month) → answered (answeredWith answer m) ≡ accepted tt → answeredWith answer m ≡ accepted (constituentsOf m)
 ready-by preparation.Ready m e = refl
-ready-by (preparation.TooLarge place) m e = let z : _≡_ {A = ℕ} 0 1 = cc in absurd (omega arith)
+ready-by (preparation.TooLarge place) m e = not-both e
 
 module _ (c : Clock) (year month : ℕ) (p : Prepared) (answer : Answer) (made : Made c)
-    (prepares : preparedOf p ≡ monthOf (tableOf (c .table)) (stationOf (c .station)) year month) (says : answerReturned answer ≡ preparedReturns (preparedOf p)) where
+    (prepares : preparedOf p ≡ monthOf (tableOf (c .table)) (stationOf (c .station)) year month) (says : outcomeOf answer ≡ answered (preparedOf p)) where
   pub month-ready : answer ≡ Accepted → PreparedPost c year month Accepted (withMonth c (monthMinutes year month) (p .month))
   unfolding view
   month-ready e =
-      let ready : monthOf (tableOf (c .table)) (stationOf (c .station)) year month ≡ prepared (constituentsOf (p .month)) = sym prepares ∙ ready-by (p .answer) (p .month) (sym says ∙ ap answerReturned e) in
+      let ready : monthOf (tableOf (c .table)) (stationOf (c .station)) year month ≡ accepted (constituentsOf (p .month)) = sym prepares ∙ ready-by (p .answer) (p .month) (sym says ∙ ap outcomeOf e) in
       let none : Constituent = record { argument = 0; lag = 0; frequency = 0; p = pos 0; q = pos 0 } in
       let m = p .month in
       record {
@@ -69,17 +69,22 @@ module _ (c : Clock) (year month : ℕ) (p : Prepared) (answer : Answer) (made :
       }
 
   pub month-refused : (r : Refusal) (place : ℕ) → answer ≡ Refused r place → PreparedPost c year month answer c
-  month-refused r place e = record { made = made; returns = rw (← prepares) says; leaves = rw e }
+  month-refused r place e =
+      record { made = made; returns = rw (← prepares) says; leaves = rw (← prepares) (by (preparedOf p) (sym says ∙ ap outcomeOf e) _) }
+    where
+      by : (o : Outcome (List Constituent)) → answered o ≡ refused (numberOf r) place → (f : List Constituent → State) → view c ≡ onAccepted o f (view c)
+      by (accepted constituents) h f = not-both {number = numberOf r} {place = place} (sym h)
+      by (refused number line) h f = refl
 
 -- a date that passes returns and leaves what its month says
-pub date-post : (c : Clock) (year month : ℕ) → dateAsked (c .tabled) (c .stationed) year month ≡ outcome.accepted
+pub date-post : (c : Clock) (year month : ℕ) → dateBy (c .tabled) (c .stationed) year month ≡ accepted tt
     → (answer : Answer) (left : Clock) → PreparedPost c year month answer left → DatePost c year month answer left
 unfolding view
 date-post c year month e answer left p =
-    let law = date-prepared (tableOf (c .table)) (stationOf (c .station)) (c .dated) (monthIn c) year month (c .tabled) (c .stationed) e (answerReturned answer) (p .returns) in
-    record { made = p .made; returns = law .0; leaves = p .leaves ∙ law .1 }
+    let law = date-prepared (tableOf (c .table)) (stationOf (c .station)) (c .dated) (monthIn c) year month (c .tabled) (c .stationed) e in
+    record { made = p .made; returns = p .returns ∙ law .0; leaves = p .leaves ∙ law .1 }
 
-pub date-post-refused : (c : Clock) (year month : ℕ) → Made c → (answer : Answer) → outcomeOf answer ≡ dateAsked (c .tabled) (c .stationed) year month
+pub date-post-refused : (c : Clock) (year month : ℕ) → Made c → (answer : Answer) → outcomeOf answer ≡ dateBy (c .tabled) (c .stationed) year month
     → (r : Refusal) (place : ℕ) → answer ≡ Refused r place → DatePost c year month answer c
 unfolding view
 date-post-refused c year month made answer says r place e =

@@ -14,7 +14,6 @@ ghost use Rattle.clock.specs.Posts.{NewPost, CardsPost, StationPost, Dat
 ghost use Rattle.clock.specs.inner.Posts.{PreparedPost};
 ghost use Rattle.station.specs.Records.{recordsOf};
 ghost use Rattle.turns.specs.inner.Answers.{returnedOf};
-ghost use Rattle.calls.specs.Calls.{searchReturns};
 ghost use Rattle.clock.specs.Returned.{turnsReturned};
 ghost use Rattle.clock.specs.inner.Parts.{accepts, withTable, withStation, withMonth, keptMonth};
 use calls::asked;
@@ -315,7 +314,7 @@ fn month_in(clock: Clock) -> Month
 
 // What a search says: how many turns, and whether the first is high; or 10.
 fn found_turns(found: Searched) -> TurnsAnswer
-    ensures { λ r. ⌜ turnsReturned r ≡ searchReturns (returnedOf found) ⌝ }
+    ensures { λ r. ⌜ turnsReturned r ≡ returnedOf found ⌝ }
 {
     match found {
         Searched::Found(s) => TurnsAnswer::Turns(s.count, s.high),

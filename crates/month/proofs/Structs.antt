@@ -26,9 +26,11 @@ use Rattle.month_workings.specs.declared.workings.Given.{Given}
 use Rattle.month_workings.specs.declared.worked.Worked.{Worked}
 use Rattle.month_workings.proofs.workings.None.{none-kept}
 use Rattle.month_workings.proofs.worked.OfRows.{worked-out}
-use Rattle.month.specs.Month.{Prepared, tooLarge, prepared, before, recordsPrepared, weight}
+use Rattle.month.specs.Month.{recordsPrepared, weight}
 use Rattle.month.specs.inner.View.{frequenciesOf, rowsPrepared}
-use Rattle.month.proofs.Records.{left, all-done, none-done, refused-at, accepted-at}
+use Rattle.refusals.specs.Outcome as outcome
+use Rattle.refusals.specs.Outcome.{Outcome}
+use Rattle.month.proofs.Records.{before, left, all-done, none-done, refused-at, accepted-at}
 
 module _ (t : Table) (s : Station) (given : Given) where
   abbrev fs : List ℕ
@@ -47,19 +49,19 @@ module _ (t : Table) (s : Station) (given : Given) where
   l = longitudesOf (given .longitudes)
 
   -- the month of all records
-  abbrev pub all : Prepared
+  abbrev pub all : Outcome (List Constituent)
   all = rowsPrepared t g l 1 (stationOf s .records)
 
   -- constituents that are done, before the records from k on, of n
-  abbrev pub with-rest : List Constituent → ℕ → ℕ → Prepared
+  abbrev pub with-rest : List Constituent → ℕ → ℕ → Outcome (List Constituent)
   with-rest cs n k = before cs (left fs ms ss g l (s .places) (s .amplitudes) (s .lags) n k)
 
   pub starts : (n : ℕ) → n ≡ min (s .count) 146 → with-rest [] n 0 ≡ all
   unfolding stationOf
   starts n e = none-done fs ms ss g l (s .places) (s .amplitudes) (s .lags) n ∙ ap (λ (m : ℕ). recordsPrepared fs ms ss g l 1 (recordsFrom (s .places) (s .amplitudes) (s .lags) 0 m)) e
 
-  pub ends : (cs : List Constituent) (n k : ℕ) → n ≤ k → with-rest cs n k ≡ all → prepared cs ≡ all
-  ends cs n k h inv = subst (λ (p : Prepared). p ≡ all) (all-done fs ms ss g l (s .places) (s .amplitudes) (s .lags) cs k n h) inv
+  pub ends : (cs : List Constituent) (n k : ℕ) → n ≤ k → with-rest cs n k ≡ all → outcome.accepted cs ≡ all
+  ends cs n k h inv = subst (λ (p : Outcome (List Constituent)). p ≡ all) (all-done fs ms ss g l (s .places) (s .amplitudes) (s .lags) cs k n h) inv
 
   -- at the start no main is worked out
   pub none-yet : length (t .mainangles) ≡ 448 → length (t .maincards) ≡ 192 → KeptBy given (t .maincards) (t .mainangles) (t .satelliteangles) (t .satelliteratios) noneKept
@@ -75,7 +77,7 @@ module _ (t : Table) (s : Station) (given : Given) where
         (subst (λ (n : ℕ). Ready (argumentAt l (t .mainangles) n) (correctedAt g (nodal l) (t .maincards) (t .satelliteangles) (t .satelliteratios) n) (t .shallowcards) found kept) same ready) from
 
     module _ (cs : List Constituent) (n : ℕ) (inv : with-rest cs n k ≡ all) (h : k < n) where
-      pub refused : w .corrected ≡ TooLarge → tooLarge (k + 1) ≡ all
+      pub refused : w .corrected ≡ TooLarge → outcome.refused 11 (k + 1) ≡ all
       refused e = refused-at fs ms ss g l (s .places) (s .amplitudes) (s .lags) cs k n all inv h w worked e
 
       pub accepted : (xy : code.Pair) → w .corrected ≡ Within xy → (f : ℕ) (cs′ : List Constituent) → f ≡ getD fs (getD (s .places) k 0) 0

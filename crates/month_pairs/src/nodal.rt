@@ -5,7 +5,8 @@ ghost use lib.ListN.{getD};
 ghost use Rattle.table.specs.inner.View.{naturals, integers, partOf, shallowOf};
 ghost use Rattle.month_satellites.specs.inner.Ranges.{Sized};
 ghost use Rattle.month_satellites.specs.inner.View.{pairOf};
-ghost use Rattle.month_pairs.specs.Pairs.{pair, one};
+ghost use Rattle.refusals.specs.Checked.{good};
+ghost use Rattle.month_pairs.specs.Pairs.{one};
 ghost use Rattle.month_pairs.specs.inner.Ranges.{pairMost, Small};
 ghost use Rattle.month_pairs.specs.inner.Corrected.{correctedOf};
 ghost use Rattle.month_pairs.specs.Shallow.{timesPart, fromParts};
@@ -24,7 +25,7 @@ use table::entries::natural_at;
 
 // The pair of main k by its sums X and Y, from what is kept of the mains in rows of V, X and Y: unless it is too large, or (2^20, 0) past the last.
 pub fn pair_at(kept: &[i64; KEPT], k: usize) -> Corrected
-    ensures { λ r. ⌜ correctedOf r ≡ getD (pairsOf (now (kept .entry))) k (pair one) ⌝ }
+    ensures { λ r. ⌜ correctedOf r ≡ getD (pairsOf (now (kept .entry))) k (good one) ⌝ }
     ensures { λ r. ⌜ Small r ⌝ }
 {
     if MAINS <= k {

@@ -5,7 +5,7 @@ ghost use lib.IntN.{natAbs, _+ℤ_, _-ℤ_, _*ℤ_};
 ghost use Rattle.angles.specs.Floor.{floorDiv};
 ghost use Rattle.month_satellites.specs.inner.Ranges.{sumMost, Sized};
 ghost use Rattle.month_satellites.specs.inner.View.{pairOf};
-ghost use Rattle.month_pairs.specs.Pairs.{checked, timesPair, turned, timesOften, andThen};
+ghost use Rattle.month_pairs.specs.Pairs.{checked, timesPair, turned, timesOften, timesMain};
 ghost use Rattle.month_pairs.specs.inner.Ranges.{pairMost, Small};
 ghost use Rattle.month_pairs.specs.inner.Corrected.{correctedOf};
 use angles::floor_div;
@@ -110,7 +110,7 @@ fn widened(n: i8) -> i64
 pub fn times_part(p: Pair, main: Corrected, coefficient: i8) -> Corrected
     requires { ⌜ Sized pairMost p ⌝ }
     requires { ⌜ Small main ⌝ }
-    ensures { λ r. ⌜ correctedOf r ≡ andThen (correctedOf main) (λ q. timesOften (natAbs coefficient) (pairOf p) (turned coefficient q)) ⌝ }
+    ensures { λ r. ⌜ correctedOf r ≡ timesMain (pairOf p) (correctedOf main) coefficient ⌝ }
     ensures { λ r. ⌜ Small r ⌝ }
 {
     match main {

@@ -2,12 +2,13 @@
 use Prim.Native.Nat.{ℕ}
 use mathlib.Core.List.{List}
 use lib.IntN.{pos}
+use Rattle.refusals.specs.Checked.{good}
 use Rattle.table.specs.Table.{Main}
 use Rattle.table.specs.Definitions.{Definition, main, shallow, undefined}
 use Rattle.month_arguments.specs.Longitudes.{Longitudes, nodal}
 use Rattle.month_arguments.specs.Arguments.{mainArgument, shallowArgument}
 use Rattle.month_satellites.specs.Latitude.{Factors}
-use Rattle.month_pairs.specs.Pairs.{Corrected, pair}
+use Rattle.month_pairs.specs.Pairs.{Corrected}
 use Rattle.month_pairs.specs.Shallow.{mainCorrected, shallowCorrected}
 
 -- V, in ticks. (Nothing where there is no definition.)
@@ -20,4 +21,4 @@ argumentOf l mains undefined = 0
 unfoldable pub correctionOf : Factors → Longitudes → List Main → Definition → Corrected
 correctionOf g l mains (main m) = mainCorrected g (nodal l) m
 correctionOf g l mains (shallow s) = shallowCorrected g (nodal l) mains s
-correctionOf g l mains undefined = pair (record { x = pos 0; y = pos 0 })
+correctionOf g l mains undefined = good (record { x = pos 0; y = pos 0 })

@@ -1,5 +1,6 @@
 -- 01, "Turned down by the input" and "Turned down by the state": a call is accepted, or refused by a number and a place.
 -- Assumes nothing.
+use Prim.{Unit}
 use Prim.Native.Nat.{ℕ}
 use mathlib.Core.Bool.{Bool, true, false}
 use Rattle.refusals.specs.declared.Refusal.{Refusal}
@@ -7,10 +8,11 @@ use Rattle.refusals.specs.declared.Refusal.the-variants.{BadLine, Malfor
 use Rattle.refusals.specs.declared.Answer.{Answer}
 use Rattle.refusals.specs.declared.Answer.the-variants.{Accepted, Refused}
 
--- "A refusal returns its number and a place: card line, or station record (also for 11), from 1; else 0."
-pub data Outcome : Type 0 where
-  accepted : Outcome
-  refused : ℕ → ℕ → Outcome
+-- what a call or a check gives where it is accepted (`Unit`: nothing but that it is); "A refusal returns its number and a place: card line, or
+-- station record (also for 11), from 1; else 0."
+pub data Outcome (A : Type 0) : Type 0 where
+  accepted : A → Outcome A
+  refused : ℕ → ℕ → Outcome A
 
 -- the number of each row of the two tables
 abbrev pub numberOf : Refusal → ℕ
@@ -30,21 +32,30 @@ numberOf NoStation = 22
 numberOf NoMonth = 23
 
 -- what an answer of the code says in 01's numbers
-abbrev pub outcomeOf : Answer → Outcome
-outcomeOf Accepted = accepted
+abbrev pub outcomeOf : Answer → Outcome Unit
+outcomeOf Accepted = accepted tt
 outcomeOf (Refused r place) = refused (numberOf r) place
 
 -- the first refusal that fits, in the order written: `refuseIf test number place (what is asked next)`
-abbrev pub refuseIf : Bool → ℕ → ℕ → Outcome → Outcome
+abbrev pub refuseIf : {A : Type 0} → Bool → ℕ → ℕ → Outcome A → Outcome A
 refuseIf true number place next = refused number place
 refuseIf false number place next = next
 
--- the first of two outcomes that is a refusal
-abbrev pub andThen : Outcome → Outcome → Outcome
-andThen accepted next = next
-andThen (refused number place) next = refused number place
+-- one outcome, and where it is accepted the next, from what it gives
+infixl 20 _>>=_
+abbrev pub _>>=_ : {A B : Type 0} → Outcome A → (A → Outcome B) → Outcome B
+accepted a >>= next = next a
+refused number place >>= next = refused number place
 
--- what a call leaves or gives: one thing where it is accepted, another where it is refused
-abbrev pub onAccepted {ℓ} : {A : Type ℓ} → Outcome → A → A → A
-onAccepted accepted new old = new
+infixl 20 _>>_
+abbrev pub _>>_ : {A B : Type 0} → Outcome A → Outcome B → Outcome B
+first >> next = first >>= λ a. next
+
+-- that it is accepted, or the refusal
+abbrev pub answered : {A : Type 0} → Outcome A → Outcome Unit
+answered outcome = outcome >> accepted tt
+
+-- what a call leaves or gives: something new, from what it gives, where it is accepted; what was there where it is refused
+abbrev pub onAccepted {ℓ} : {A : Type 0} {B : Type ℓ} → Outcome A → (A → B) → B → B
+onAccepted (accepted a) new old = new a
 onAccepted (refused number place) new old = old

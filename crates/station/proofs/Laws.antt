@@ -1,6 +1,7 @@
 -- Laws of the station's definitions that the loops cite: what one more record adds.
 -- Assumes nothing.
 use mathlib.Core.Path.{_≡_, refl, ap}
+use Prim.{Unit}
 use Prim.Native.Nat.{ℕ, zero, suc, _+_, _-_, _%_, _≤_, _<_}
 use mathlib.Core.List.{List}
 use mathlib.Core.Bool.{Bool, true, false, cond}
@@ -10,27 +11,28 @@ use native.Mathlib.Omega.{arith}
 use lib.ListN.{getD}
 use lib.Dec.{eqb, leb, ltb}
 use borrow.Author.Tests.{ltb-false}
-use Rattle.refusals.specs.Outcome.{Outcome, accepted, refused, refuseIf, andThen, numberOf, outcomeOf}
+use Rattle.refusals.specs.Outcome.{Outcome, accepted, refused, refuseIf, _>>=_, _>>_, numberOf, outcomeOf}
+use Rattle.refusals.proofs.Laws.{not-both}
 use Rattle.refusals.specs.declared.Answer.{Answer}
 use Rattle.refusals.specs.declared.Answer.the-variants.{Refused}
 use Rattle.refusals.specs.declared.Refusal.{Refusal}
 use Rattle.station.specs.declared.records.Record.{Record}
 use Rattle.station.specs.declared.records.Rows.{Rows}
 use Rattle.station.specs.declared.Station as code
-use Rattle.station.specs.Station.{repeated, recordOutcome, recordsOutcome}
+use Rattle.station.specs.Station.{placeRepeated, recordOutcome, recordsOutcome}
 use Rattle.station.specs.inner.Station.{placesBefore, stationUpto, putRecord}
 use Rattle.station.specs.Records.{recordAt, recordsFrom}
 
 -- a place among the first k is the last of them, or among those before it
 pub repeated-more : (place : ℕ) (places : List ℕ) (k : ℕ) → 0 < k
-    → repeated place (placesBefore places k) ≡ cond (eqb (getD places (k - 1) 0) place) true (repeated place (placesBefore places (k - 1)))
-unfolding repeated placesBefore
+    → placeRepeated place (placesBefore places k) ≡ cond (eqb (getD places (k - 1) 0) place) true (placeRepeated place (placesBefore places (k - 1)))
+unfolding placeRepeated placesBefore
 repeated-more place places zero h = absurd (not-suc-le-zero h)
 repeated-more place places (suc k) h = rw (sub-one (suc k))
 
 -- none stands among no places
-pub repeated-none : (place : ℕ) (places : List ℕ) (k : ℕ) → k ≤ 0 → repeated place (placesBefore places k) ≡ false
-unfolding repeated placesBefore
+pub repeated-none : (place : ℕ) (places : List ℕ) (k : ℕ) → k ≤ 0 → placeRepeated place (placesBefore places k) ≡ false
+unfolding placeRepeated placesBefore
 repeated-none place places zero h = refl
 repeated-none place places (suc k) h = absurd (not-suc-le-zero h)
 
@@ -39,34 +41,31 @@ repeated-none place places (suc k) h = absurd (not-suc-le-zero h)
 -- the records from k on are record k and those from k + 1 on
 pub records-more : (frequencies : ℕ) (rows : Rows) (k n : ℕ) → k < n
     → recordsOutcome frequencies (placesBefore (rows .places) k) (k + 1) (recordsFrom (rows .places) (rows .amplitudes) (rows .phases) k (n - k))
-    ≡ andThen (recordOutcome frequencies (placesBefore (rows .places) k) (k + 1) (recordAt rows k))
-    (recordsOutcome frequencies (placesBefore (rows .places) (k + 1)) (k + 1 + 1) (recordsFrom (rows .places) (rows .amplitudes) (rows .phases) (k + 1) (n - (k + 1))))
+    ≡ (recordOutcome frequencies (placesBefore (rows .places) k) (k + 1) (recordAt rows k)
+    >> recordsOutcome frequencies (placesBefore (rows .places) (k + 1)) (k + 1 + 1) (recordsFrom (rows .places) (rows .amplitudes) (rows .phases) (k + 1) (n - (k + 1))))
 unfolding recordsOutcome recordsFrom placesBefore
 records-more frequencies rows k n h =
     let e : n - k ≡ suc (n - (k + 1)) = omega arith in
     rw (e, add-one k)
 
 pub records-none : (frequencies : ℕ) (rows : Rows) (k n : ℕ) → n ≤ k
-    → recordsOutcome frequencies (placesBefore (rows .places) k) (k + 1) (recordsFrom (rows .places) (rows .amplitudes) (rows .phases) k (n - k)) ≡ accepted
+    → recordsOutcome frequencies (placesBefore (rows .places) k) (k + 1) (recordsFrom (rows .places) (rows .amplitudes) (rows .phases) k (n - k)) ≡ accepted tt
 unfolding recordsOutcome recordsFrom
 records-none frequencies rows k n h = let e : n - k ≡ 0 = omega arith in rw e
 
 -- an accepted record's amplitude and phase lag are in range
-pub record-fits : (frequencies : ℕ) (earlier : List ℕ) (k : ℕ) (r : Record) → recordOutcome frequencies earlier k r ≡ accepted
+pub record-fits : (frequencies : ℕ) (earlier : List ℕ) (k : ℕ) (r : Record) → recordOutcome frequencies earlier k r ≡ accepted tt
     → (r .amplitude ≤ 65_535) × (r .phase ≤ 35_999)
 unfolding recordOutcome
 record-fits frequencies earlier k r =
-    tests (leb frequencies (r .place)) (repeated (r .place) earlier) (ltb 65_535 (r .amplitude)) (ltb 35_999 (r .phase)) (ltb-false 65_535 (r .amplitude)) (ltb-false 35_999 (r .phase))
+    tests (leb frequencies (r .place)) (placeRepeated (r .place) earlier) (ltb 65_535 (r .amplitude)) (ltb 35_999 (r .phase)) (ltb-false 65_535 (r .amplitude)) (ltb-false 35_999 (r .phase))
   where
-    never : (number place : ℕ) {A : Type 0} → refused number place ≡ accepted → A
-    never number place e = let z : _≡_ {A = ℕ} 0 1 = cc in absurd (omega arith)
-
     tests : (a b c d : Bool) {P Q : Type 0} → (c ≡ false → P) → (d ≡ false → Q)
-        → refuseIf a 5 k (refuseIf b 4 k (refuseIf c 3 k (refuseIf d 3 k accepted))) ≡ accepted → P × Q
-    tests true b c d p q e = never 5 k e
-    tests false true c d p q e = never 4 k e
-    tests false false true d p q e = never 3 k e
-    tests false false false true p q e = never 3 k e
+        → _≡_ {A = Outcome Unit} (refuseIf a 5 k (refuseIf b 4 k (refuseIf c 3 k (refuseIf d 3 k (accepted tt))))) (accepted tt) → P × Q
+    tests true b c d p q e = not-both e
+    tests false true c d p q e = not-both e
+    tests false false true d p q e = not-both e
+    tests false false false true p q e = not-both e
     tests false false false false p q e = (p refl, q refl)
 
 -- the station with one record more
@@ -80,12 +79,9 @@ pub narrow-is : (x : ℕ) → x ≤ 65_535 → x % 65_536 ≡ x
 narrow-is x h = mod-eq-of-lt (omega arith)
 
 -- a refusal ends the work
-pub stops : (a : Answer) (r : Refusal) (place : ℕ) (next : Outcome) → a ≡ Refused r place → andThen (outcomeOf a) next ≡ outcomeOf a
+pub stops : (a : Answer) (r : Refusal) (place : ℕ) (next : Unit → Outcome Unit) → a ≡ Refused r place → (outcomeOf a >>= next) ≡ outcomeOf a
 stops a r place next e = rw e
 
 -- what is refused is not accepted
-pub not-accepted : {A : Type 0} (a : Answer) (r : Refusal) (place : ℕ) → a ≡ Refused r place → outcomeOf a ≡ accepted → A
-not-accepted a r place e h =
-    let k : refused (numberOf r) place ≡ accepted = rw e at h in
-    let z : _≡_ {A = ℕ} 0 1 = cc in
-    absurd (omega arith)
+pub not-accepted : {A : Type 0} (a : Answer) (r : Refusal) (place : ℕ) → a ≡ Refused r place → outcomeOf a ≡ accepted tt → A
+not-accepted a r place e h = not-both {number = numberOf r} {place = place} (rw e at h)

@@ -1,5 +1,6 @@
 -- 01, "Satellites and weights": what a station is. "Turned down by the input": how its records are checked, and in which order.
 -- Assumes nothing.
+use Prim.{Unit}
 use Prim.Native.Nat.{ℕ, _+_}
 use mathlib.Core.List.{List, [], _∷_}
 use mathlib.Core.Bool.{Bool, true, false, cond}
@@ -8,7 +9,7 @@ use lib.Dec.{eqb, leb, ltb}
 use lib.IntN.{ℤ, pos, negℤ}
 use lib.Signed.{ltZ}
 use Rattle.limits.specs.Limits.{mostAmplitude, mostLatitude, mostPhase, mostRecords}
-use Rattle.refusals.specs.Outcome.{Outcome, accepted, refuseIf, andThen}
+use Rattle.refusals.specs.Outcome.{Outcome, accepted, refuseIf, _>>=_, _>>_}
 use Rattle.station.specs.declared.records.Record.{Record}
 
 -- "A station is a latitude in signed minutes [..] and at most 146 constituents [..] lent as one row of records: place, amplitude, phase."
@@ -17,26 +18,27 @@ pub record Station : Type 0 where
   pub records : List Record
 
 -- "place repeated": whether a place stands among those of the records before
-unfoldable pub repeated : ℕ → List ℕ → Bool
-repeated place [] = false
-repeated place (earlier ∷ rest) = cond (eqb earlier place) true (repeated place rest)
+unfoldable pub placeRepeated : ℕ → List ℕ → Bool
+placeRepeated place [] = false
+placeRepeated place (earlier ∷ rest) = cond (eqb earlier place) true (placeRepeated place rest)
 
 -- "each record's place (5, 4), amplitude, phase": the record number k, from 1, after records with the places `earlier`,
 -- in a table with so many frequencies. "Amplitude is 0 to 65,535 [..], phase lag 0 to 35,999."
-unfoldable pub recordOutcome : ℕ → List ℕ → ℕ → Record → Outcome
+unfoldable pub recordOutcome : ℕ → List ℕ → ℕ → Record → Outcome Unit
 recordOutcome frequencies earlier k r =
     refuseIf (leb frequencies (r .place)) 5 k
-    (refuseIf (repeated (r .place) earlier) 4 k
-    (refuseIf (ltb mostAmplitude (r .amplitude)) 3 k (refuseIf (ltb mostPhase (r .phase)) 3 k accepted)))
+    (refuseIf (placeRepeated (r .place) earlier) 4 k
+    (refuseIf (ltb mostAmplitude (r .amplitude)) 3 k (refuseIf (ltb mostPhase (r .phase)) 3 k (accepted tt))))
 
 -- the records from number k on, each in its turn
-unfoldable pub recordsOutcome : ℕ → List ℕ → ℕ → List Record → Outcome
-recordsOutcome frequencies earlier k [] = accepted
-recordsOutcome frequencies earlier k (r ∷ rs) =
-    andThen (recordOutcome frequencies earlier k r) (recordsOutcome frequencies (r .place ∷ earlier) (k + 1) rs)
+unfoldable pub recordsOutcome : ℕ → List ℕ → ℕ → List Record → Outcome Unit
+recordsOutcome frequencies earlier k [] = accepted tt
+recordsOutcome frequencies earlier k (r ∷ rs) = do
+  recordOutcome frequencies earlier k r
+  recordsOutcome frequencies (r .place ∷ earlier) (k + 1) rs
 
 -- "A station checks latitude (place 0), count (place 147, the first record too many), then each record". Latitude is -5,400 to 5,400.
-unfoldable pub stationOutcome : ℕ → ℤ → List Record → Outcome
+unfoldable pub stationOutcome : ℕ → ℤ → List Record → Outcome Unit
 stationOutcome frequencies latitude rs =
     refuseIf (ltZ latitude (negℤ (pos mostLatitude))) 3 0
     (refuseIf (ltZ (pos mostLatitude) latitude) 3 0

@@ -14,7 +14,8 @@ use Rattle.turns.specs.Search.{Turn, firstHigh, minutesOf}
 use Rattle.turns.specs.inner.Search.{Minutes, FoundPost}
 use Rattle.turns.specs.declared.search.Summary.{Summary}
 use Rattle.turns.proofs.search.Stored.{stored-all}
-use Rattle.turns.specs.Written.{found, refused, inFront, given}
+use Rattle.refusals.specs.Outcome.{accepted, refused}
+use Rattle.turns.specs.Written.{inFront, given}
 
 -- a list, each by a rule
 module _ {A : Type 0} (f : ℕ → A) (ks : List ℕ) (l : List A) where
@@ -39,17 +40,17 @@ filled-minutes {kept} {r} p k h =
 -- ---- what is given, by the buffers' room
 
 module _ (height : ℕ → ℤ) (turns : List Turn) (minutes : List ℕ) (heights : List ℤ) where
-  pub few-minutes : length minutes < length turns → record { returned = refused 10; minutes = minutes; heights = heights } ≡ given height turns minutes heights
+  pub few-minutes : length minutes < length turns → record { returned = refused 10 0; minutes = minutes; heights = heights } ≡ given height turns minutes heights
   unfolding given
   few-minutes h = simp (lt-ltb _ _ h)
 
-  pub few-heights : length turns ≤ length minutes → length heights < length turns → record { returned = refused 10; minutes = minutes; heights = heights } ≡ given height turns minutes heights
+  pub few-heights : length turns ≤ length minutes → length heights < length turns → record { returned = refused 10 0; minutes = minutes; heights = heights } ≡ given height turns minutes heights
   unfolding given
   few-heights l h = simp (le-ltb _ _ l, lt-ltb _ _ h)
 
-  room-for-all : length turns ≤ length minutes → length turns ≤ length heights → record { returned = found (length turns) (firstHigh turns); minutes = inFront (minutesOf turns) minutes; heights = inFront (map height (minutesOf turns)) heights } ≡ given height turns minutes heights
+  room-for-all : length turns ≤ length minutes → length turns ≤ length heights → record { returned = accepted (record { count = length turns; high = firstHigh turns }); minutes = inFront (minutesOf turns) minutes; heights = inFront (map height (minutesOf turns)) heights } ≡ given height turns minutes heights
   unfolding given
   room-for-all l k = simp (le-ltb _ _ l, le-ltb _ _ k)
 
-  pub all-given : {n : ℕ} {high : Bool} {ks ms : List ℕ} {hs : List ℤ} → n ≡ length turns → high ≡ firstHigh turns → ks ≡ minutesOf turns → ms ≡ inFront ks minutes → hs ≡ inFront (map height ks) heights → length turns ≤ length minutes → length turns ≤ length heights → record { returned = found n high; minutes = ms; heights = hs } ≡ given height turns minutes heights
+  pub all-given : {n : ℕ} {high : Bool} {ks ms : List ℕ} {hs : List ℤ} → n ≡ length turns → high ≡ firstHigh turns → ks ≡ minutesOf turns → ms ≡ inFront ks minutes → hs ≡ inFront (map height ks) heights → length turns ≤ length minutes → length turns ≤ length heights → record { returned = accepted (record { count = n; high = high }); minutes = ms; heights = hs } ≡ given height turns minutes heights
   all-given en eh ek em es l k = rw (en, eh, em, es, ek) (room-for-all l k)

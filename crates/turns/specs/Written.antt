@@ -1,21 +1,22 @@
 -- 01, "Heights and turns": what a search for turns writes and returns, and refusal 10.
 -- Assumes nothing.
 use Prim.Native.Nat.{ℕ}
-use mathlib.Core.Bool.{Bool, cond, _||_}
+use mathlib.Core.Bool.{Bool, _||_}
 use mathlib.Core.List.{List, _++_, map}
 use lib.Dec.{ltb}
 use lib.IntN.{ℤ}
 use lib.ListN.{length, drop}
+use Rattle.refusals.specs.Outcome.{Outcome, accepted, refused, refuseIf}
 use Rattle.turns.specs.Search.{Turn, firstHigh, minutesOf}
 
--- "returned: how many, and whether the first is high"; or a refusal's number
-pub data Returned : Type 0 where
-  found : ℕ → Bool → Returned
-  refused : ℕ → Returned
+-- "returned: how many, and whether the first is high"
+pub record TurnsFound : Type 0 where
+  pub count : ℕ
+  pub high : Bool
 
--- what a call returns, and its two lent buffers as it leaves them
-pub record Given : Type 0 where
-  pub returned : Returned
+-- what a search for turns returns, and the two lent buffers as it leaves them
+pub record TurnsGiven : Type 0 where
+  pub returned : Outcome TurnsFound
   pub minutes : List ℕ
   pub heights : List ℤ
 
@@ -23,13 +24,21 @@ pub record Given : Type 0 where
 abbrev pub inFront : {A : Type 0} → List A → List A → List A
 inFront new old = new ++ drop (length new) old
 
--- "Written: minutes, heights" (of each turn's minute), "from the front"; refused: "more turns than either lent buffer holds"
-unfoldable pub given : (ℕ → ℤ) → List Turn → List ℕ → List ℤ → Given
+-- "Heights, series, turns and every refused call leave [..]": where an outcome is refused, both buffers are as they were
+abbrev pub unlessRefused : {A : Type 0} → Outcome A → List ℕ → List ℤ → (A → TurnsGiven) → TurnsGiven
+unlessRefused (accepted a) minutes heights next = next a
+unlessRefused (refused number place) minutes heights next = record { returned = refused number place; minutes = minutes; heights = heights }
+
+-- 10, "more turns than either lent buffer holds"
+abbrev pub tooMany : List Turn → ℕ → ℕ → Bool
+tooMany turns minutes heights = ltb minutes (length turns) || ltb heights (length turns)
+
+-- "Written: minutes, heights" (of each turn's minute), "from the front"
+unfoldable pub given : (ℕ → ℤ) → List Turn → List ℕ → List ℤ → TurnsGiven
 given height turns minutes heights =
-    cond (ltb (length minutes) (length turns) || ltb (length heights) (length turns))
-    (record { returned = refused 10; minutes = minutes; heights = heights })
+    unlessRefused (refuseIf (tooMany turns (length minutes) (length heights)) 10 0 (accepted turns)) minutes heights λ turns.
     (record {
-      returned = found (length turns) (firstHigh turns);
+      returned = accepted (record { count = length turns; high = firstHigh turns });
       minutes = inFront (minutesOf turns) minutes;
       heights = inFront (map height (minutesOf turns)) heights;
     })

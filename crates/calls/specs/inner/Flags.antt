@@ -1,8 +1,12 @@
--- Only inner contracts cite this: a state by the flags of the code.
+-- Only inner contracts cite this: a state by the flags of the code, and what calls ask by these.
+use Prim.{Unit}
+use Prim.Native.Nat.{ℕ}
 use mathlib.Core.Bool.{Bool, true, false}
+use Rattle.refusals.specs.Outcome.{Outcome, answered}
 use Rattle.table.specs.Table.{Table}
 use Rattle.station.specs.Station.{Station}
 use Rattle.calls.specs.State.{Maybe, none, some, Month, State}
+use Rattle.calls.specs.Asked.{dateAsked, minutesAsked}
 
 -- what a flag says is there
 abbrev pub when : {A : Type 0} → Bool → A → Maybe A
@@ -13,3 +17,16 @@ when false a = none
 abbrev pub stateOf : Bool → Table → Bool → Station → Bool → Month → State
 stateOf tabled table stationed station dated month =
     record { table = when tabled table; station = when stationed station; month = when dated month }
+
+-- a state with a table or none, and nothing else
+abbrev pub tabledOnly : Bool → Table → State
+tabledOnly tabled table = record { table = when tabled table; station = none; month = none }
+
+-- what a date asks first, by the flags
+abbrev pub dateBy : Bool → Bool → ℕ → ℕ → Outcome Unit
+dateBy tabled stationed year month = answered (dateAsked {T = Unit} {S = Unit} (when tabled tt) (when stationed tt) year month)
+
+-- what heights, series and turns do, their minutes outside the month or not
+abbrev pub minutesBy : Bool → Bool → Bool → Bool → Outcome Unit
+minutesBy tabled stationed dated outside =
+    answered (minutesAsked {T = Unit} {S = Unit} {M = Unit} (λ _. outside) (when tabled tt) (when stationed tt) (when dated tt))

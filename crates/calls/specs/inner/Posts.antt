@@ -3,7 +3,6 @@
 use Prim.Native.Nat.{ℕ}
 use mathlib.Core.Bool.{Bool}
 use mathlib.Core.Path.{_≡_}
-use lib.ListN.{length}
 use lib.IntN.{ℤ}
 use Rattle.refusals.specs.Outcome.{accepted, outcomeOf}
 use Rattle.station.specs.declared.records.Rows.{Rows}
@@ -12,9 +11,10 @@ use Rattle.table.specs.declared.Table.{Table}
 use Rattle.table.specs.inner.View.{tableOf}
 use Rattle.station.specs.declared.Taken.{Taken}
 use Rattle.station.specs.inner.Station.{stationOf}
-use Rattle.calls.specs.Calls.{stationAsked}
+use Rattle.calls.specs.Calls.{stationReturns}
+use Rattle.calls.specs.inner.Flags.{tabledOnly}
 
 -- what a station comes to, where a table is there or not
 pub record TakenPost (tabled : Bool) (table : Table) (latitude : ℤ) (n : ℕ) (rows : Rows) (r : Taken) : Type 0 where
-  pub says : outcomeOf (r .answer) ≡ stationAsked tabled (length (tableOf table .frequencies)) latitude (recordsOf rows n)
-  pub keeps : outcomeOf (r .answer) ≡ accepted → stationOf (r .station) ≡ record { latitude = latitude; records = recordsOf rows n }
+  pub says : outcomeOf (r .answer) ≡ stationReturns (tabledOnly tabled (tableOf table)) latitude (recordsOf rows n)
+  pub keeps : outcomeOf (r .answer) ≡ accepted tt → stationOf (r .station) ≡ record { latitude = latitude; records = recordsOf rows n }

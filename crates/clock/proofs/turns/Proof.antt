@@ -9,7 +9,6 @@ use Rattle.refusals.specs.Outcome.{outcomeOf}
 use Rattle.table.specs.inner.View.{tableOf}
 use Rattle.station.specs.inner.Station.{stationOf}
 use Rattle.calls.proofs.asked.Passed.{turns-within}
-use Rattle.calls.specs.Calls.{searched}
 use Rattle.calls.proofs.Posed.{turns-refused, turns-given}
 use Rattle.clock.specs.View.{view, monthIn}
 
@@ -49,7 +48,7 @@ returns c =
     let s = c .before .before .before .before .before .before .before .before .before .before .before .before .before .before .before .before .before in
     let k = s .args .t1 in
     let law = turns-given (k .tabled) (tableOf (k .table)) (k .stationed) (stationOf (k .station)) (k .dated) (monthIn k) (s .args .first) (s .args .last) _ _ (sym (c .before .before .before .before .before .before .before .before .before .before .before .before .before .before .before .turns-answer .ensures) ∙ ap outcomeOf (c .before .before .before .before .before .before .before .before .before .before .before .before .before .enum-told .given .1)) in
-    record { gives = rw (c .found-turns .ensures) (ap searched (rw (c .before .before .before .before .before .before .before .before .before .before .station-stride .ensures .0, c .before .before .before .before .before .before .before .before .before .month-in .ensures) at (c .before .before .before .before .turns .ensures)) ∙ law) }
+    record { gives = rw (c .found-turns .ensures) ((rw (c .before .before .before .before .before .before .before .before .before .before .station-stride .ensures .0, c .before .before .before .before .before .before .before .before .before .month-in .ensures) at (c .before .before .before .before .turns .ensures)) ∙ law) }
 
 enum-known-asked : tie.Need-enum-known-asked
 enum-known-asked c = search needs

@@ -13,7 +13,8 @@ use Rattle.month_satellites.specs.inner.Ranges.{Sized}
 use Rattle.month_pairs.specs.inner.Ranges.{Small}
 use Rattle.month_prepared.specs.inner.View.{constituentsAfter}
 use Rattle.month_workings.specs.inner.Given.{KeptBy}
-use Rattle.month.specs.Month.{prepared, weight}
+use Rattle.refusals.specs.Outcome as outcome
+use Rattle.month.specs.Month.{weight}
 use Rattle.month.specs.inner.View.{heldUpto}
 use Rattle.month.proofs.Put.{Room, room-kept, stands-last}
 use Rattle.month.proofs.Structs.{all, with-rest, starts, ends, none-yet, refused, accepted}
@@ -208,7 +209,7 @@ returns-2 c =
     let n = c .before .before .before .before .before .before .before .before .before .before .before .before .held .result in
     let e : s .k ≡ n = omega (arith, c .loop-test .left, s .inv .1) in
     let m : min n 146 ≡ n = omega (arith, s .inv .2) in
-    rw m (ap (λ (i : ℕ). prepared (heldUpto (s .month) i)) (sym e) ∙ ends (a .t2) (a .t3) (a .given) (heldUpto (s .month) (s .k)) n (s .k) (c .loop-test .left) (s .inv .0))
+    rw m (ap (λ (i : ℕ). outcome.accepted (heldUpto (s .month) i)) (sym e) ∙ ends (a .t2) (a .t3) (a .given) (heldUpto (s .month) (s .k)) n (s .k) (c .loop-test .left) (s .inv .0))
 
 pub prepare-records-spec : {M : Type 1} → statement M
 prepare-records-spec =

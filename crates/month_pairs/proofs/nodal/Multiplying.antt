@@ -6,16 +6,17 @@ use Rattle.table.specs.Table.{Part}
 use Rattle.table.specs.inner.View.{listed}
 use Rattle.table.proofs.Rows.{listed-next, listed-end}
 use Rattle.month_satellites.specs.Satellites.{Pair}
-use Rattle.month_pairs.specs.Pairs.{Corrected, pair, andThen}
+use Rattle.refusals.specs.Checked.{good, _>>=_}
+use Rattle.month_pairs.specs.Pairs.{Corrected}
 use Rattle.month_pairs.specs.Shallow.{timesPart, timesParts}
 
 -- by part after part
 module _ (mains : List Corrected) (part : ℕ → Part) where
   pub parts-next : (j n : ℕ) (P : Pair) (c : Corrected) → j < n → c ≡ timesPart mains P (part j)
-      → andThen c (λ Q. timesParts mains Q (listed part (j + 1) (n - (j + 1)))) ≡ timesParts mains P (listed part j (n - j))
+      → c >>= (λ Q. timesParts mains Q (listed part (j + 1) (n - (j + 1)))) ≡ timesParts mains P (listed part j (n - j))
   unfolding timesParts
   parts-next j n P c h e = rw (e, listed-next part j n h)
 
-  pub parts-none : (j n : ℕ) (P : Pair) → n ≤ j → pair P ≡ timesParts mains P (listed part j (n - j))
+  pub parts-none : (j n : ℕ) (P : Pair) → n ≤ j → good P ≡ timesParts mains P (listed part j (n - j))
   unfolding timesParts
   parts-none j n P h = rw (listed-end part j n h)

@@ -4,14 +4,15 @@ use Prim.Native.Nat.{ℕ, zero, suc, _-_, _≤_, _<_}
 use native.Mathlib.Nat.{not-suc-le-zero}
 use native.Mathlib.Omega.{arith}
 use Rattle.month_satellites.specs.Satellites.{Pair}
-use Rattle.month_pairs.specs.Pairs.{Corrected, pair, andThen, checked, timesPair, timesOften}
+use Rattle.refusals.specs.Checked.{good, _>>=_}
+use Rattle.month_pairs.specs.Pairs.{Corrected, checked, timesPair, timesOften}
 
 -- so many times by one pair
-pub often-next : (left : ℕ) (P p : Pair) (c : Corrected) → 0 < left → c ≡ checked (timesPair P p) → andThen c (λ Q. timesOften (left - 1) Q p) ≡ timesOften left P p
+pub often-next : (left : ℕ) (P p : Pair) (c : Corrected) → 0 < left → c ≡ checked (timesPair P p) → c >>= (λ Q. timesOften (left - 1) Q p) ≡ timesOften left P p
 unfolding timesOften
 often-next zero P p c h e = absurd (not-suc-le-zero h)
 often-next (suc n) P p c h e = let d : suc n - 1 ≡ n = omega arith in rw (e, d)
 
-pub often-none : (left : ℕ) (P p : Pair) → left ≤ 0 → pair P ≡ timesOften left P p
+pub often-none : (left : ℕ) (P p : Pair) → left ≤ 0 → good P ≡ timesOften left P p
 unfolding timesOften
 often-none left P p h = let d : left ≡ 0 = omega arith in rw d

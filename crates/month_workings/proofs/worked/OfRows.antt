@@ -15,7 +15,8 @@ use Rattle.month_arguments.specs.Arguments as arguments
 use Rattle.month_arguments.specs.inner.Rows.{rowArgument, argumentsIn}
 use Rattle.month_arguments.proofs.arguments.Views.{main-row, mains-rows}
 use Rattle.month_satellites.specs.Latitude.{Factors}
-use Rattle.month_pairs.specs.Pairs.{Corrected, pair, one}
+use Rattle.refusals.specs.Checked.{good}
+use Rattle.month_pairs.specs.Pairs.{Corrected, one}
 use Rattle.month_pairs.specs.Shallow as pairs
 use Rattle.month_pairs.specs.inner.Rows.{rowCorrected, pairsOf}
 use Rattle.month_pairs.proofs.nodal.OfTable.{main-of-row, mains-of-rows}
@@ -45,7 +46,7 @@ module _ (g : Factors) (l : Longitudes) (maincards : List ℕ) (mainangles satel
   correction-is : (r : Found) → Within mains r → IsReady r → pairFrom (pairsOf kept) shallowcards coefficients r ≡ correctionOf g l (mainsOf maincards mainangles satelliteangles satelliteratios mains) (meant r)
   unfolding correctionOf
   correction-is (found.Main k) h w =
-      w .kept .pairs k (w .has) ∙ sym (entry-at (pair one) (rowCorrected g (nodal l) maincards satelliteangles satelliteratios) mains k h)
+      w .kept .pairs k (w .has) ∙ sym (entry-at (good one) (rowCorrected g (nodal l) maincards satelliteangles satelliteratios) mains k h)
       ∙ sym (main-of-row g (nodal l) maincards mainangles satelliteangles satelliteratios k)
   correction-is (found.Shallow k) h w =
       shallow-pair-is (listed (rowArgument l mainangles) 0 mains) (listed (rowCorrected g (nodal l) maincards satelliteangles satelliteratios) 0 mains) shallowcards coefficients k kept (record { kept = w .kept; has = w .has })

@@ -11,7 +11,8 @@ use Rattle.month_arguments.specs.Arguments as arguments
 use Rattle.month_arguments.specs.Arguments.{sumOfParts}
 use Rattle.month_arguments.specs.inner.Rows.{argumentsIn}
 use Rattle.month_satellites.specs.Satellites.{Pair}
-use Rattle.month_pairs.specs.Pairs.{Corrected, tooLarge, pair, one, andThen}
+use Rattle.refusals.specs.Checked.{good, bad, _>>=_}
+use Rattle.month_pairs.specs.Pairs.{Corrected, one}
 use Rattle.month_pairs.specs.Shallow as nodal
 use Rattle.month_pairs.specs.Shallow.{timesPart, timesParts}
 use Rattle.month_pairs.specs.inner.Rows.{pairsOf}
@@ -29,23 +30,23 @@ module _ (card : List ℕ) (coefficients : List ℤ) where
       let rest : sumOfParts vs (listed (partOf card coefficients) (suc j) n) ≡ sumOfParts ws (listed (partOf card coefficients) (suc j) n) = sums-alike vs ws (suc j) n (λ i a b. h i (omega arith) (omega arith)) in
       rw (first, rest)
 
-  then-alike : (c : Corrected) (f g : Pair → Corrected) → ((p : Pair) → f p ≡ g p) → andThen c f ≡ andThen c g
-  then-alike tooLarge f g h = refl
-  then-alike (pair p) f g h = h p
+  then-alike : (c : Corrected) (f g : Pair → Corrected) → ((p : Pair) → f p ≡ g p) → (c >>= f) ≡ (c >>= g)
+  then-alike (bad number) f g h = refl
+  then-alike (good p) f g h = h p
 
-  products-alike : (ps qs : List Corrected) (j n : ℕ) → ((i : ℕ) → j ≤ i → i < j + n → getD ps (getD card (2 + i) 0) (pair one) ≡ getD qs (getD card (2 + i) 0) (pair one))
+  products-alike : (ps qs : List Corrected) (j n : ℕ) → ((i : ℕ) → j ≤ i → i < j + n → getD ps (getD card (2 + i) 0) (good one) ≡ getD qs (getD card (2 + i) 0) (good one))
       → (p : Pair) → timesParts ps p (listed (partOf card coefficients) j n) ≡ timesParts qs p (listed (partOf card coefficients) j n)
   unfolding timesParts timesPart listed partOf
   products-alike ps qs j zero h p = refl
   products-alike ps qs j (suc n) h p =
       let first : timesPart ps p (partOf card coefficients j) ≡ timesPart qs p (partOf card coefficients j) = rw (h j (omega arith) (omega arith)) in
-      ap (λ c. andThen c (λ q. timesParts ps q (listed (partOf card coefficients) (suc j) n))) first
+      ap (λ c. c >>= (λ q. timesParts ps q (listed (partOf card coefficients) (suc j) n))) first
       ∙ then-alike (timesPart qs p (partOf card coefficients j)) _ _ (products-alike ps qs (suc j) n (λ i a b. h i (omega arith) (omega arith)))
 
 -- ---- a shallow constituent
 
 module _ (all : List ℕ) (pairs : List Corrected) (cards : List ℕ) (coefficients : List ℤ) (row : ℕ) (kept : List ℤ)
-    (w : WithParts (λ k. getD all k 0) (λ k. getD pairs k (pair one)) (naturals 6 cards row) kept) where
+    (w : WithParts (λ k. getD all k 0) (λ k. getD pairs k (good one)) (naturals 6 cards row) kept) where
   pub shallow-argument-is : arguments.fromParts (argumentsIn kept) (shallowOf cards coefficients row) ≡ arguments.fromParts all (shallowOf cards coefficients row)
   unfolding arguments.fromParts shallowOf
   shallow-argument-is =

@@ -17,7 +17,8 @@ use Rattle.month_arguments.specs.Arguments.{argument}
 use Rattle.month_arguments.specs.inner.Rows.{rowArgument, argumentsIn}
 use Rattle.month_satellites.specs.Latitude.{Factors}
 use Rattle.month_satellites.specs.Satellites.{sumOver, mainPair}
-use Rattle.month_pairs.specs.Pairs.{checked, pair, one}
+use Rattle.refusals.specs.Checked.{good}
+use Rattle.month_pairs.specs.Pairs.{checked, one}
 use Rattle.month_pairs.specs.inner.Rows.{rowSatellites, rowCorrected}
 use Rattle.month_workings.specs.inner.Kept.{argumentAt, correctedAt, Has, noneKept, Kept}
 
@@ -31,7 +32,7 @@ row-past l angles k h =
     past j = List·getD-eq-default angles (pos 0) (omega arith)
 
 -- the pair of a row past the array
-pair-past : (g : Factors) (longitudes cards : List ℕ) (angles : List ℤ) (ratios : List ℕ) (k : ℕ) → length cards ≤ 3 * k → rowCorrected g longitudes cards angles ratios k ≡ pair one
+pair-past : (g : Factors) (longitudes cards : List ℕ) (angles : List ℤ) (ratios : List ℕ) (k : ℕ) → length cards ≤ 3 * k → rowCorrected g longitudes cards angles ratios k ≡ good one
 unfolding rowCorrected rowSatellites mainPair sumOver checked listed
 pair-past g longitudes cards angles ratios k h =
     let none : getD (naturals 3 cards k) 2 0 ≡ 0 = sym (past-rows 0 3 cards k 2 (omega arith) (omega arith)) in
@@ -64,6 +65,6 @@ module _ (l : Longitudes) (angles : List ℤ) (g : Factors) (longitudes cards : 
             sym (past-entries 0 (λ j. natAbs (getD noneKept (3 * j) (pos 0))) 64 k (far-only k h))
             ∙ sym (from-64 0 (rowArgument l angles) mains (λ i f. row-past l angles i (omega arith)) k (far-only k h));
         pairs = λ k h.
-            sym (past-entries (pair one) _ 64 k (far-only k h))
-            ∙ sym (from-64 (pair one) (rowCorrected g longitudes cards satelliteangles ratios) mains (λ i f. pair-past g longitudes cards satelliteangles ratios i (omega arith)) k (far-only k h));
+            sym (past-entries (good one) _ 64 k (far-only k h))
+            ∙ sym (from-64 (good one) (rowCorrected g longitudes cards satelliteangles ratios) mains (λ i f. pair-past g longitudes cards satelliteangles ratios i (omega arith)) k (far-only k h));
       }

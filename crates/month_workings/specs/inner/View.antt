@@ -13,7 +13,8 @@ use Rattle.month_arguments.specs.Longitudes.{Longitudes}
 use Rattle.month_arguments.specs.Arguments as arguments
 use Rattle.month_arguments.specs.inner.Rows.{argumentsIn}
 use Rattle.month_satellites.specs.Latitude.{Factors}
-use Rattle.month_pairs.specs.Pairs.{Corrected, pair, one}
+use Rattle.refusals.specs.Checked.{good}
+use Rattle.month_pairs.specs.Pairs.{Corrected, one}
 use Rattle.month_pairs.specs.inner.Ranges.{Small}
 use Rattle.month_pairs.specs.inner.Corrected.{correctedOf}
 use Rattle.month_pairs.specs.Shallow as shallow
@@ -46,9 +47,9 @@ argumentFrom vs shallowcards coefficients found.Nothing = 0
 
 -- its pair, from the mains' pairs
 abbrev pub pairFrom : List Corrected → List ℕ → List ℤ → Found → Corrected
-pairFrom pairs shallowcards coefficients (found.Main k) = getD pairs k (pair one)
+pairFrom pairs shallowcards coefficients (found.Main k) = getD pairs k (good one)
 pairFrom pairs shallowcards coefficients (found.Shallow k) = shallow.fromParts pairs (shallowOf shallowcards coefficients k)
-pairFrom pairs shallowcards coefficients found.Nothing = pair (record { x = pos 0; y = pos 0 })
+pairFrom pairs shallowcards coefficients found.Nothing = good (record { x = pos 0; y = pos 0 })
 
 pub record FromMains (kept : List ℤ) (shallowcards : List ℕ) (coefficients : List ℤ) (r : Found) (w : Worked) : Type 0 where
   pub argument : w .argument ≡ argumentFrom (argumentsIn kept) shallowcards coefficients r

@@ -75,7 +75,7 @@ loop-again c =
     let s = c .before .before .before .before .before .before .before .before .before .before in
     let a = s .before .args in
     let k = s .loop .k in
-    let good : recordOutcome (a .frequencies) (placesBefore (a .t4 .places) k) (k + 1) (recordAt (a .t4) k) ≡ accepted = sym (c .before .before .before .before .before .before .before .before .record-answer .ensures) ∙ ap outcomeOf (c .before .before .before .before .before .before .enum-told .given .1) in
+    let good : recordOutcome (a .frequencies) (placesBefore (a .t4 .places) k) (k + 1) (recordAt (a .t4) k) ≡ accepted tt = sym (c .before .before .before .before .before .before .before .before .record-answer .ensures) ∙ ap outcomeOf (c .before .before .before .before .before .before .enum-told .given .1) in
     let fits = record-fits (a .frequencies) (placesBefore (a .t4 .places) k) (k + 1) (recordAt (a .t4) k) good in (
       rw (records-more (a .frequencies) (a .t4) k (a .n) (omega arith), good) at (s .loop .inv .0),
       rw (c .with-record .ensures, c .before .before .before .narrow .ensures, c .before .narrow2 .ensures, narrow-is _ (fits .0), narrow-is (getD (a .t4 .phases) k 0) (omega arith), upto-more (a .empty) (a .t4) k, s .loop .inv .1),

@@ -14,8 +14,8 @@ use Rattle.station.specs.inner.Station.{stationOf, stationUpto}
 
 pub record RecordsPost (frequencies : ℕ) (empty : code.Station) (n : ℕ) (rows : Rows) (r : Taken) : Type 0 where
   pub says : outcomeOf (r .answer) ≡ recordsOutcome frequencies [] 1 (recordsOf rows n)
-  pub keeps : outcomeOf (r .answer) ≡ accepted → r .station ≡ stationUpto empty rows n
+  pub keeps : outcomeOf (r .answer) ≡ accepted tt → r .station ≡ stationUpto empty rows n
 
 pub record StationPost (frequencies : ℕ) (latitude : ℤ) (n : ℕ) (rows : Rows) (r : Taken) : Type 0 where
   pub says : outcomeOf (r .answer) ≡ stationOutcome frequencies latitude (recordsOf rows n)
-  pub keeps : outcomeOf (r .answer) ≡ accepted → stationOf (r .station) ≡ record { latitude = latitude; records = recordsOf rows n }
+  pub keeps : outcomeOf (r .answer) ≡ accepted tt → stationOf (r .station) ≡ record { latitude = latitude; records = recordsOf rows n }

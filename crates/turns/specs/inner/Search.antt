@@ -32,8 +32,8 @@ pub record NextPost (slope : ℕ → ℤ) (stride last minute : ℕ) (r : Next) 
   pub there : r .slope ≡ slope (r .later)
 
 -- the first n minutes kept are minutes of a month
-abbrev pub Kept : ℕ → List ℕ → Type 0
-Kept n kept = (length kept ≡ mostMinutes) × ((n ≤ mostMinutes) × ((k : ℕ) → k < n → getD kept k 0 ≤ mostMinutes))
+abbrev pub KeptMinutes : ℕ → List ℕ → Type 0
+KeptMinutes n kept = (length kept ≡ mostMinutes) × ((n ≤ mostMinutes) × ((k : ℕ) → k < n → getD kept k 0 ≤ mostMinutes))
 
 -- kept minutes are minutes of a month
 abbrev pub Minutes : List ℕ → Type 0
@@ -44,4 +44,4 @@ pub record FoundPost (turns : List Turn) (kept : List ℕ) (r : Summary) : Type 
   pub count : r .count ≡ length turns
   pub high : r .high ≡ firstHigh turns
   pub minutes : take (r .count) kept ≡ minutesOf turns
-  pub within : Kept (r .count) kept
+  pub within : KeptMinutes (r .count) kept

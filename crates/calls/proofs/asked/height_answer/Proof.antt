@@ -1,6 +1,5 @@
 -- `calls::asked::height_answer` meets its contract, by the definition. Assumes nothing.
 use borrow.Author.Needs.{needs}
-use Rattle.calls.specs.Asked.{heightOutcome}
 use Rattle.calls.proofs.asked.height_answer.Statement.{statement}
 use Rattle.calls.proofs.asked.height_answer.Tie as tie
 
@@ -8,7 +7,6 @@ minutes-answer-requires : tie.Need-minutes-answer-requires
 minutes-answer-requires c κs = search needs
 
 returns : tie.Need-returns
-unfolding heightOutcome
 returns c = c .minutes-answer .ensures
 
 pub height-answer-spec : {M : Type 1} → statement M

@@ -4,16 +4,13 @@ use Rattle.calls.proofs.settings.date_answer.Statement.{statement}
 use Rattle.calls.proofs.settings.date_answer.Tie as tie
 use borrow.Author.Tests.{not-true, not-false}
 use mathlib.Core.Path.{sym, _∙_}
-use Rattle.calls.specs.Calls.{dateAsked}
 
 returns : tie.Need-returns
-unfolding dateAsked
 returns c =
     let s = c .before in
     simp (not-true (s .args .tabled) (c .if1 .taken))
 
 returns-2 : tie.Need-returns-2
-unfolding dateAsked
 returns-2 c =
     let s = c .before .before in
     simp (not-false (s .args .tabled) (c .before .if1 .left), not-true (s .args .stationed) (c .if2 .taken))
@@ -22,13 +19,11 @@ in-range-requires : tie.Need-in-range-requires
 in-range-requires c κs = search needs
 
 returns-3 : tie.Need-returns-3
-unfolding dateAsked
 returns-3 c =
     let s = c .before .before .before .before in
     simp (not-false (s .args .tabled) (c .before .before .before .if1 .left), not-false (s .args .stationed) (c .before .before .if2 .left), sym (c .before .in-range .ensures) ∙ not-true (c .before .in-range .result) (c .if3 .taken))
 
 returns-4 : tie.Need-returns-4
-unfolding dateAsked
 returns-4 c =
     let s = c .before .before .before .before in
     simp (not-false (s .args .tabled) (c .before .before .before .if1 .left), not-false (s .args .stationed) (c .before .before .if2 .left), sym (c .before .in-range .ensures) ∙ not-false (c .before .in-range .result) (c .if3 .left))

@@ -8,14 +8,14 @@ use mir.ValLaws.{toZ-ofZ}
 use borrow.Author.Tests.{not-true, not-false}
 use Rattle.refusals.specs.declared.Refusal.the-variants.{NoTable}
 use Rattle.station.proofs.Laws.{not-accepted}
-use Rattle.calls.specs.Calls.{stationAsked}
+use Rattle.calls.specs.Calls.{stationReturns}
 use Rattle.calls.proofs.settings.Tables.{frequencies-count}
 
 no-station-requires : tie.Need-no-station-requires
 no-station-requires c κs = search needs
 
 returns : tie.Need-returns
-unfolding stationAsked
+unfolding stationReturns
 returns c =
     let s = c .before .before in
     record { says = simp (not-true (s .args .tabled) (c .before .if1 .taken)); keeps = not-accepted _ NoTable 0 refl }
@@ -24,7 +24,7 @@ take-station-requires : tie.Need-take-station-requires
 take-station-requires c κs = search needs
 
 returns-2 : tie.Need-returns-2
-unfolding stationAsked
+unfolding stationReturns
 returns-2 c =
     let s = c .before .before in
     let taken = c .take-station .ensures in

@@ -7,7 +7,7 @@ use lib.Dec.{lit≤}
 use Rattle.table.specs.inner.View.{listed, naturals, integers, partOf, shallowOf}
 use Rattle.month_satellites.specs.inner.Ranges.{Sized}
 use Rattle.month_satellites.specs.inner.View.{pairOf}
-use Rattle.month_pairs.specs.Pairs.{tooLarge, pair}
+use Rattle.refusals.specs.Checked.{good, bad}
 use Rattle.month_pairs.specs.inner.Ranges.{Small}
 use Rattle.month_pairs.specs.inner.Corrected.{correctedOf}
 use Rattle.month_pairs.specs.Shallow.{timesParts, fromParts}
@@ -44,7 +44,7 @@ returns c =
     let s = c .before .before .before .before .loop in
     let a = c .before .before .before .before .before .before .before .before .args in (
       parts-next (pairsOf (a .kept .now)) (partOf (naturals 6 (a .cards .now) (a .k)) (integers 4 (a .coefficients .now) (a .k)))
-          (s .j) (c .before .before .before .before .before .index .result) (pairOf (s .p)) tooLarge (c .before .before .before .loop-test .taken)
+          (s .j) (c .before .before .before .before .before .index .result) (pairOf (s .p)) (bad 11) (c .before .before .before .loop-test .taken)
           (sym (ap correctedOf (c .enum-told .given .1)) ∙ c .before .before .times-row-part .ensures .0) ∙ s .inv .0,
       tt,
     )
@@ -64,7 +64,7 @@ loop-again c =
     let a = c .before .before .before .before .before .before .before .before .before .args in
     let q = c .before .c .given .0 .0 in (
       parts-next (pairsOf (a .kept .now)) (partOf (naturals 6 (a .cards .now) (a .k)) (integers 4 (a .coefficients .now) (a .k)))
-          (s .j) (c .before .before .before .before .before .before .index .result) (pairOf (s .p)) (pair (pairOf q)) (c .before .before .before .before .loop-test .taken)
+          (s .j) (c .before .before .before .before .before .before .index .result) (pairOf (s .p)) (good (pairOf q)) (c .before .before .before .before .loop-test .taken)
           (sym (ap correctedOf (c .before .c .given .1)) ∙ c .before .before .before .times-row-part .ensures .0) ∙ s .inv .0,
       subst Small (c .before .c .given .1) (c .before .before .before .times-row-part .ensures .1),
       s .inv .2,

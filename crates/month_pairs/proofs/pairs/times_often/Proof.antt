@@ -2,7 +2,8 @@
 use mathlib.Core.Path.{_≡_, refl, sym, _∙_, ap, subst}
 use Prim.Native.Nat.{_^_}
 use borrow.Author.Needs.{needs}
-use Rattle.month_pairs.specs.Pairs.{tooLarge, pair, checked, timesOften}
+use Rattle.refusals.specs.Checked.{good, bad}
+use Rattle.month_pairs.specs.Pairs.{checked, timesOften}
 use Rattle.month_satellites.specs.inner.Ranges.{Sized}
 use Rattle.month_pairs.specs.inner.Ranges.{Small}
 use Rattle.month_satellites.specs.inner.View.{pairOf}
@@ -33,7 +34,7 @@ returns : tie.Need-returns Inv-loop μ-loop
 returns c =
     let s = c .before .before .before .before .before .loop in
     let checked-is = sym (ap correctedOf (c .enum-told .given .1)) ∙ c .before .before .check .ensures .0 ∙ ap checked (c .before .before .before .multiplied .ensures .0) in
-    (often-next (s .left) (pairOf (s .p)) (pairOf (c .before .before .before .before .before .before .args .by)) tooLarge (c .before .before .before .before .loop-test .taken) checked-is ∙ s .inv .0, tt)
+    (often-next (s .left) (pairOf (s .p)) (pairOf (c .before .before .before .before .before .before .args .by)) (bad 11) (c .before .before .before .before .loop-test .taken) checked-is ∙ s .inv .0, tt)
 
 enum-known-c : tie.Need-enum-known-c Inv-loop μ-loop
 enum-known-c c = search needs
@@ -49,7 +50,7 @@ loop-again c =
     let s = c .before .before .before .before .before .before .loop in
     let q = c .before .c .given .0 .0 in
     let checked-is = sym (ap correctedOf (c .before .c .given .1)) ∙ c .before .before .before .check .ensures .0 ∙ ap checked (c .before .before .before .before .multiplied .ensures .0) in
-    (often-next (s .left) (pairOf (s .p)) (pairOf (c .before .before .before .before .before .before .before .args .by)) (pair (pairOf q)) (c .before .before .before .before .before .loop-test .taken) checked-is ∙ s .inv .0, subst Small (c .before .c .given .1) (c .before .before .before .check .ensures .1))
+    (often-next (s .left) (pairOf (s .p)) (pairOf (c .before .before .before .before .before .before .before .args .by)) (good (pairOf q)) (c .before .before .before .before .before .loop-test .taken) checked-is ∙ s .inv .0, subst Small (c .before .c .given .1) (c .before .before .before .check .ensures .1))
 
 returns-2 : tie.Need-returns-2 Inv-loop μ-loop
 returns-2 c =

@@ -8,7 +8,7 @@ use mir.Syntax.{w8}
 use mir.ValLaws.{toZ-ofZ}
 use Rattle.angles.proofs.Known.{fits}
 use Rattle.month_satellites.specs.Satellites.{Pair}
-use Rattle.month_pairs.specs.Pairs.{andThen, timesOften, turned}
+use Rattle.month_pairs.specs.Pairs.{timesOften, turned, timesMain}
 use Rattle.month_pairs.specs.inner.Ranges.{Small}
 use Rattle.month_satellites.specs.inner.View.{pairOf}
 use Rattle.month_pairs.specs.inner.Corrected.{correctedOf}
@@ -47,7 +47,7 @@ returns-2 c =
     let often = size-through w8 n (c .before .before .widened .result) (c .before .size .result) (lit< tt) (s .fits .coefficient) (c .before .before .widened .ensures) (c .before .size .ensures) in
     let by = c .before .before .before .turn .ensures .0 ∙ ap (λ (z : ℤ). turned z (pairOf q)) here in (
       c .times-often .ensures .0 ∙ ap₂ (λ (k : ℕ) (p : Pair). timesOften k P p) often by
-          ∙ sym (ap (λ m. andThen (correctedOf m) (λ p. timesOften (natAbs n) P (turned n p))) (c .before .before .before .before .before .main .given .1)),
+          ∙ sym (ap (λ m. timesMain P (correctedOf m) n) (c .before .before .before .before .before .main .given .1)),
       c .times-often .ensures .1,
     )
 
