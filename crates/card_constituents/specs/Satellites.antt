@@ -2,7 +2,8 @@
 use Prim.Native.Nat.{ℕ}
 use mathlib.Core.List.{List, _++_}
 use Rattle.table.specs.Table.{Satellite, Main}
-use Rattle.card.specs.Card.{Card, good, _>>=_}
+use Rattle.refusals.specs.Checked.{good, _>>=_}
+use Rattle.card.specs.Card.{Card}
 use Rattle.card_mains.specs.Satellites.{satelliteCard}
 
 -- the main with more satellites

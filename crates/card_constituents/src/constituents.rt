@@ -7,17 +7,22 @@ ghost use Rattle.limits.specs.Limits.{mostFrequencies, mostMains, mostSatellite
 ghost use Rattle.columns.specs.Lines.{linesOf, firstLine, restLines};
 ghost use Rattle.columns.specs.Names.{namesFrom};
 ghost use Rattle.table.specs.inner.View.{mainOf};
-ghost use Rattle.card.specs.declared.Refusal.the-variants.{Ended};
+ghost use Rattle.card.specs.Faults as spec;
+ghost use Rattle.card.specs.declared.faults.What.the-variants.{File};
+ghost use Rattle.card.specs.declared.faults.Trouble.the-variants.{EndedInMains};
 ghost use Rattle.card.specs.declared.lines.Progress.the-variants.{Reached, Refused};
 ghost use Rattle.card.specs.inner.Lines.{readingGives, Within};
 ghost use Rattle.card_mains.specs.inner.Satellites.{SatelliteRoom};
-ghost use Rattle.card_constituents.specs.inner.Rows.{MainRoom, satellitesEnd, Stored, mainsIn};
+ghost use Rattle.card_constituents.specs.inner.Rows.{MainRoom, satellitesEnd, Stored, mainsIn, Counted};
 ghost use Rattle.card_constituents.specs.Constituents.{mainsFrom, satellitesFrom};
 use crate::rows::Here;
 use crate::rows::read_main;
 use crate::rows::read_satellites;
-use card::Fault;
-use card::Refusal;
+use card::Check;
+use card::faults::Fault;
+use card::faults::Trouble;
+use card::faults::What;
+use card::faults::only;
 use card::lines::Progress;
 use card::lines::after_line;
 use card::lines::line_at;
@@ -28,39 +33,36 @@ use table::MAIN_CARDS;
 use table::SATELLITE_ANGLES;
 use table::SATELLITE_RATIOS;
 
-// Where part 3 ends, and how many mains and satellites are stored.
+// Where part 3 ends, and how many mains are stored.
 pub struct MainsRead {
     pub progress: Progress,
     pub mains: usize,
-    pub satellites: usize,
 }
 
 // The file ended here.
 fn ended(here: Here) -> MainsRead
-    ensures { λ r. ⌜ r ≡ record { progress = Refused Ended (here .n); mains = here .mains; satellites = here .satellites } ⌝ }
+    ensures { λ r. ⌜ r ≡ record { progress = Refused (spec.only File EndedInMains) (here .n); mains = here .mains } ⌝ }
 {
-    refused(Refusal::Ended, here)
+    refused(only(What::File, Trouble::EndedInMains), here)
 }
 
-// The line here earns a refusal.
-fn refused(r: Refusal, here: Here) -> MainsRead
-    ensures { λ s. ⌜ s ≡ record { progress = Refused r (here .n); mains = here .mains; satellites = here .satellites } ⌝ }
+// The line here has a fault.
+fn refused(fault: Fault, here: Here) -> MainsRead
+    ensures { λ r. ⌜ r ≡ record { progress = Refused fault (here .n); mains = here .mains } ⌝ }
 {
     MainsRead {
-        progress: Progress::Refused(r, here.n),
+        progress: Progress::Refused(fault, here.n),
         mains: here.mains,
-        satellites: here.satellites,
     }
 }
 
 // The part ends before this line.
 fn reached(here: Here) -> MainsRead
-    ensures { λ r. ⌜ r ≡ record { progress = Reached (here .at) (here .n); mains = here .mains; satellites = here .satellites } ⌝ }
+    ensures { λ r. ⌜ r ≡ record { progress = Reached (here .at) (here .n); mains = here .mains } ⌝ }
 {
     MainsRead {
         progress: Progress::Reached(here.at, here.n),
         mains: here.mains,
-        satellites: here.satellites,
     }
 }
 
@@ -103,8 +105,8 @@ pub fn constituent_reader(
     sat: &mut [i8; SATELLITE_ANGLES],
     ratios: &mut [u32; SATELLITE_RATIOS],
 ) -> MainsRead
-    requires { ⌜ (here .at ≤ length (now file)) × (here .n ≤ here .at + 1) × (known ≤ mostFrequencies) × (here .mains ≤ mostMains) × (here .satellites ≤ mostSatellites) × Stored (now cards) (here .mains) (here .satellites) × MainRoom (now cards) (now angles) × SatelliteRoom (now sat) (now ratios) ⌝ }
-    ensures { λ r. ⌜ readingGives (now (file .entry)) (r .progress) (mainsIn (now (cards .exit)) (now (angles .exit)) (now (sat .exit)) (now (ratios .exit)) (r .mains)) ≡ mainsFrom (namesFrom (now (names .entry)) 0 known) (linesOf (drop (here .at) (now (file .entry)))) (here .n) (mainsIn (now (cards .entry)) (now (angles .entry)) (now (sat .entry)) (now (ratios .entry)) (here .mains)) (here .satellites) ⌝ }
+    requires { ⌜ (here .at ≤ length (now file)) × (here .n ≤ here .at + 1) × (known ≤ mostFrequencies) × (here .mains ≤ mostMains) × (here .satellites ≤ mostSatellites) × Stored (now cards) (here .mains) (here .satellites) × MainRoom (now cards) (now angles) × SatelliteRoom (now sat) (now ratios) × Counted (now cards) (now angles) (now sat) (now ratios) (here .mains) (here .satellites) ⌝ }
+    ensures { λ r. ⌜ readingGives (now (file .entry)) (r .progress) (mainsIn (now (cards .exit)) (now (angles .exit)) (now (sat .exit)) (now (ratios .exit)) (r .mains)) ≡ mainsFrom (namesFrom (now (names .entry)) 0 known) (linesOf (drop (here .at) (now (file .entry)))) (here .n) (mainsIn (now (cards .entry)) (now (angles .entry)) (now (sat .entry)) (now (ratios .entry)) (here .mains)) ⌝ }
     ensures { λ r. ⌜ Within (now (file .entry)) (r .progress) × (r .mains ≤ mostMains) ⌝ }
 {
     let at = here.at;
@@ -124,7 +126,7 @@ pub fn constituent_reader(
                 satellite_reader(file, next, due, names, known, cards, angles, sat, ratios)
             }
         }
-        MainStep::Fails(r) => refused(r, here),
+        MainStep::Fails(fault) => refused(fault, here),
     }
 }
 
@@ -140,8 +142,8 @@ pub fn satellite_reader(
     sat: &mut [i8; SATELLITE_ANGLES],
     ratios: &mut [u32; SATELLITE_RATIOS],
 ) -> MainsRead
-    requires { ⌜ (here .at ≤ length (now file)) × (here .n ≤ here .at + 1) × (known ≤ mostFrequencies) × (here .mains < mostMains) × (here .satellites + due ≤ mostSatellites) × (satellitesEnd (now cards) (here .mains) ≡ here .satellites) × Stored (now cards) (here .mains) (here .satellites) × MainRoom (now cards) (now angles) × SatelliteRoom (now sat) (now ratios) ⌝ }
-    ensures { λ r. ⌜ readingGives (now (file .entry)) (r .progress) (mainsIn (now (cards .exit)) (now (angles .exit)) (now (sat .exit)) (now (ratios .exit)) (r .mains)) ≡ satellitesFrom (namesFrom (now (names .entry)) 0 known) (linesOf (drop (here .at) (now (file .entry)))) (here .n) (mainsIn (now (cards .entry)) (now (angles .entry)) (now (sat .entry)) (now (ratios .entry)) (here .mains)) (here .satellites) (mainOf (now (cards .entry)) (now (angles .entry)) (now (sat .entry)) (now (ratios .entry)) (here .mains)) due ⌝ }
+    requires { ⌜ (here .at ≤ length (now file)) × (here .n ≤ here .at + 1) × (known ≤ mostFrequencies) × (here .mains < mostMains) × (here .satellites + due ≤ mostSatellites) × (satellitesEnd (now cards) (here .mains) ≡ here .satellites) × Stored (now cards) (here .mains) (here .satellites) × MainRoom (now cards) (now angles) × SatelliteRoom (now sat) (now ratios) × Counted (now cards) (now angles) (now sat) (now ratios) (here .mains + 1) (here .satellites) ⌝ }
+    ensures { λ r. ⌜ readingGives (now (file .entry)) (r .progress) (mainsIn (now (cards .exit)) (now (angles .exit)) (now (sat .exit)) (now (ratios .exit)) (r .mains)) ≡ satellitesFrom (namesFrom (now (names .entry)) 0 known) (linesOf (drop (here .at) (now (file .entry)))) (here .n) (mainsIn (now (cards .entry)) (now (angles .entry)) (now (sat .entry)) (now (ratios .entry)) (here .mains)) (mainOf (now (cards .entry)) (now (angles .entry)) (now (sat .entry)) (now (ratios .entry)) (here .mains)) due ⌝ }
     ensures { λ r. ⌜ Within (now (file .entry)) (r .progress) × (r .mains ≤ mostMains) ⌝ }
 {
     let at = here.at;
@@ -151,7 +153,7 @@ pub fn satellite_reader(
     let line = line_at(file, at);
     let next = next_card(file, here, line.len());
     match read_satellites(line, here, due, cards, sat, ratios) {
-        Fault::Clear => {
+        Check::Clear => {
             if due <= SATELLITES_A_CARD {
                 let more = with_more(next, 1, due);
                 constituent_reader(file, more, names, known, cards, angles, sat, ratios)
@@ -161,6 +163,6 @@ pub fn satellite_reader(
                 satellite_reader(file, more, left, names, known, cards, angles, sat, ratios)
             }
         }
-        Fault::Bad(r) => refused(r, here),
+        Check::Bad(fault) => refused(fault, here),
     }
 }

@@ -10,7 +10,7 @@ ghost use Rattle.card.specs.inner.Places.{placesIn};
 ghost use Rattle.card_mains.specs.Mains.{nextMain};
 ghost use Rattle.card_mains.specs.inner.Satellites.{SatelliteRoom};
 ghost use Rattle.card_constituents.specs.inner.Rows.{MainRoom, satellitesEnd, Stored, MainStored, MainsKept, mainsOver, SatellitesStored, Begun, Grown};
-use card::Fault;
+use card::Check;
 use card_mains::mains::MainStep;
 use card_mains::mains::next_main;
 use card_mains::satellitecard::at_most_three;
@@ -81,7 +81,7 @@ pub fn read_main(
             put_main(cards, angles, m, card.place, first, doodson, card.phase);
             MainStep::Gives(count)
         }
-        MainStep::Fails(r) => MainStep::Fails(r),
+        MainStep::Fails(fault) => MainStep::Fails(fault),
     }
 }
 
@@ -93,16 +93,16 @@ pub fn read_satellites(
     cards: &mut [u16; MAIN_CARDS],
     sat: &mut [i8; SATELLITE_ANGLES],
     ratios: &mut [u32; SATELLITE_RATIOS],
-) -> Fault
-    requires { ⌜ (here .mains < mostMains) × (here .satellites + due ≤ mostSatellites) × (satellitesEnd (now cards) (here .mains) ≡ here .satellites) × Stored (now cards) (here .mains) (here .satellites) × (length (now cards) ≡ 192) × SatelliteRoom (now sat) (now ratios) ⌝ }
+) -> Check
+    requires { ⌜ (here .mains < mostMains) × (here .satellites + due ≤ mostSatellites) × (satellitesEnd (now cards) (here .mains) ≡ here .satellites) × Stored (now cards) (here .mains) (here .satellites) × (length (now cards) ≡ 3 * mostMains) × SatelliteRoom (now sat) (now ratios) ⌝ }
     ensures { λ r. ⌜ SatellitesStored r (mainsOver (now (cards .exit)) (now (sat .exit)) (now (ratios .exit))) (mainsOver (now (cards .entry)) (now (sat .entry)) (now (ratios .entry))) (here .mains) due (now (line .entry)) ⌝ }
-    ensures { λ r. ⌜ Grown r (now (cards .exit)) (here .mains) (here .satellites) due × (length (now (cards .exit)) ≡ 192) × SatelliteRoom (now (sat .exit)) (now (ratios .exit)) ⌝ }
+    ensures { λ r. ⌜ Grown r (now (cards .exit)) (now (cards .entry)) (here .mains) (here .satellites) due × (length (now (cards .exit)) ≡ 3 * mostMains) × SatelliteRoom (now (sat .exit)) (now (ratios .exit)) ⌝ }
 {
     match satellite_card(line, here.satellites, due, sat, ratios) {
-        Fault::Clear => {
+        Check::Clear => {
             add_satellites(cards, here.mains, at_most_three(due) as u16);
-            Fault::Clear
+            Check::Clear
         }
-        Fault::Bad(r) => Fault::Bad(r),
+        Check::Bad(fault) => Check::Bad(fault),
     }
 }

@@ -1,6 +1,6 @@
 -- 01, The card file, part 3: a constituent card.
 use Prim.Native.Nat.{ℕ, _+_}
-use mathlib.Core.List.{List, [], map}
+use mathlib.Core.List.{List, [], _∷_, map}
 use mathlib.Core.Bool.{cond}
 use lib.Dec.{ltb}
 use lib.ListN.{length}
@@ -9,11 +9,20 @@ use Rattle.limits.specs.Limits.{mostMains, mostSatellites}
 use Rattle.columns.specs.Columns.{columns}
 use Rattle.table.specs.Table.{Main}
 use Rattle.card.specs.Formats.{mainName, doodsonField, mainPhaseField, satelliteCountField}
-use Rattle.card.specs.Card.{Card, good, bad, number, numbers, newPlace, Next, nextCard, _>>=_}
+use Rattle.refusals.specs.Checked.{good, bad, _>>=_}
+use Rattle.card.specs.declared.faults.What.the-variants as what
+use Rattle.card.specs.declared.faults.Trouble.the-variants.{TooManyMains, TooManySatellites}
+use Rattle.card.specs.Faults.{only}
+use Rattle.card.specs.Card.{Card, number, numbers, newPlace, Next, nextCard}
 
 -- the places that mains define
 abbrev pub mainPlaces : List Main → List ℕ
 mainPlaces = map (λ m. m .place)
+
+-- "256 satellites": those of all mains together
+unfoldable pub satellitesIn : List Main → ℕ
+satellitesIn [] = 0
+satellitesIn (m ∷ ms) = length (m .satellites) + satellitesIn ms
 
 -- what a constituent card gives: the main constituent, with no satellite yet, and how many are to come
 pub record MainCard : Type 0 where
@@ -23,7 +32,7 @@ pub record MainCard : Type 0 where
 -- the main with these numbers, after so many satellites in all: "a satellite count that passes 256 in all is 6 after its own 3"
 unfoldable pub mainMade : ℕ → List ℤ → ℤ → ℤ → ℕ → Card MainCard
 mainMade place doodson phase count satellites =
-    cond (ltb mostSatellites (satellites + natAbs count)) (bad 6)
+    cond (ltb mostSatellites (satellites + natAbs count)) (bad (only what.Card TooManySatellites))
     (good (record { main = record { place = place; doodson = doodson; phase = phase; satellites = [] }; count = natAbs count }))
 
 -- the numbers of a constituent card: six Doodson numbers; phase; satellite count
@@ -42,4 +51,4 @@ mainCard names places satellites line = do
 
 -- "64 mains"
 unfoldable pub nextMain : List (List ℕ) → List ℕ → ℕ → List ℕ → Next MainCard
-nextMain names places satellites line = nextCard mostMains (length places) line (mainCard names places satellites line)
+nextMain names places satellites line = nextCard mostMains TooManyMains (length places) line (mainCard names places satellites line)

@@ -5,12 +5,13 @@ use lib.IntN.{natAbs}
 use Rattle.columns.specs.Columns.{column}
 use Rattle.table.specs.Table.{markOf, Satellite}
 use Rattle.card.specs.Formats.{differenceField, satellitePhaseField, ratioField, markColumn}
-use Rattle.card.specs.Card.{Card, good, number, numbers, _>>=_}
+use Rattle.refusals.specs.Checked.{good, _>>=_}
+use Rattle.card.specs.Card.{Card, number, numbers}
 
--- a satellite, from column `at` on: three differences; phase; ratio; latitude mark
+-- satellite j of a card, from 0: three differences; phase; ratio; latitude mark
 unfoldable pub satellite : List ℕ → ℕ → Card Satellite
-satellite line at = do
-  differences ← numbers line (differenceField at) 3
-  phase ← number line (satellitePhaseField at)
-  ratio ← number line (ratioField at)
-  good (record { differences = differences; phase = phase; ratio = natAbs ratio; mark = markOf (column line (markColumn at)) })
+satellite line j = do
+  differences ← numbers line (differenceField j) 3
+  phase ← number line (satellitePhaseField j)
+  ratio ← number line (ratioField j)
+  good (record { differences = differences; phase = phase; ratio = natAbs ratio; mark = markOf (column line (markColumn j)) })

@@ -3,15 +3,15 @@ use Prim.Native.Nat.{ℕ, zero, suc, _+_, min}
 use mathlib.Core.List.{List, [], _∷_, _++_}
 use Rattle.limits.specs.Limits.{satellitesACard}
 use Rattle.table.specs.Table.{Satellite}
-use Rattle.card.specs.Formats.{satelliteColumn}
-use Rattle.card.specs.Card.{Card, good, dueCard, _>>=_}
+use Rattle.refusals.specs.Checked.{good, _>>=_}
+use Rattle.card.specs.Card.{Card, dueCard}
 use Rattle.card_mains.specs.Satellite.{satellite}
 
 -- n satellites of a card, satellite j the next, after those left of it
 unfoldable pub satellitesOn : List ℕ → List Satellite → ℕ → ℕ → Card (List Satellite)
 satellitesOn line left j zero = good left
 satellitesOn line left j (suc n) = do
-  s ← satellite line (satelliteColumn j)
+  s ← satellite line j
   satellitesOn line (left ++ (s ∷ [])) (j + 1) n
 
 -- "Satellites stand three a card": the card where so many are still to come

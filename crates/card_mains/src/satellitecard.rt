@@ -7,12 +7,12 @@ ghost use lib.Seq.{sets};
 ghost use Rattle.limits.specs.Limits.{mostSatellites, satellitesACard};
 ghost use Rattle.table.specs.inner.View.{listed, satelliteOf};
 ghost use Rattle.card_mains.specs.Satellites.{satellitesOn, satelliteCard};
-ghost use Rattle.card.specs.inner.Answers.{faultGives};
-ghost use Rattle.card_mains.specs.inner.Satellites.{Kept, SatelliteRoom};
+ghost use Rattle.card.specs.inner.Answers.{checkGives};
+ghost use Rattle.card_mains.specs.inner.Satellites.{AsBefore, SatelliteRoom};
 use crate::satellitefields::SatelliteRead;
 use crate::satellitefields::satellite_fields;
-use card::Fault;
-use card::Refusal;
+use card::Check;
+use card::faults::bad_line;
 use limits::SATELLITES_A_CARD;
 use table::SATELLITE_ANGLES;
 use table::SATELLITE_RATIOS;
@@ -43,26 +43,26 @@ fn satellites_on(
     count: usize,
     angles: &mut [i8; SATELLITE_ANGLES],
     ratios: &mut [u32; SATELLITE_RATIOS],
-) -> Fault
+) -> Check
     requires { ⌜ (first + count ≤ mostSatellites) × (count ≤ satellitesACard) × SatelliteRoom (now angles) (now ratios) ⌝ }
-    ensures { λ r. ⌜ faultGives r (listed (satelliteOf (now (angles .exit)) (now (ratios .exit))) first count) ≡ satellitesOn (now (line .entry)) [] 0 count ⌝ }
-    ensures { λ _. ⌜ Kept (satelliteOf (now (angles .exit)) (now (ratios .exit))) (satelliteOf (now (angles .entry)) (now (ratios .entry))) first × SatelliteRoom (now (angles .exit)) (now (ratios .exit)) ⌝ }
+    ensures { λ r. ⌜ checkGives r (listed (satelliteOf (now (angles .exit)) (now (ratios .exit))) first count) ≡ satellitesOn (now (line .entry)) [] 0 count ⌝ }
+    ensures { λ _. ⌜ AsBefore (satelliteOf (now (angles .exit)) (now (ratios .exit))) (satelliteOf (now (angles .entry)) (now (ratios .entry))) first × SatelliteRoom (now (angles .exit)) (now (ratios .exit)) ⌝ }
 {
     let mut j = 0;
     while j < count {
-        let s = satellite_fields(line, 11 + 23 * j);
-        let fault = s.fault;
-        match fault {
-            Fault::Clear => {
+        let s = satellite_fields(line, j);
+        let check = s.check;
+        match check {
+            Check::Clear => {
                 put_satellite(angles, ratios, first + j, s);
                 j = j + 1;
             }
-            Fault::Bad(r) => {
-                return Fault::Bad(r);
+            Check::Bad(fault) => {
+                return Check::Bad(fault);
             }
         }
     }
-    Fault::Clear
+    Check::Clear
 }
 
 // How many satellites stand on the next card.
@@ -83,13 +83,13 @@ pub fn satellite_card(
     count: usize,
     angles: &mut [i8; SATELLITE_ANGLES],
     ratios: &mut [u32; SATELLITE_RATIOS],
-) -> Fault
+) -> Check
     requires { ⌜ (first + count ≤ mostSatellites) × SatelliteRoom (now angles) (now ratios) ⌝ }
-    ensures { λ r. ⌜ faultGives r (listed (satelliteOf (now (angles .exit)) (now (ratios .exit))) first (min count satellitesACard)) ≡ satelliteCard count (now (line .entry)) ⌝ }
-    ensures { λ _. ⌜ Kept (satelliteOf (now (angles .exit)) (now (ratios .exit))) (satelliteOf (now (angles .entry)) (now (ratios .entry))) first × SatelliteRoom (now (angles .exit)) (now (ratios .exit)) ⌝ }
+    ensures { λ r. ⌜ checkGives r (listed (satelliteOf (now (angles .exit)) (now (ratios .exit))) first (min count satellitesACard)) ≡ satelliteCard count (now (line .entry)) ⌝ }
+    ensures { λ _. ⌜ AsBefore (satelliteOf (now (angles .exit)) (now (ratios .exit))) (satelliteOf (now (angles .entry)) (now (ratios .entry))) first × SatelliteRoom (now (angles .exit)) (now (ratios .exit)) ⌝ }
 {
     if columns::line_good(line) {
         return satellites_on(line, first, at_most_three(count), angles, ratios);
     }
-    Fault::Bad(Refusal::Line)
+    Check::Bad(bad_line(line))
 }

@@ -10,7 +10,8 @@ use lib.ListN.{length, getD, set, length-append, length-set}
 use lib.Seq.{sets, length-sets, getD-set-same, getD-set-other, take-at, getD-at}
 use Rattle.table.specs.inner.View.{listed, rowOf, naturals, integers, satelliteOf, mainOf}
 use Rattle.table.proofs.Rows.{listed-same, listed-one-more, listed-both, row-put, row-kept, ends-with, listed-length}
-use Rattle.card_mains.specs.inner.Satellites.{Kept}
+use Rattle.limits.specs.Limits.{mostMains, mostSatellites}
+use Rattle.card_mains.specs.inner.Satellites.{AsBefore}
 use Rattle.card.specs.Card.{Next, gives}
 use Rattle.card.specs.inner.Places.{placesIn}
 use Rattle.card_mains.specs.Mains.{MainCard, nextMain}
@@ -19,17 +20,17 @@ use Rattle.card_mains.specs.declared.mains.MainRead.{MainRead}
 use Rattle.card_mains.specs.declared.mains.MainStep.the-variants.{Gives}
 use Rattle.card_mains.proofs.mains.Room.{main-room}
 use Rattle.card_constituents.specs.Satellites.{withMore}
-use Rattle.card_constituents.specs.inner.Rows.{MainRoom, satellitesEnd, Stored, mainsIn, MainStored, MainsKept, Begun}
+use Rattle.card_constituents.specs.inner.Rows.{MainRoom, satelliteCount, satellitesEnd, Stored, mainsIn, MainStored, MainsKept, Begun}
 
 -- a main whose rows and satellites are as they were
 main-same : (cards cards′ ratios ratios′ : List ℕ) (angles angles′ sat sat′ : List ℤ) (k s : ℕ) → naturals 3 cards′ k ≡ naturals 3 cards k → integers 7 angles′ k ≡ integers 7 angles k
-    → satellitesEnd cards k ≤ s → Kept (satelliteOf sat′ ratios′) (satelliteOf sat ratios) s → mainOf cards′ angles′ sat′ ratios′ k ≡ mainOf cards angles sat ratios k
+    → satellitesEnd cards k ≤ s → AsBefore (satelliteOf sat′ ratios′) (satelliteOf sat ratios) s → mainOf cards′ angles′ sat′ ratios′ k ≡ mainOf cards angles sat ratios k
 unfolding mainOf
 main-same cards cards′ ratios ratios′ angles angles′ sat sat′ k s c a end kept =
     rw (c, a, listed-same (satelliteOf sat′ ratios′) (satelliteOf sat ratios) (getD (naturals 3 cards k) 1 0) (getD (naturals 3 cards k) 2 0) (λ i x y. kept i (omega arith)))
 
 -- the mains, where only satellites past theirs are stored anew
-pub mains-kept : (cards ratios ratios′ : List ℕ) (angles sat sat′ : List ℤ) (m s : ℕ) → Stored cards m s → Kept (satelliteOf sat′ ratios′) (satelliteOf sat ratios) s
+pub mains-kept : (cards ratios ratios′ : List ℕ) (angles sat sat′ : List ℤ) (m s : ℕ) → Stored cards m s → AsBefore (satelliteOf sat′ ratios′) (satelliteOf sat ratios) s
     → mainsIn cards angles sat′ ratios′ m ≡ mainsIn cards angles sat ratios m
 mains-kept cards ratios ratios′ angles sat sat′ m s stored kept =
     listed-same (mainOf cards angles sat′ ratios′) (mainOf cards angles sat ratios) 0 m
@@ -77,14 +78,14 @@ module _ (cards : List ℕ) (angles : List ℤ) (m place first : ℕ) (doodson :
 
 -- a card that gives a main had room for it and for its satellites
 pub step-room : (names : List (List ℕ)) (cards : List ℕ) (m s : ℕ) (line : List ℕ) (r : MainRead) (count : ℕ)
-    → mainGives r ≡ nextMain names (placesIn 3 cards m) s line → r .step ≡ Gives count → (m < 64) × (s + count ≤ 256)
+    → mainGives r ≡ nextMain names (placesIn 3 cards m) s line → r .step ≡ Gives count → (m < mostMains) × (s + count ≤ mostSatellites)
 step-room names cards m s line r count e g =
     let h = main-room names (placesIn 3 cards m) s line _ (sym e ∙ ap (λ st. mainStepGives st (r .place) (r .doodson) (r .phase)) g) in
     (omega (arith, h .0, listed-length (λ k. getD cards (3 * k) 0) 0 m), h .1)
 
 -- the rows with main m begun are those of the mains before, and of what the card gives
 pub stored-begun : (cards cards′ : List ℕ) (angles angles′ : List ℤ) (m s place count : ℕ) (doodson : List ℤ) (phase : ℤ) (card : Next MainCard) → length doodson ≡ 6
-    → (m < 64) × (s + count ≤ 256) → Stored cards m s → MainRoom cards angles
+    → (m < mostMains) × (s + count ≤ mostSatellites) → Stored cards m s → MainRoom cards angles
     → cards′ ≡ sets cards (3 * m) (place ∷ s ∷ 0 ∷ []) → angles′ ≡ set (sets angles (7 * m) doodson) (7 * m + 6) phase
     → gives (record { main = record { place = place; doodson = doodson; phase = phase; satellites = [] }; count = count }) ≡ card
     → MainStored (Gives count) cards′ angles′ m card × (MainsKept cards′ angles′ cards angles m × (Begun (Gives count) cards′ m s × MainRoom cards′ angles′))
@@ -96,7 +97,7 @@ stored-begun cards cards′ angles angles′ m s place count doodson phase card 
       (
         mains-kept-begun cards angles m place s doodson phase six h g,
         (
-          (room .0, room .1, rw (begun-row cards angles m place s doodson phase six h g) (add-zero s), begun-stored cards angles m place s doodson phase six h g s stored),
+          (room .0, room .1, rw (begun-row cards angles m place s doodson phase six h g) (add-zero s), begun-stored cards angles m place s doodson phase six h g s stored, rw (begun-row cards angles m place s doodson phase six h g)),
           (length-sets cards (3 * m) (place ∷ s ∷ 0 ∷ []) ∙ rooms .0, length-set (sets angles (7 * m) doodson) (7 * m + 6) phase ∙ length-sets angles (7 * m) doodson ∙ rooms .1),
         ),
       ),
@@ -125,10 +126,13 @@ module _ (cards : List ℕ) (m t s : ℕ) (roomy : 3 * m + 3 ≤ length cards) w
   pub grown-end : satellitesEnd cards m ≡ s → satellitesEnd grown-cards m ≡ s + t
   grown-end e = rw grown-row (omega arith)
 
+  pub grown-count : satelliteCount grown-cards m ≡ satelliteCount cards m + t
+  grown-count = rw grown-row
+
   pub grown-stored : (s′ : ℕ) → s ≤ s′ → Stored cards m s → Stored grown-cards m s′
   grown-stored s′ h stored k b = rw (grown-row-kept k b) (omega (arith, stored k b))
 
-  module _ (angles sat sat′ : List ℤ) (ratios ratios′ : List ℕ) (kept : Kept (satelliteOf sat′ ratios′) (satelliteOf sat ratios) s) where
+  module _ (angles sat sat′ : List ℤ) (ratios ratios′ : List ℕ) (kept : AsBefore (satelliteOf sat′ ratios′) (satelliteOf sat ratios) s) where
     pub main-grown : satellitesEnd cards m ≡ s → mainOf grown-cards angles sat′ ratios′ m ≡ withMore (mainOf cards angles sat ratios m) (listed (satelliteOf sat′ ratios′) s t)
     unfolding mainOf withMore
     main-grown e =

@@ -10,11 +10,10 @@ use lib.Seq.{sets, take-at, getD-at}
 use Rattle.table.specs.Table.{markOf, Satellite}
 use Rattle.table.specs.inner.View.{listed, satelliteOf}
 use Rattle.table.proofs.Rows.{listed-same, listed-one-more, row-put, row-kept}
-use Rattle.card.specs.Card.{good, _>>=_}
-use Rattle.card.specs.Formats.{satelliteColumn}
+use Rattle.refusals.specs.Checked.{good, _>>=_}
 use Rattle.card_mains.specs.Satellite.{satellite}
 use Rattle.card_mains.specs.Satellites.{satellitesOn}
-use Rattle.card_mains.specs.inner.Satellites.{Kept}
+use Rattle.card_mains.specs.inner.Satellites.{AsBefore}
 use Rattle.table.proofs.Rows.{ends-with}
 
 -- satellite k stored
@@ -32,19 +31,19 @@ module _ (angles : List ℤ) (ratios : List ℕ) (k : ℕ) (ds : List ℤ) (p : 
         getD-at ds p [] (pos 0) 3 three,
       )
 
-  pub satellite-kept : Kept (satelliteOf (set (sets angles (4 * k) ds) (4 * k + 3) p) (sets ratios (2 * k) (ratio ∷ mark ∷ []))) (satelliteOf angles ratios) k
+  pub satellite-kept : AsBefore (satelliteOf (set (sets angles (4 * k) ds) (4 * k + 3) p) (sets ratios (2 * k) (ratio ∷ mark ∷ []))) (satelliteOf angles ratios) k
   unfolding satelliteOf
   satellite-kept i h =
       let four : length (ds ++ (p ∷ [])) ≡ 4 = rw (length-append ds (p ∷ []), three) in
       rw (ends-with angles (4 * k) ds p 3 three, row-kept (pos 0) 4 angles k (ds ++ (p ∷ [])) four i h, row-kept 0 2 ratios k (ratio ∷ mark ∷ []) refl i h)
 
 -- a satellite more, behind those from `first` on
-pub satellites-grow : (f g : ℕ → Satellite) (first n : ℕ) (s : Satellite) → Kept f g (first + n) → f (first + n) ≡ s → listed f first (n + 1) ≡ listed g first n ++ (s ∷ [])
+pub satellites-grow : (f g : ℕ → Satellite) (first n : ℕ) (s : Satellite) → AsBefore f g (first + n) → f (first + n) ≡ s → listed f first (n + 1) ≡ listed g first n ++ (s ∷ [])
 satellites-grow f g first n s kept new = listed-one-more f first n ∙ rw (new, listed-same f g first n (λ i a b. kept i b))
 
 -- the satellites of a card, satellite j next: one more, or none left
 pub satellites-more : (line : List ℕ) (left : List Satellite) (j n : ℕ) → j < n
-    → satellitesOn line left j (n - j) ≡ (satellite line (satelliteColumn j) >>= λ s. satellitesOn line (left ++ (s ∷ [])) (j + 1) (n - (j + 1)))
+    → satellitesOn line left j (n - j) ≡ (satellite line j >>= λ s. satellitesOn line (left ++ (s ∷ [])) (j + 1) (n - (j + 1)))
 unfolding satellitesOn
 satellites-more line left j n h = let e : n - j ≡ suc (n - (j + 1)) = omega arith in rw e
 

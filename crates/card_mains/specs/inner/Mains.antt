@@ -3,7 +3,6 @@ use Prim.Native.Nat.{ℕ}
 use mathlib.Core.List.{List, []}
 use lib.IntN.{ℤ}
 use Rattle.card_mains.specs.Mains.{MainCard}
-use Rattle.card.specs.inner.Answers.{numberOf}
 use Rattle.card.specs.Card.{Next, ends, gives, fails}
 use Rattle.card_mains.specs.declared.mains.MainStep.{MainStep}
 use Rattle.card_mains.specs.declared.mains.MainStep.the-variants as main
@@ -13,7 +12,7 @@ use Rattle.card_mains.specs.declared.mains.MainRead.{MainRead}
 abbrev pub mainStepGives : MainStep → ℕ → List ℤ → ℤ → Next MainCard
 mainStepGives main.Ends place doodson phase = ends
 mainStepGives (main.Gives count) place doodson phase = gives (record { main = record { place = place; doodson = doodson; phase = phase; satellites = [] }; count = count })
-mainStepGives (main.Fails r) place doodson phase = fails (numberOf r)
+mainStepGives (main.Fails fault) place doodson phase = fails fault
 
 abbrev pub mainGives : MainRead → Next MainCard
 mainGives m = mainStepGives (m .step) (m .place) (m .doodson) (m .phase)

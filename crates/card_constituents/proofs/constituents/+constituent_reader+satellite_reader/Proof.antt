@@ -28,10 +28,11 @@ use lib.ListN.{length}
 use borrow.Author.Tests.{eq-eqb, ne-eqb, le-leb, lt-leb}
 use Rattle.columns.specs.Names.{namesFrom}
 use Rattle.table.specs.inner.View.{mainOf}
-use Rattle.card.specs.declared.Fault.{Fault}
+use Rattle.limits.specs.Limits.{satellitesACard}
+use Rattle.card.specs.declared.Check.{Check}
 use Rattle.card_mains.specs.declared.mains.MainStep.{MainStep}
 use Rattle.card_constituents.specs.inner.Rows.{mainsIn, Begun, Grown}
-use Rattle.card_constituents.proofs.constituents.OfMains.{stored-one-more, one-more, mains-end, mains-step, satellites-end, satellites-step}
+use Rattle.card_constituents.proofs.constituents.OfMains.{stored-one-more, one-more, counted-begun, counted-grown, mains-end, mains-step, satellites-end, satellites-step}
 
 abbrev μ-constituent-reader : Measures 6 constituent-reader-kinds.ps ℕ
 μ-constituent-reader κs a = length (a .0 .now) - a .1 .0 .at
@@ -87,7 +88,7 @@ constituent-reader-returns t c =
     let s = c .before .before .before .before in
     let a = s .args in
     let p = s .pre .1 in
-    rw (c .ended .ensures) (sym (mains-end (namesFrom (a .names .now) 0 (a .known)) (a .file .now) (a .here .at) (a .here .n) (mainsIn (a .cards .now) (a .angles .now) (a .sat .now) (a .ratios .now) (a .here .mains)) (a .here .satellites) (c .before .if1 .taken)), (tt, p .3))
+    rw (c .ended .ensures) (sym (mains-end (namesFrom (a .names .now) 0 (a .known)) (a .file .now) (a .here .at) (a .here .n) (mainsIn (a .cards .now) (a .angles .now) (a .sat .now) (a .ratios .now) (a .here .mains)) (c .before .if1 .taken)), (tt, p .3))
 
 constituent-reader-next-card-requires : (t : ℕ) → constituent-reader-lts.Need-next-card-requires (constituent-reader-claims t) (constituent-reader-at t) constituent-reader.Post
 constituent-reader-next-card-requires t c κs = (c .before .if1 .left, ap length (c .line-at .ensures), c .before .before .before .before .pre .1 .1)
@@ -131,7 +132,7 @@ constituent-reader-constituent-reader-requires t c κs =
     let begun = subst (λ (step : MainStep). Begun step cards (a .here .mains) (a .here .satellites)) (c .before .before .before .before .before .before .before .count .given .1) (read .ensures .1 .1 .0) in
     rw (c .before .before .before .before .with-more .ensures, next .ensures .1 .0, next .ensures .1 .1, next .ensures .1 .2, add-zero (a .here .satellites)) (
       omega (arith, s .pre .0, next .ensures .0 .0, next .ensures .0 .1),
-      (next .ensures .0 .1, omega (arith, p .1, next .ensures .0 .0), p .2, add-one-le (begun .0), p .4, stored-one-more cards (a .here .mains) (a .here .satellites) (a .here .satellites) (omega arith) (begun .3) (omega (arith, begun .2)), read .ensures .1 .1 .1, p .7),
+      (next .ensures .0 .1, omega (arith, p .1, next .ensures .0 .0), p .2, add-one-le (begun .0), p .4, stored-one-more cards (a .here .mains) (a .here .satellites) (a .here .satellites) (omega arith) (begun .3) (omega (arith, begun .2)), read .ensures .1 .1 .1, p .7, counted-begun cards (a .cards .now) (a .ratios .now) angles (a .angles .now) (a .sat .now) (a .here .mains) (a .here .satellites) (read .ensures .1 .0) (begun .4) (p .8)),
     )
 
 constituent-reader-cast-due : (t : ℕ) → constituent-reader-lts.Need-cast-due (constituent-reader-claims t) (constituent-reader-at t) constituent-reader.Post
@@ -157,11 +158,11 @@ constituent-reader-satellite-reader-requires t c κs =
     let begun = subst (λ (step : MainStep). Begun step cards (a .here .mains) (a .here .satellites)) (c .before .before .before .before .before .before .count .given .1) (read .ensures .1 .1 .0) in
     rw (next .ensures .1 .0, next .ensures .1 .1, next .ensures .1 .2) (
       omega (arith, s .pre .0, next .ensures .0 .0, next .ensures .0 .1),
-      (next .ensures .0 .1, omega (arith, p .1, next .ensures .0 .0), p .2, begun .0, begun .1, begun .2, begun .3, read .ensures .1 .1 .1, p .7),
+      (next .ensures .0 .1, omega (arith, p .1, next .ensures .0 .0), p .2, begun .0, begun .1, begun .2, begun .3, read .ensures .1 .1 .1, p .7, counted-begun cards (a .cards .now) (a .ratios .now) angles (a .angles .now) (a .sat .now) (a .here .mains) (a .here .satellites) (read .ensures .1 .0) (begun .4) (p .8)),
     )
 
-constituent-reader-enum-known-r : (t : ℕ) → constituent-reader-lts.Need-enum-known-r (constituent-reader-claims t) (constituent-reader-at t) constituent-reader.Post
-constituent-reader-enum-known-r t c = search needs
+constituent-reader-enum-known-fault : (t : ℕ) → constituent-reader-lts.Need-enum-known-fault (constituent-reader-claims t) (constituent-reader-at t) constituent-reader.Post
+constituent-reader-enum-known-fault t c = search needs
 
 constituent-reader-refused-requires : (t : ℕ) → constituent-reader-lts.Need-refused-requires (constituent-reader-claims t) (constituent-reader-at t) constituent-reader.Post
 constituent-reader-refused-requires t c κs = search needs
@@ -177,7 +178,7 @@ constituent-reader-returns-2 t c =
     let angles = read .last .1 .1 .1 .1 .1 .0 in
     rw (c .reached .ensures, next .ensures .1 .0, next .ensures .1 .1) (
       sym (rw (c .before .enum-told .given .1) at (mains-step (namesFrom (a .names .now) 0 (a .known)) (a .file .now) (a .here .at) (next .result .at) (a .here .n) (c .before .before .before .before .before .before .before .line-at .result .now) (c .before .before .before .before .before .before .before .before .if1 .left) (c .before .before .before .before .before .before .before .line-at .ensures) (next .ensures .0 .2) (a .here .mains) (a .here .satellites)
-          cards (a .cards .now) angles (a .angles .now) (a .sat .now) (a .ratios .now) (read .result) (read .ensures .0) (read .ensures .1 .0))),
+          cards (a .cards .now) angles (a .angles .now) (a .sat .now) (a .ratios .now) (read .result) (read .ensures .0) (read .ensures .1 .0) (p .8))),
       ((next .ensures .0 .1, omega (arith, p .1, next .ensures .0 .0)), p .3),
     )
 
@@ -190,9 +191,9 @@ constituent-reader-returns-3 t c =
     let read = c .before .before .before .before .before .before .before .before .before .before .read-main in
     let cards = read .last .1 .1 .1 .1 .0 in
     let angles = read .last .1 .1 .1 .1 .1 .0 in (
-      c .constituent-reader .ensures .0 ∙ rw (c .before .before .before .before .before .with-more .ensures, next .ensures .1 .0, next .ensures .1 .1, next .ensures .1 .2, add-zero (a .here .satellites), one-more (mainOf cards angles (a .sat .now) (a .ratios .now)) (mainOf (a .cards .now) (a .angles .now) (a .sat .now) (a .ratios .now)) (a .here .mains) (read .ensures .1 .0 (a .sat .now) (a .ratios .now)))
+      c .constituent-reader .ensures .0 ∙ rw (c .before .before .before .before .before .with-more .ensures, next .ensures .1 .0, next .ensures .1 .1, one-more (mainOf cards angles (a .sat .now) (a .ratios .now)) (mainOf (a .cards .now) (a .angles .now) (a .sat .now) (a .ratios .now)) (a .here .mains) (read .ensures .1 .0 (a .sat .now) (a .ratios .now)))
           (sym (rw (c .before .before .before .before .before .before .before .before .count .given .1, eq-eqb _ 0 (c .before .before .before .before .before .before .if2 .taken)) at (mains-step (namesFrom (a .names .now) 0 (a .known)) (a .file .now) (a .here .at) (next .result .at) (a .here .n) (c .before .before .before .before .before .before .before .before .before .before .before .before .before .before .line-at .result .now) (c .before .before .before .before .before .before .before .before .before .before .before .before .before .before .before .if1 .left) (c .before .before .before .before .before .before .before .before .before .before .before .before .before .before .line-at .ensures) (next .ensures .0 .2) (a .here .mains) (a .here .satellites)
-          cards (a .cards .now) angles (a .angles .now) (a .sat .now) (a .ratios .now) (read .result) (read .ensures .0) (read .ensures .1 .0)))),
+          cards (a .cards .now) angles (a .angles .now) (a .sat .now) (a .ratios .now) (read .result) (read .ensures .0) (read .ensures .1 .0) (p .8)))),
       c .constituent-reader .ensures .1,
     )
 
@@ -205,8 +206,8 @@ constituent-reader-returns-4 t c =
     let read = c .before .before .before .before .before .before .before .before .before .read-main in
     let cards = read .last .1 .1 .1 .1 .0 in
     let angles = read .last .1 .1 .1 .1 .1 .0 in (
-      c .satellite-reader .ensures .0 ∙ rw (next .ensures .1 .0, next .ensures .1 .1, next .ensures .1 .2) (sym (rw (c .before .before .before .before .before .before .before .count .given .1, ne-eqb _ 0 (c .before .before .before .before .before .if2 .left)) at (mains-step (namesFrom (a .names .now) 0 (a .known)) (a .file .now) (a .here .at) (next .result .at) (a .here .n) (c .before .before .before .before .before .before .before .before .before .before .before .before .before .line-at .result .now) (c .before .before .before .before .before .before .before .before .before .before .before .before .before .before .if1 .left) (c .before .before .before .before .before .before .before .before .before .before .before .before .before .line-at .ensures) (next .ensures .0 .2) (a .here .mains) (a .here .satellites)
-          cards (a .cards .now) angles (a .angles .now) (a .sat .now) (a .ratios .now) (read .result) (read .ensures .0) (read .ensures .1 .0)))),
+      c .satellite-reader .ensures .0 ∙ rw (next .ensures .1 .0, next .ensures .1 .1) (sym (rw (c .before .before .before .before .before .before .before .count .given .1, ne-eqb _ 0 (c .before .before .before .before .before .if2 .left)) at (mains-step (namesFrom (a .names .now) 0 (a .known)) (a .file .now) (a .here .at) (next .result .at) (a .here .n) (c .before .before .before .before .before .before .before .before .before .before .before .before .before .line-at .result .now) (c .before .before .before .before .before .before .before .before .before .before .before .before .before .before .if1 .left) (c .before .before .before .before .before .before .before .before .before .before .before .before .before .line-at .ensures) (next .ensures .0 .2) (a .here .mains) (a .here .satellites)
+          cards (a .cards .now) angles (a .angles .now) (a .sat .now) (a .ratios .now) (read .result) (read .ensures .0) (read .ensures .1 .0) (p .8)))),
       c .satellite-reader .ensures .1,
     )
 
@@ -220,8 +221,8 @@ constituent-reader-returns-5 t c =
     let cards = read .last .1 .1 .1 .1 .0 in
     let angles = read .last .1 .1 .1 .1 .1 .0 in
     rw (c .refused .ensures) (
-      sym (rw (c .before .before .r .given .1) at (mains-step (namesFrom (a .names .now) 0 (a .known)) (a .file .now) (a .here .at) (next .result .at) (a .here .n) (c .before .before .before .before .before .before .before .before .line-at .result .now) (c .before .before .before .before .before .before .before .before .before .if1 .left) (c .before .before .before .before .before .before .before .before .line-at .ensures) (next .ensures .0 .2) (a .here .mains) (a .here .satellites)
-          cards (a .cards .now) angles (a .angles .now) (a .sat .now) (a .ratios .now) (read .result) (read .ensures .0) (read .ensures .1 .0))),
+      sym (rw (c .before .before .fault .given .1) at (mains-step (namesFrom (a .names .now) 0 (a .known)) (a .file .now) (a .here .at) (next .result .at) (a .here .n) (c .before .before .before .before .before .before .before .before .line-at .result .now) (c .before .before .before .before .before .before .before .before .before .if1 .left) (c .before .before .before .before .before .before .before .before .line-at .ensures) (next .ensures .0 .2) (a .here .mains) (a .here .satellites)
+          cards (a .cards .now) angles (a .angles .now) (a .sat .now) (a .ratios .now) (read .result) (read .ensures .0) (read .ensures .1 .0) (p .8))),
       (tt, p .3),
     )
 
@@ -234,7 +235,7 @@ satellite-reader-returns t c =
     let a = s .args in
     let p = s .pre .1 in
     rw (c .ended .ensures) (
-      sym (satellites-end (namesFrom (a .names .now) 0 (a .known)) (a .file .now) (a .here .at) (a .here .n) (mainsIn (a .cards .now) (a .angles .now) (a .sat .now) (a .ratios .now) (a .here .mains)) (a .here .satellites)
+      sym (satellites-end (namesFrom (a .names .now) 0 (a .known)) (a .file .now) (a .here .at) (a .here .n) (mainsIn (a .cards .now) (a .angles .now) (a .sat .now) (a .ratios .now) (a .here .mains))
           (mainOf (a .cards .now) (a .angles .now) (a .sat .now) (a .ratios .now) (a .here .mains)) (a .due) (c .before .if1 .taken)),
       (tt, omega (arith, p .3)),
     )
@@ -269,10 +270,10 @@ satellite-reader-constituent-reader-requires t c κs =
     let cards = read .last .1 .1 .1 .0 in
     let sat = read .last .1 .1 .1 .1 .0 in
     let ratios = read .last .1 .1 .1 .1 .1 .0 in
-    let grown = subst (λ (fault : Fault). Grown fault cards (a .here .mains) (a .here .satellites) (a .due)) (c .before .before .before .before .before .before .enum-told .given .1) (read .ensures .1 .0) in
+    let grown = subst (λ (check : Check). Grown check cards (a .cards .now) (a .here .mains) (a .here .satellites) (a .due)) (c .before .before .before .before .before .before .enum-told .given .1) (read .ensures .1 .0) in
     rw (c .before .before .before .before .with-more .ensures, next .ensures .1 .0, next .ensures .1 .1, next .ensures .1 .2) (
       omega (arith, s .pre .0, next .ensures .0 .0, next .ensures .0 .1),
-      (next .ensures .0 .1, omega (arith, p .1, next .ensures .0 .0), p .2, add-one-le (p .3), p .4, stored-one-more cards (a .here .mains) (a .here .satellites) (a .here .satellites + a .due) (omega arith) (grown .1) (omega (arith, grown .0)), (read .ensures .1 .1, p .7 .1), read .ensures .1 .2),
+      (next .ensures .0 .1, omega (arith, p .1, next .ensures .0 .0), p .2, add-one-le (p .3), p .4, stored-one-more cards (a .here .mains) (a .here .satellites) (a .here .satellites + a .due) (omega arith) (grown .1) (omega (arith, grown .0)), (read .ensures .1 .1, p .7 .1), read .ensures .1 .2, counted-grown cards (a .cards .now) ratios (a .ratios .now) (a .angles .now) sat (a .sat .now) (a .here .mains) (a .here .satellites) (a .due) (read .ensures .0 (a .angles .now) .1) (omega (arith, grown .2, c .before .before .before .before .before .if2 .taken)) (p .9)),
     )
 
 satellite-reader-with-more-requires-2 : (t : ℕ) → satellite-reader-lts.Need-with-more-requires-2 (satellite-reader-claims t) (satellite-reader-at t) satellite-reader.Post
@@ -296,15 +297,15 @@ satellite-reader-satellite-reader-requires t c κs =
     let cards = read .last .1 .1 .1 .0 in
     let sat = read .last .1 .1 .1 .1 .0 in
     let ratios = read .last .1 .1 .1 .1 .1 .0 in
-    let grown = subst (λ (fault : Fault). Grown fault cards (a .here .mains) (a .here .satellites) (a .due)) (c .before .before .before .before .before .before .enum-told .given .1) (read .ensures .1 .0) in
+    let grown = subst (λ (check : Check). Grown check cards (a .cards .now) (a .here .mains) (a .here .satellites) (a .due)) (c .before .before .before .before .before .before .enum-told .given .1) (read .ensures .1 .0) in
     let more = c .before .before .before .before .before .if2 .left in
     rw (c .before .before .before .before .with-more2 .ensures, next .ensures .1 .0, next .ensures .1 .1, next .ensures .1 .2, add-zero (a .here .mains)) (
       omega (arith, s .pre .0, next .ensures .0 .0, next .ensures .0 .1),
-      (next .ensures .0 .1, omega (arith, p .1, next .ensures .0 .0), p .2, p .3, omega (arith, p .4, more), omega (arith, grown .0, more), (λ k h. omega (arith, grown .1 k h)), (read .ensures .1 .1, p .7 .1), read .ensures .1 .2),
+      (next .ensures .0 .1, omega (arith, p .1, next .ensures .0 .0), p .2, p .3, omega (arith, p .4, more), omega (arith, grown .0, more), (λ k h. omega (arith, grown .1 k h)), (read .ensures .1 .1, p .7 .1), read .ensures .1 .2, counted-grown cards (a .cards .now) ratios (a .ratios .now) (a .angles .now) sat (a .sat .now) (a .here .mains) (a .here .satellites) satellitesACard (read .ensures .0 (a .angles .now) .1) (omega (arith, grown .2, more)) (p .9)),
     )
 
-satellite-reader-enum-known-r : (t : ℕ) → satellite-reader-lts.Need-enum-known-r (satellite-reader-claims t) (satellite-reader-at t) satellite-reader.Post
-satellite-reader-enum-known-r t c = search needs
+satellite-reader-enum-known-fault : (t : ℕ) → satellite-reader-lts.Need-enum-known-fault (satellite-reader-claims t) (satellite-reader-at t) satellite-reader.Post
+satellite-reader-enum-known-fault t c = search needs
 
 satellite-reader-refused-requires : (t : ℕ) → satellite-reader-lts.Need-refused-requires (satellite-reader-claims t) (satellite-reader-at t) satellite-reader.Post
 satellite-reader-refused-requires t c κs = search needs
@@ -319,8 +320,8 @@ satellite-reader-returns-2 t c =
     let cards = read .last .1 .1 .1 .0 in
     let sat = read .last .1 .1 .1 .1 .0 in
     let ratios = read .last .1 .1 .1 .1 .1 .0 in (
-      c .constituent-reader .ensures .0 ∙ rw (c .before .before .before .before .before .with-more .ensures, next .ensures .1 .0, next .ensures .1 .1, next .ensures .1 .2, one-more (mainOf cards (a .angles .now) sat ratios) (mainOf (a .cards .now) (a .angles .now) (a .sat .now) (a .ratios .now)) (a .here .mains) (read .ensures .0 (a .angles .now) .1))
-          (sym (rw (c .before .before .before .before .before .before .before .enum-told .given .1, le-leb _ 3 (c .before .before .before .before .before .before .if2 .taken)) at (satellites-step (namesFrom (a .names .now) 0 (a .known)) (a .file .now) (a .here .at) (next .result .at) (a .here .n) (c .before .before .before .before .before .before .before .before .before .before .before .before .before .before .line-at .result .now) (c .before .before .before .before .before .before .before .before .before .before .before .before .before .before .before .if1 .left) (c .before .before .before .before .before .before .before .before .before .before .before .before .before .before .line-at .ensures) (next .ensures .0 .2) (a .here .mains) (a .here .satellites)
+      c .constituent-reader .ensures .0 ∙ rw (c .before .before .before .before .before .with-more .ensures, next .ensures .1 .0, next .ensures .1 .1, one-more (mainOf cards (a .angles .now) sat ratios) (mainOf (a .cards .now) (a .angles .now) (a .sat .now) (a .ratios .now)) (a .here .mains) (read .ensures .0 (a .angles .now) .1))
+          (sym (rw (c .before .before .before .before .before .before .before .enum-told .given .1, le-leb _ satellitesACard (c .before .before .before .before .before .before .if2 .taken)) at (satellites-step (namesFrom (a .names .now) 0 (a .known)) (a .file .now) (a .here .at) (next .result .at) (a .here .n) (c .before .before .before .before .before .before .before .before .before .before .before .before .before .before .line-at .result .now) (c .before .before .before .before .before .before .before .before .before .before .before .before .before .before .before .if1 .left) (c .before .before .before .before .before .before .before .before .before .before .before .before .before .before .line-at .ensures) (next .ensures .0 .2) (a .here .mains)
           cards (a .cards .now) (a .angles .now) sat (a .sat .now) ratios (a .ratios .now) (read .result) (a .due) (read .ensures .0)))),
       c .constituent-reader .ensures .1,
     )
@@ -335,7 +336,7 @@ satellite-reader-returns-3 t c =
     let cards = read .last .1 .1 .1 .0 in
     let sat = read .last .1 .1 .1 .1 .0 in
     let ratios = read .last .1 .1 .1 .1 .1 .0 in (
-      c .satellite-reader .ensures .0 ∙ rw (c .before .before .before .before .before .with-more2 .ensures, next .ensures .1 .0, next .ensures .1 .1, next .ensures .1 .2, add-zero (a .here .mains)) (sym (rw (c .before .before .before .before .before .before .before .enum-told .given .1, lt-leb _ 3 (c .before .before .before .before .before .before .if2 .left)) at (satellites-step (namesFrom (a .names .now) 0 (a .known)) (a .file .now) (a .here .at) (next .result .at) (a .here .n) (c .before .before .before .before .before .before .before .before .before .before .before .before .before .before .line-at .result .now) (c .before .before .before .before .before .before .before .before .before .before .before .before .before .before .before .if1 .left) (c .before .before .before .before .before .before .before .before .before .before .before .before .before .before .line-at .ensures) (next .ensures .0 .2) (a .here .mains) (a .here .satellites)
+      c .satellite-reader .ensures .0 ∙ rw (c .before .before .before .before .before .with-more2 .ensures, next .ensures .1 .0, next .ensures .1 .1, add-zero (a .here .mains)) (sym (rw (c .before .before .before .before .before .before .before .enum-told .given .1, lt-leb _ satellitesACard (c .before .before .before .before .before .before .if2 .left)) at (satellites-step (namesFrom (a .names .now) 0 (a .known)) (a .file .now) (a .here .at) (next .result .at) (a .here .n) (c .before .before .before .before .before .before .before .before .before .before .before .before .before .before .line-at .result .now) (c .before .before .before .before .before .before .before .before .before .before .before .before .before .before .before .if1 .left) (c .before .before .before .before .before .before .before .before .before .before .before .before .before .before .line-at .ensures) (next .ensures .0 .2) (a .here .mains)
           cards (a .cards .now) (a .angles .now) sat (a .sat .now) ratios (a .ratios .now) (read .result) (a .due) (read .ensures .0)))),
       c .satellite-reader .ensures .1,
     )
@@ -351,7 +352,7 @@ satellite-reader-returns-4 t c =
     let sat = read .last .1 .1 .1 .1 .0 in
     let ratios = read .last .1 .1 .1 .1 .1 .0 in
     rw (c .refused .ensures) (
-      sym (rw (c .before .before .r .given .1) at (satellites-step (namesFrom (a .names .now) 0 (a .known)) (a .file .now) (a .here .at) (next .result .at) (a .here .n) (c .before .before .before .before .before .before .before .before .before .line-at .result .now) (c .before .before .before .before .before .before .before .before .before .before .if1 .left) (c .before .before .before .before .before .before .before .before .before .line-at .ensures) (next .ensures .0 .2) (a .here .mains) (a .here .satellites)
+      sym (rw (c .before .before .fault .given .1) at (satellites-step (namesFrom (a .names .now) 0 (a .known)) (a .file .now) (a .here .at) (next .result .at) (a .here .n) (c .before .before .before .before .before .before .before .before .before .line-at .result .now) (c .before .before .before .before .before .before .before .before .before .before .if1 .left) (c .before .before .before .before .before .before .before .before .before .line-at .ensures) (next .ensures .0 .2) (a .here .mains)
           cards (a .cards .now) (a .angles .now) sat (a .sat .now) ratios (a .ratios .now) (read .result) (a .due) (read .ensures .0))),
       (tt, omega (arith, p .3)),
     )
@@ -373,7 +374,7 @@ pub +constituent-reader+satellite-reader-spec : {M : Type 1} → statement M
     (constituent-reader-constituent-reader-requires t)
     (constituent-reader-cast-due t)
     (constituent-reader-satellite-reader-requires t)
-    (constituent-reader-enum-known-r t)
+    (constituent-reader-enum-known-fault t)
     (constituent-reader-refused-requires t)
     (constituent-reader-returns-2 t)
     (constituent-reader-returns-3 t)
@@ -393,7 +394,7 @@ pub +constituent-reader+satellite-reader-spec : {M : Type 1} → statement M
     (satellite-reader-with-more-requires-2 t)
     (satellite-reader-sub-left t)
     (satellite-reader-satellite-reader-requires t)
-    (satellite-reader-enum-known-r t)
+    (satellite-reader-enum-known-fault t)
     (satellite-reader-refused-requires t)
     (satellite-reader-returns-2 t)
     (satellite-reader-returns-3 t)

@@ -10,19 +10,22 @@ use Rattle.card_mains.specs.Mains.{mainMade}
 add-if1 : tie.Need-add-if1
 add-if1 c = search needs
 
+only-requires : tie.Need-only-requires
+only-requires c κs = search needs
+
 failed-requires : tie.Need-failed-requires
 failed-requires c κs = search needs
 
 returns : tie.Need-returns
 unfolding mainMade
-returns c = rw (lt-ltb _ _ (c .before .if1 .taken)) (c .failed .ensures)
+returns c = rw (lt-ltb _ _ (c .before .before .if1 .taken)) (rw (c .before .only .ensures) at (c .failed .ensures))
 
-cast-t10 : tie.Need-cast-t10
-cast-t10 c = search needs
+cast-t12 : tie.Need-cast-t12
+cast-t12 c = search needs
 
 returns-2 : tie.Need-returns-2
 unfolding mainMade
 returns-2 c = rw (le-ltb _ _ (c .if1 .left), toZ-ofZ w8 (c .before .args .phase) (c .before .fits .phase))
 
 pub main-made-spec : {M : Type 1} → statement M
-main-made-spec = tie.close (tie.spec add-if1 failed-requires returns cast-t10 returns-2)
+main-made-spec = tie.close (tie.spec add-if1 only-requires failed-requires returns cast-t12 returns-2)

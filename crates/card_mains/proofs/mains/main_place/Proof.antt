@@ -13,12 +13,15 @@ enum-known-place c = search needs
 is-among-requires : tie.Need-is-among-requires
 is-among-requires c κs = search needs
 
+only-requires : tie.Need-only-requires
+only-requires c κs = search needs
+
 returns : tie.Need-returns
 unfolding newPlace
-returns c = rw (← c .before .before .before .before .before .place-named .ensures, c .before .before .before .place .given .1, ← c .before .is-among .ensures, c .if1 .taken)
+returns c = rw (c .only .ensures, ← c .before .before .before .before .before .before .place-named .ensures, c .before .before .before .before .place .given .1, ← c .before .before .is-among .ensures, c .before .if1 .taken)
 
-enum-known-r : tie.Need-enum-known-r
-enum-known-r c = search needs
+enum-known-fault : tie.Need-enum-known-fault
+enum-known-fault c = search needs
 
 returns-2 : tie.Need-returns-2
 unfolding newPlace
@@ -26,7 +29,7 @@ returns-2 c = rw (← c .before .before .before .before .before .place-named .en
 
 returns-3 : tie.Need-returns-3
 unfolding newPlace
-returns-3 c = rw (← c .before .before .before .place-named .ensures, c .before .r .given .1)
+returns-3 c = rw (← c .before .before .before .place-named .ensures, c .before .fault .given .1)
 
 pub main-place-spec : {M : Type 1} → statement M
 main-place-spec =
@@ -35,7 +38,8 @@ main-place-spec =
     place-named-requires
     enum-known-place
     is-among-requires
+    only-requires
     returns
-    enum-known-r
+    enum-known-fault
     returns-2
     returns-3)

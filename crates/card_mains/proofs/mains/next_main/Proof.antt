@@ -25,14 +25,14 @@ enum-known-place c = search needs
 main-numbers-requires : tie.Need-main-numbers-requires
 main-numbers-requires c κs = search needs
 
-enum-known-r : tie.Need-enum-known-r
-enum-known-r c = search needs
+enum-known-fault : tie.Need-enum-known-fault
+enum-known-fault c = search needs
 
 failed-requires : tie.Need-failed-requires
 failed-requires c κs = search needs
 
-enum-known-r-2 : tie.Need-enum-known-r-2
-enum-known-r-2 c = search needs
+enum-known-fault-2 : tie.Need-enum-known-fault-2
+enum-known-fault-2 c = search needs
 
 failed-requires-2 : tie.Need-failed-requires-2
 failed-requires-2 c κs = search needs
@@ -47,11 +47,11 @@ returns-2 c = let a = c .before .before .before .before .before .before .before 
 
 returns-3 : tie.Need-returns-3
 unfolding nextMain mainCard
-returns-3 c = let a = c .before .before .before .before .before .before .before .before .before .before .before .args in rw (listed-length (λ k. getD (a .cards .now) (3 * k) 0) 0 (a .mains), ← c .before .before .before .before .before .before .before .begins .ensures, c .before .before .before .before .before .enum-told2 .given .1, ← c .before .before .before .before .main-place .ensures, c .before .before .r .given .1) (c .failed .ensures)
+returns-3 c = let a = c .before .before .before .before .before .before .before .before .before .before .before .args in rw (listed-length (λ k. getD (a .cards .now) (3 * k) 0) 0 (a .mains), ← c .before .before .before .before .before .before .before .begins .ensures, c .before .before .before .before .before .enum-told2 .given .1, ← c .before .before .before .before .main-place .ensures, c .before .before .fault .given .1) (c .failed .ensures)
 
 returns-4 : tie.Need-returns-4
 unfolding nextMain
-returns-4 c = let a = c .before .before .before .before .before .before .before .before .args in rw (listed-length (λ k. getD (a .cards .now) (3 * k) 0) 0 (a .mains), ← c .before .before .before .before .begins .ensures, c .before .before .r2 .given .1) (c .failed2 .ensures)
+returns-4 c = let a = c .before .before .before .before .before .before .before .before .args in rw (listed-length (λ k. getD (a .cards .now) (3 * k) 0) 0 (a .mains), ← c .before .before .before .before .begins .ensures, c .before .before .fault2 .given .1) (c .failed2 .ensures)
 
 pub next-main-spec : {M : Type 1} → statement M
 next-main-spec =
@@ -63,9 +63,9 @@ next-main-spec =
     main-place-requires
     enum-known-place
     main-numbers-requires
-    enum-known-r
+    enum-known-fault
     failed-requires
-    enum-known-r-2
+    enum-known-fault-2
     failed-requires-2
     returns
     returns-2

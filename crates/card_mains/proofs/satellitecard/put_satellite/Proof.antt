@@ -3,9 +3,11 @@ use borrow.Author.Needs.{needs}
 use Rattle.card_mains.proofs.satellitecard.put_satellite.Statement.{statement}
 use Rattle.card_mains.proofs.satellitecard.put_satellite.Tie as tie
 use mathlib.Core.Path.{_≡_, sym}
+use Prim.Native.Nat.{_*_}
 use native.Mathlib.Omega.{arith}
 use lib.ListN.{length}
 use lib.Seq.{length-take-le}
+use Rattle.limits.specs.Limits.{mostSatellites}
 use mir.Syntax.{w8}
 use mir.Val.{SFits}
 use mir.ValLaws.{toZ-ofZ}
@@ -22,7 +24,7 @@ slice-aggregate-put-i8 c = sym (length-take-le 3 (c .before .before .before .arg
 put-i8-requires : tie.Need-put-i8-requires
 put-i8-requires c κs =
     let s = c .before .before .before .args .s in
-    let len : length (c .before .before .before .args .angles .now) ≡ 1024 = search needs in
+    let len : length (c .before .before .before .args .angles .now) ≡ 4 * mostSatellites = search needs in
     omega (arith, length-take-le 3 (s .differences) (omega (arith, c .before .before .before .pre .1)))
 
 mul-phase : tie.Need-mul-phase

@@ -19,11 +19,14 @@ returns : tie.Need-returns
 unfolding satelliteCard dueCard
 returns c = (rw (← c .before .before .before .before .before .line-good .ensures, c .before .before .before .before .if1 .taken, ← c .before .before .before .at-most-three .ensures) (c .satellites-on .ensures .0), c .satellites-on .ensures .1)
 
+bad-line-requires : tie.Need-bad-line-requires
+bad-line-requires c κs = search needs
+
 returns-2 : tie.Need-returns-2
 unfolding satelliteCard dueCard
-returns-2 c = (rw (← c .before .line-good .ensures, c .if1 .left), ((λ k h. refl), c .before .before .before .pre .1))
+returns-2 c = (rw (c .bad-line .ensures, ← c .before .before .line-good .ensures, c .before .if1 .left), ((λ k h. refl), c .before .before .before .before .pre .1))
 
 pub satellite-card-spec : {M : Type 1} → statement M
 satellite-card-spec =
     tie.close
-    (tie.spec line-good-requires at-most-three-requires satellites-on-requires returns returns-2)
+    (tie.spec line-good-requires at-most-three-requires satellites-on-requires returns bad-line-requires returns-2)

@@ -12,14 +12,13 @@ use lib.ListN.{length, length-set, take, set}
 use lib.Seq.{length-sets, length-take-le, sets}
 use Rattle.table.specs.inner.View.{listed, satelliteOf}
 use Rattle.card_mains.specs.Satellites.{satellitesOn}
-use Rattle.card_mains.specs.inner.Satellites.{Kept}
 use Rattle.card_mains.proofs.satellitecard.OfSatellites.{satellite-put, satellite-kept, satellites-grow, satellites-more, satellites-none}
-use Rattle.card_mains.specs.inner.Satellites.{SatelliteRoom}
+use Rattle.card_mains.specs.inner.Satellites.{AsBefore, SatelliteRoom}
 
 abbrev Inv-loop : tie.InvT-loop
 Inv-loop line first count angles₀ ratios₀ j₀ angles ratios j =
     (j ≤ count) × (satellitesOn line (listed (satelliteOf angles ratios) first j) j (count - j) ≡ satellitesOn line [] 0 count)
-    × Kept (satelliteOf angles ratios) (satelliteOf angles₀ ratios₀) first × SatelliteRoom angles ratios
+    × AsBefore (satelliteOf angles ratios) (satelliteOf angles₀ ratios₀) first × SatelliteRoom angles ratios
 
 abbrev μ-loop : tie.MeasureT-loop
 μ-loop line first count angles₀ ratios₀ j₀ angles ratios j = count - j
@@ -27,12 +26,6 @@ abbrev μ-loop : tie.MeasureT-loop
 loop-holds : tie.Need-loop-holds Inv-loop μ-loop
 unfolding listed
 loop-holds c = (omega arith, rw (sub-zero (c .before .args .count)), (λ k h. refl), c .before .pre .2)
-
-mul-satellite-fields : tie.Need-mul-satellite-fields Inv-loop μ-loop
-mul-satellite-fields c = search needs
-
-add-satellite-fields : tie.Need-add-satellite-fields Inv-loop μ-loop
-add-satellite-fields c = search needs
 
 satellite-fields-requires : tie.Need-satellite-fields-requires Inv-loop μ-loop
 satellite-fields-requires c κs = search needs
@@ -75,15 +68,15 @@ loop-again c =
       ),
     )
 
-enum-known-fault : tie.Need-enum-known-fault Inv-loop μ-loop
-enum-known-fault c = search needs
+enum-known-check : tie.Need-enum-known-check Inv-loop μ-loop
+enum-known-check c = search needs
 
 returns : tie.Need-returns Inv-loop μ-loop
 returns c =
     let s = c .before .before .before .before .before in
     let a = s .before .before .args in
     let f = c .before .before .before .satellite-fields in
-    (rw (satellites-more (a .line .now) (listed (satelliteOf (s .loop .angles) (s .loop .ratios)) (a .first) (s .loop .j)) (s .loop .j) (a .count) (c .before .before .before .before .loop-test .taken), ← f .ensures .0, c .before .fault .given .1) at (s .loop .inv .1), (s .loop .inv .2, s .loop .inv .3))
+    (rw (satellites-more (a .line .now) (listed (satelliteOf (s .loop .angles) (s .loop .ratios)) (a .first) (s .loop .j)) (s .loop .j) (a .count) (c .before .before .before .before .loop-test .taken), ← f .ensures .0, c .before .check .given .1) at (s .loop .inv .1), (s .loop .inv .2, s .loop .inv .3))
 
 returns-2 : tie.Need-returns-2 Inv-loop μ-loop
 returns-2 c =
@@ -99,8 +92,6 @@ satellites-on-spec =
     Inv-loop
     μ-loop
     loop-holds
-    mul-satellite-fields
-    add-satellite-fields
     satellite-fields-requires
     enum-told
     add-put-satellite
@@ -108,6 +99,6 @@ satellites-on-spec =
     add-j
     loop-less
     loop-again
-    enum-known-fault
+    enum-known-check
     returns
     returns-2)
