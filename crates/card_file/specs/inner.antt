@@ -1,4 +1,3 @@
 -- What ties the code to the definitions beside this folder. Only inner contracts cite it.
-pub mod Answers
 pub mod Read
 pub mod Rest

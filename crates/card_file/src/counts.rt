@@ -2,8 +2,8 @@
 ghost use mathlib.Core.Path.{_≡_};
 ghost use Prim.Native.Nat.{_≤_, min};
 ghost use Rattle.table.specs.inner.View.{tableOf};
-ghost use Rattle.card_file.specs.Cards.{readCards};
-ghost use Rattle.card_file.specs.Satellites.{satellitesIn};
+ghost use Rattle.card_mains.specs.Mains.{satellitesIn};
+ghost use Rattle.card_file.specs.Cards.{cardsOutcome};
 ghost use Rattle.card_file.specs.Counts.{countsOf};
 use crate::reader;
 use limits::MAINS;
@@ -51,7 +51,7 @@ pub fn satellites_of(table: Table) -> usize
 
 // A card file is checked: what it comes to.
 pub fn check_cards(file: &[u8]) -> Counts
-    ensures { λ r. ⌜ r ≡ countsOf (readCards (now (file .entry))) ⌝ }
+    ensures { λ r. ⌜ r ≡ countsOf (cardsOutcome (now (file .entry))) ⌝ }
 {
     let read = reader::read_cards(file);
     let answer = read.answer;

@@ -1,15 +1,15 @@
-// The whole card file's definition, and its last check: that every frequency is defined, by a main or by a shallow constituent.
+// The card file's last check: that every frequency is defined, by a main or by a shallow constituent.
 ghost use mathlib.Core.Path.{_≡_};
-ghost use mathlib.Core.List.{List, _++_};
+ghost use mathlib.Core.List.{_++_};
 ghost use Prim.Native.Nat.{_≤_, _<_};
 ghost use lib.ListN.{length};
 ghost use Rattle.limits.specs.Limits.{mostFrequencies, mostMains, mostShallows};
 ghost use Rattle.table.specs.Table.{Frequency, Table};
 ghost use Rattle.card.specs.Card.{isAmong};
-ghost use Rattle.card_file.specs.Cards.{allDefined};
+ghost use Rattle.card_file.specs.Cards.{firstUndefined};
 ghost use Rattle.card.specs.inner.Places.{placesIn};
-ghost use Rattle.card_file.specs.inner.Answers.{definedGives};
 use card::places::is_among;
+use columns::names::Found;
 use table::MAIN_CARDS;
 use table::SHALLOW_CARDS;
 
@@ -24,30 +24,24 @@ fn is_defined(place: u16, maincards: &[u16], mains: usize, cards: &[u16], count:
     is_among(place, cards, 6, count)
 }
 
-// Whether all frequencies are defined, or the line of the first that is not.
-pub enum Defined {
-    All,
-    Not(usize),
-}
-
-// The first of the frequencies that no main and no shallow constituent defines.
+// The first of the frequencies' places that no main and no shallow constituent has.
 pub fn undefined(
     frequencies: usize,
     maincards: &[u16; MAIN_CARDS],
     mains: usize,
     cards: &[u16; SHALLOW_CARDS],
     count: usize,
-) -> Defined
+) -> Found
     requires { ⌜ (frequencies ≤ mostFrequencies) × (mains ≤ mostMains) × (count ≤ mostShallows) ⌝ }
-    ensures { λ r. ⌜ ((fs : List Frequency) (t : Table) → length fs ≡ frequencies → definedGives r t ≡ allDefined fs 0 (placesIn 3 (now (maincards .entry)) mains ++ placesIn 6 (now (cards .entry)) count) t) ⌝ }
+    ensures { λ r. ⌜ r ≡ firstUndefined (placesIn 3 (now (maincards .entry)) mains ++ placesIn 6 (now (cards .entry)) count) 0 frequencies ⌝ }
 {
     let mut k = 0;
     while k < frequencies {
         if is_defined(k as u16, maincards, mains, cards, count) {
             k = k + 1;
         } else {
-            return Defined::Not(k + 1);
+            return Found::At(k);
         }
     }
-    Defined::All
+    Found::Nothing
 }

@@ -5,20 +5,25 @@ ghost use lib.ListN.{length, drop};
 ghost use Rattle.limits.specs.Limits.{mostFrequencies, mostMains};
 ghost use Rattle.columns.specs.Lines.{linesOf};
 ghost use Rattle.table.specs.inner.View.{tableOf};
-ghost use Rattle.refusals.specs.Outcome.{numberOf};
-ghost use Rattle.card.specs.inner.Answers as parts;
-ghost use Rattle.card_file.specs.Cards.{readCards};
-ghost use Rattle.card_file.specs.inner.Read.{outcomeOf, refusedWith};
-ghost use Rattle.card_file.specs.inner.Rest.{longitudesAnd, increasesAnd, mainsAnd, shallowsAnd};
-use crate::defined::Defined;
+ghost use Rattle.card.specs.declared.lines.Progress.the-variants.{Refused};
+ghost use Rattle.card_file.specs.Cards.{readCards, cardsOutcome};
+ghost use Rattle.card_file.specs.inner.Read.{parsedGives, outcomeOf, checkOf};
+ghost use Rattle.card_file.specs.inner.Rest.{longitudesAnd, mainsAnd, shallowsAnd};
 use crate::defined::undefined;
-use card::Refusal;
+use card::Check;
+use card::faults;
+use card::faults::Fault;
+use card::faults::Trouble;
+use card::faults::What;
+use card::faults::refusal_for;
+use card::formats::FiveCard;
 use card::lines::Progress;
 use card_constituents::constituents::constituent_reader;
 use card_constituents::rows::Here;
 use card_frequencies::frequencies::read_frequencies;
 use card_frequencies::longitudes::read_five;
 use card_shallows::shallows::read_shallows;
+use columns::names::Found;
 use refusals::Answer;
 use table::MAIN_ANGLES;
 use table::MAIN_CARDS;
@@ -26,41 +31,32 @@ use table::SATELLITE_ANGLES;
 use table::SATELLITE_RATIOS;
 use table::Table;
 
-// What a card file comes to, and its table where it is accepted.
+// Where the reading of a card file ends, and its table; or what is wrong, and on which line (the table is then free).
+pub struct Parsed {
+    pub progress: Progress,
+    pub table: Table,
+}
+
+// What a card file comes to, and its table where it is accepted (else it is free).
 pub struct Read {
     pub answer: Answer,
     pub table: Table,
 }
 
-// A refusal of the reader's parts, by its name among all.
-fn named(r: Refusal) -> refusals::Refusal
-    ensures { λ a. ⌜ numberOf a ≡ parts.numberOf r ⌝ }
-{
-    match r {
-        Refusal::Line => refusals::Refusal::BadLine,
-        Refusal::Malformed => refusals::Refusal::Malformed,
-        Refusal::Range => refusals::Refusal::OutOfRange,
-        Refusal::Name => refusals::Refusal::BadName,
-        Refusal::Missing => refusals::Refusal::Missing,
-        Refusal::Count => refusals::Refusal::TooMany,
-        Refusal::Ended => refusals::Refusal::Ended,
-    }
-}
-
 // A refused file: no table.
-fn refused(r: Refusal, line: usize) -> Read
-    ensures { λ f. ⌜ outcomeOf f ≡ refusedWith r line ⌝ }
+fn refused(fault: Fault, line: usize) -> Parsed
+    ensures { λ p. ⌜ p .progress ≡ Refused fault line ⌝ }
 {
-    Read {
-        answer: Answer::Refused(named(r), line),
+    Parsed {
+        progress: Progress::Refused(fault, line),
         table: table::no_cards(),
     }
 }
 
 // Part 4 and the last check, after a table with no shallow constituents yet.
-fn shallows_and(file: &[u8], at: usize, n: usize, table: Table) -> Read
+fn shallows_and(file: &[u8], at: usize, n: usize, table: Table) -> Parsed
     requires { ⌜ (at ≤ length (now file)) × (n ≤ at + 1) × (table .frequencies ≤ mostFrequencies) × (table .mains ≤ mostMains) ⌝ }
-    ensures { λ r. ⌜ outcomeOf r ≡ shallowsAnd (tableOf table) (linesOf (drop at (now (file .entry)))) n ⌝ }
+    ensures { λ r. ⌜ parsedGives (now (file .entry)) r ≡ shallowsAnd (tableOf table) (linesOf (drop at (now (file .entry)))) n ⌝ }
 {
     let names = table.names;
     let maincards = table.maincards;
@@ -75,11 +71,11 @@ fn shallows_and(file: &[u8], at: usize, n: usize, table: Table) -> Read
     );
     let progress = read.progress;
     match progress {
-        Progress::Refused(r, line) => refused(r, line),
-        Progress::Reached(_, _) => {
+        Progress::Refused(fault, line) => refused(fault, line),
+        Progress::Reached(next, line) => {
             let cards = read.cards;
             let coefficients = read.coefficients;
-            let defined = undefined(
+            let found = undefined(
                 table.frequencies,
                 &maincards,
                 table.mains,
@@ -90,21 +86,24 @@ fn shallows_and(file: &[u8], at: usize, n: usize, table: Table) -> Read
             whole.shallows = read.count;
             whole.shallowcards = cards;
             whole.coefficients = coefficients;
-            match defined {
-                Defined::All => Read {
-                    answer: Answer::Accepted,
+            match found {
+                Found::Nothing => Parsed {
+                    progress: Progress::Reached(next, line),
                     table: whole,
                 },
-                Defined::Not(line) => refused(Refusal::Missing, line),
+                Found::At(place) => refused(
+                    faults::only(What::Name, Trouble::NoDefinition),
+                    place + 1,
+                ),
             }
         }
     }
 }
 
 // Part 3 and what follows, after a table with no mains yet.
-fn mains_and(file: &[u8], at: usize, n: usize, table: Table) -> Read
+fn mains_and(file: &[u8], at: usize, n: usize, table: Table) -> Parsed
     requires { ⌜ (at ≤ length (now file)) × (n ≤ at + 1) × (table .frequencies ≤ mostFrequencies) ⌝ }
-    ensures { λ r. ⌜ outcomeOf r ≡ mainsAnd (tableOf table) (linesOf (drop at (now (file .entry)))) n ⌝ }
+    ensures { λ r. ⌜ parsedGives (now (file .entry)) r ≡ mainsAnd (tableOf table) (linesOf (drop at (now (file .entry)))) n ⌝ }
 {
     let names = table.names;
     let mut maincards = [0u16; MAIN_CARDS];
@@ -129,13 +128,12 @@ fn mains_and(file: &[u8], at: usize, n: usize, table: Table) -> Read
     );
     let progress = read.progress;
     match progress {
-        Progress::Refused(r, line) => refused(r, line),
+        Progress::Refused(fault, line) => refused(fault, line),
         Progress::Reached(next, line) => {
             let mut more = table;
             more.mains = read.mains;
             more.maincards = maincards;
             more.mainangles = mainangles;
-            more.satellites = read.satellites;
             more.satelliteangles = satelliteangles;
             more.satelliteratios = satelliteratios;
             shallows_and(file, next, line, more)
@@ -143,50 +141,41 @@ fn mains_and(file: &[u8], at: usize, n: usize, table: Table) -> Read
     }
 }
 
-// The second longitude card and what follows, after a table with the first.
-fn increases_and(file: &[u8], at: usize, n: usize, table: Table) -> Read
+// The two longitude cards and what follows, after a table with the frequencies.
+fn longitudes_and(file: &[u8], at: usize, n: usize, table: Table) -> Parsed
     requires { ⌜ (at ≤ length (now file)) × (n ≤ at + 1) × (table .frequencies ≤ mostFrequencies) ⌝ }
-    ensures { λ r. ⌜ outcomeOf r ≡ increasesAnd (tableOf table) (linesOf (drop at (now (file .entry)))) n ⌝ }
+    ensures { λ r. ⌜ parsedGives (now (file .entry)) r ≡ longitudesAnd (tableOf table) (linesOf (drop at (now (file .entry)))) n ⌝ }
 {
-    let read = read_five(file, at, n, 200_000_000_000);
-    let progress = read.progress;
+    let first = read_five(file, at, n, FiveCard::Longitudes);
+    let progress = first.progress;
     match progress {
-        Progress::Refused(r, line) => refused(r, line),
+        Progress::Refused(fault, line) => refused(fault, line),
         Progress::Reached(next, line) => {
-            let values = read.values;
-            let mut more = table;
-            more.increases = values;
-            mains_and(file, next, line, more)
+            let second = read_five(file, next, line, FiveCard::Increases);
+            let after = second.progress;
+            match after {
+                Progress::Refused(fault, last) => refused(fault, last),
+                Progress::Reached(behind, last) => {
+                    let longitudes = first.values;
+                    let increases = second.values;
+                    let mut more = table;
+                    more.longitudes = longitudes;
+                    more.increases = increases;
+                    mains_and(file, behind, last, more)
+                }
+            }
         }
     }
 }
 
-// The first longitude card and what follows, after a table with the frequencies.
-fn longitudes_and(file: &[u8], at: usize, n: usize, table: Table) -> Read
-    requires { ⌜ (at ≤ length (now file)) × (n ≤ at + 1) × (table .frequencies ≤ mostFrequencies) ⌝ }
-    ensures { λ r. ⌜ outcomeOf r ≡ longitudesAnd (tableOf table) (linesOf (drop at (now (file .entry)))) n ⌝ }
-{
-    let read = read_five(file, at, n, 9_999_999_999);
-    let progress = read.progress;
-    match progress {
-        Progress::Refused(r, line) => refused(r, line),
-        Progress::Reached(next, line) => {
-            let values = read.values;
-            let mut more = table;
-            more.longitudes = values;
-            increases_and(file, next, line, more)
-        }
-    }
-}
-
-// A card file: accepted whole, with its table, or refused with 01's number and line.
-pub fn read_cards(file: &[u8]) -> Read
-    ensures { λ r. ⌜ outcomeOf r ≡ readCards (now (file .entry)) ⌝ }
+// A card file: its table, or what is wrong with it and on which line.
+pub fn parse_cards(file: &[u8]) -> Parsed
+    ensures { λ r. ⌜ parsedGives (now (file .entry)) r ≡ readCards (now (file .entry)) ⌝ }
 {
     let read = read_frequencies(file);
     let progress = read.progress;
     match progress {
-        Progress::Refused(r, line) => refused(r, line),
+        Progress::Refused(fault, line) => refused(fault, line),
         Progress::Reached(next, line) => {
             let names = read.names;
             let speeds = read.speeds;
@@ -196,5 +185,39 @@ pub fn read_cards(file: &[u8]) -> Read
             table.speeds = speeds;
             longitudes_and(file, next, line, table)
         }
+    }
+}
+
+// A card file: accepted whole, with its table, or refused with 01's number and line.
+pub fn read_cards(file: &[u8]) -> Read
+    ensures { λ r. ⌜ outcomeOf r ≡ cardsOutcome (now (file .entry)) ⌝ }
+{
+    let parsed = parse_cards(file);
+    let progress = parsed.progress;
+    let table = parsed.table;
+    match progress {
+        Progress::Reached(_, _) => Read {
+            answer: Answer::Accepted,
+            table,
+        },
+        Progress::Refused(fault, line) => {
+            let trouble = fault.trouble;
+            Read {
+                answer: Answer::Refused(refusal_for(trouble), line),
+                table,
+            }
+        }
+    }
+}
+
+// What is wrong with a card file, if anything is.
+pub fn check_of(file: &[u8]) -> Check
+    ensures { λ r. ⌜ r ≡ checkOf (readCards (now (file .entry))) ⌝ }
+{
+    let parsed = parse_cards(file);
+    let progress = parsed.progress;
+    match progress {
+        Progress::Reached(_, _) => Check::Clear,
+        Progress::Refused(fault, _) => Check::Bad(fault),
     }
 }

@@ -98,7 +98,10 @@ pub fn read_shallows(
         line_number = line_number + 1;
     }
     Shallows {
-        progress: Progress::Refused(faults::only(What::File, Trouble::EndedInShallows), line_number),
+        progress: Progress::Refused(
+            faults::only(What::File, Trouble::EndedInShallows),
+            line_number,
+        ),
         count: count,
         cards: cards,
         coefficients: coefficients,

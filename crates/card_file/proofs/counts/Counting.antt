@@ -12,7 +12,8 @@ use Rattle.table.specs.Table.{Main}
 use Rattle.table.specs.inner.View.{listed, rowOf, mainOf, satelliteOf, tableOf}
 use Rattle.table.specs.declared.Table.{Table}
 use Rattle.table.proofs.Rows.{listed-length, listed-at, listed-next, listed-end}
-use Rattle.card_file.specs.Satellites.{satellitesIn}
+use Rattle.limits.specs.Limits.{mostMains}
+use Rattle.card_mains.specs.Mains.{satellitesIn}
 
 -- main k of a table's struct
 abbrev mainIn : Table → ℕ → Main
@@ -38,23 +39,23 @@ unfolding satellitesIn
 satellites-end t k h = rw (listed-end (mainIn t) k (t .mains) h)
 
 -- past the array's end
-none-past : (t : Table) → length (t .maincards) ≡ 192 → (k n : ℕ) → 64 ≤ k → satellitesIn (listed (mainIn t) k n) ≡ 0
+none-past : (t : Table) → length (t .maincards) ≡ 3 * mostMains → (k n : ℕ) → mostMains ≤ k → satellitesIn (listed (mainIn t) k n) ≡ 0
 unfolding satellitesIn listed
 none-past t e k zero h = refl
 none-past t e k (suc n) h =
     let past : length (t .maincards) ≤ 3 * k + 2 = omega arith in
     rw (count-of t k, List·getD-eq-default (t .maincards) 0 {n = 3 * k + 2} past, none-past t e (suc k) n (omega arith))
 
-satellites-past : (t : Table) (k : ℕ) → length (t .maincards) ≡ 192 → 64 ≤ k → satellitesFrom t k ≡ 0
+satellites-past : (t : Table) (k : ℕ) → length (t .maincards) ≡ 3 * mostMains → mostMains ≤ k → satellitesFrom t k ≡ 0
 satellites-past t k e h = none-past t e k (t .mains - k) h
 
 -- so none are left where the mains or the rows end, whichever is first
-pub satellites-least : (t : Table) (k : ℕ) → length (t .maincards) ≡ 192 → min (t .mains) 64 ≤ k → satellitesFrom t k ≡ 0
-satellites-least t k e h = by (ltb k 64) refl
+pub satellites-least : (t : Table) (k : ℕ) → length (t .maincards) ≡ 3 * mostMains → min (t .mains) mostMains ≤ k → satellitesFrom t k ≡ 0
+satellites-least t k e h = by (ltb k mostMains) refl
   where
-    by : (b : Bool) → ltb k 64 ≡ b → satellitesFrom t k ≡ 0
-    by true d = satellites-end t k (omega (arith, ltb-true k 64 d))
-    by false d = satellites-past t k e (ltb-false k 64 d)
+    by : (b : Bool) → ltb k mostMains ≡ b → satellitesFrom t k ≡ 0
+    by true d = satellites-end t k (omega (arith, ltb-true k mostMains d))
+    by false d = satellites-past t k e (ltb-false k mostMains d)
 
 -- all mains
 pub satellites-all : (t : Table) → satellitesFrom t 0 ≡ satellitesIn (tableOf t .mains)

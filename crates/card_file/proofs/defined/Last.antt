@@ -1,21 +1,29 @@
--- Laws of the check that every frequency is defined: one frequency more, or none left.
+-- Laws of the check that every frequency is defined: one place more, or none left.
 -- By the clauses of the definition. Assumes nothing.
 use mathlib.Core.Path.{_≡_}
-use mathlib.Core.List.{List, []}
-use mathlib.Core.Bool.{cond}
-use Prim.Native.Nat.{ℕ, _+_, _≤_, _<_}
-use native.Mathlib.Numerals.{add-one}
-use lib.ListN.{length, drop, drop-of-length-le}
-use lib.Seq.{drop-cons}
-use Rattle.table.specs.Table.{Frequency, Table}
+use mathlib.Core.List.{List}
+use mathlib.Core.Bool.{Bool, true, false, cond}
+use Prim.Native.Nat.{ℕ, zero, suc, _+_, _-_, _≤_, _<_}
+use native.Mathlib.Omega.{arith}
+use Rattle.columns.specs.declared.names.Found.the-variants.{At, Nothing}
 use Rattle.card.specs.Card.{isAmong}
-use Rattle.card_file.specs.Cards.{allDefined, accepted, refused}
+use Rattle.card_file.specs.Cards.{firstUndefined}
 
-module _ (fs : List Frequency) (k : ℕ) (defined : List ℕ) (t : Table) where
-  pub defined-more : k < length fs → allDefined (drop k fs) k defined t ≡ cond (isAmong k defined) (allDefined (drop (k + 1) fs) (k + 1) defined t) (refused 5 (k + 1))
-  unfolding allDefined
-  defined-more h = rw (drop-cons fs k (record { name = []; frequency = 0 }) h, add-one k)
+module _ (defined : List ℕ) (k n : ℕ) where
+  pub defined-more : k < n → firstUndefined defined k (n - k) ≡ cond (isAmong k defined) (firstUndefined defined (k + 1) (n - (k + 1))) (At k)
+  unfolding firstUndefined
+  defined-more h = let e : n - k ≡ suc (n - (k + 1)) = omega arith in rw e
 
-  pub defined-none : length fs ≤ k → allDefined (drop k fs) k defined t ≡ accepted t
-  unfolding allDefined
-  defined-none h = rw (drop-of-length-le fs h)
+  pub defined-none : n ≤ k → firstUndefined defined k (n - k) ≡ Nothing
+  unfolding firstUndefined
+  defined-none h = let e : n - k ≡ 0 = omega arith in rw e
+
+-- a place that is found is one of those asked
+pub undefined-within : (defined : List ℕ) (k n place : ℕ) → firstUndefined defined k n ≡ At place → place < k + n
+unfolding firstUndefined
+undefined-within defined k zero place e = let z : _≡_ {A = ℕ} 0 1 = cc in absurd (omega arith)
+undefined-within defined k (suc n) place e = go (isAmong k defined) e (λ h. undefined-within defined (k + 1) n place h)
+  where
+    go : (t : Bool) → cond t (firstUndefined defined (k + 1) n) (At k) ≡ At place → (firstUndefined defined (k + 1) n ≡ At place → place < k + 1 + n) → place < k + suc n
+    go true q later = omega (arith, later q)
+    go false q later = let p : k ≡ place = cc in omega arith

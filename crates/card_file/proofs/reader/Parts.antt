@@ -1,17 +1,12 @@
 -- Parts 3 and 4 as their readers are asked for them, by the rows of names and places, are those of the document's table. Assumes nothing.
-use mathlib.Core.Path.{_≡_, sym, ap, ap₂, _∙_}
+use mathlib.Core.Path.{_≡_, sym, ap, ap₂}
 use Prim.Native.Nat.{ℕ}
 use mathlib.Core.List.{List, [], _++_}
 use Rattle.columns.specs.Names.{namesFrom}
 use lib.IntN.{ℤ}
 use lib.ListN.{length}
-use Rattle.table.specs.Table as document
-use Rattle.table.specs.Table.{Frequency}
 use Rattle.table.proofs.Rows.{listed-length}
-use Rattle.card_file.specs.Cards.{allDefined}
-use Rattle.card_file.specs.inner.Answers.{definedGives}
-use Rattle.card_file.specs.declared.defined.Defined.{Defined}
-use Rattle.card_file.specs.inner.Rest.{withShallows}
+use Rattle.card_file.specs.Cards.{firstUndefined}
 use Rattle.table.specs.inner.View.{tableOf, listed, frequencyOf, shallowOf}
 use Rattle.table.specs.declared.Table.{Table}
 use Rattle.card_frequencies.specs.Frequencies.{namesOf}
@@ -36,8 +31,8 @@ unfolding tableOf
 main-places t = mains.places-of (t .maincards) (t .mainangles) (t .satelliteangles) (t .satelliteratios) 0 (t .mains)
 
 pub part-3 : (t : Table) (lines : List (List ℕ)) (n : ℕ)
-    → mainsFrom (namesFrom (t .names) 0 (t .frequencies)) lines n [] 0 ≡ mainsFrom (namesOf (tableOf t .frequencies)) lines n [] 0
-part-3 t lines n = ap (λ (names : List (List ℕ)). mainsFrom names lines n [] 0) (sym (names-in t))
+    → mainsFrom (namesFrom (t .names) 0 (t .frequencies)) lines n [] ≡ mainsFrom (namesOf (tableOf t .frequencies)) lines n []
+part-3 t lines n = ap (λ (names : List (List ℕ)). mainsFrom names lines n []) (sym (names-in t))
 
 pub part-4 : (t : Table) (lines : List (List ℕ)) (n : ℕ)
     → shallowsFrom (namesFrom (t .names) 0 (t .frequencies)) (placesIn 3 (t .maincards) (t .mains)) lines n []
@@ -49,11 +44,8 @@ pub defined-places : (t : Table) (cards : List ℕ) (coefficients : List ℤ) (c
     → placesIn 3 (t .maincards) (t .mains) ++ placesIn 6 cards count ≡ mainPlaces (tableOf t .mains) ++ shallowPlaces (listed (shallowOf cards coefficients) 0 count)
 defined-places t cards coefficients count = ap₂ _++_ (sym (main-places t)) (sym (shallows.places-of cards coefficients 0 count))
 
--- the end of the reading: what the last check gives is what the rest of the document gives
-pub last-check : (t : Table) (cards : List ℕ) (coefficients : List ℤ) (count : ℕ) (d : Defined)
-    → ((fs : List Frequency) (whole : document.Table) → length fs ≡ t .frequencies → definedGives d whole ≡ allDefined fs 0 (placesIn 3 (t .maincards) (t .mains) ++ placesIn 6 cards count) whole)
-    → definedGives d (withShallows (tableOf t) (listed (shallowOf cards coefficients) 0 count))
-    ≡ allDefined (tableOf t .frequencies) 0 (mainPlaces (tableOf t .mains) ++ shallowPlaces (listed (shallowOf cards coefficients) 0 count)) (withShallows (tableOf t) (listed (shallowOf cards coefficients) 0 count))
-last-check t cards coefficients count d asks =
-    asks (tableOf t .frequencies) _ (frequencies-count t)
-    ∙ ap (λ (places : List ℕ). allDefined (tableOf t .frequencies) 0 places (withShallows (tableOf t) (listed (shallowOf cards coefficients) 0 count))) (defined-places t cards coefficients count)
+-- the end of the reading: the first place that the code finds undefined is the document's
+pub last-check : (t : Table) (cards : List ℕ) (coefficients : List ℤ) (count : ℕ)
+    → firstUndefined (placesIn 3 (t .maincards) (t .mains) ++ placesIn 6 cards count) 0 (t .frequencies)
+    ≡ firstUndefined (mainPlaces (tableOf t .mains) ++ shallowPlaces (listed (shallowOf cards coefficients) 0 count)) 0 (length (tableOf t .frequencies))
+last-check t cards coefficients count = rw (frequencies-count t, ← defined-places t cards coefficients count)

@@ -1,6 +1,7 @@
 -- The satellites of all mains: the loop keeps the sum over the rows passed, which is `satellitesIn` of their mains.
 use Rattle.card_file.proofs.counts.Counting.{satellitesFrom, satellites-next, satellites-least, satellites-all}
-use Rattle.card_file.specs.Satellites.{satellitesIn}
+use Rattle.limits.specs.Limits.{mostMains}
+use Rattle.card_mains.specs.Mains.{satellitesIn}
 use Rattle.table.specs.inner.View.{tableOf}
 use borrow.Author.Needs.{needs}
 use native.Mathlib.Omega.{arith}
@@ -14,7 +15,7 @@ use Rattle.card_file.proofs.counts.shorter.Reads as shorter-reads
 use Rattle.card_file.proofs.counts.wide.Reads as wide-reads
 
 abbrev Inv-loop : tie.InvT-loop
-Inv-loop table most total₀ k₀ total k = (total + satellitesFrom table k ≡ satellitesIn (tableOf table .mains)) × (total ≤ 65_535 * k) × (k ≤ most) × (most ≡ min (table .mains) 64)
+Inv-loop table most total₀ k₀ total k = (total + satellitesFrom table k ≡ satellitesIn (tableOf table .mains)) × (total ≤ 65_535 * k) × (k ≤ most) × (most ≡ min (table .mains) mostMains)
 
 abbrev μ-loop : tie.MeasureT-loop
 μ-loop table most total₀ k₀ total k = most - k

@@ -2,23 +2,20 @@
 use borrow.Author.Needs.{needs}
 use Rattle.card_file.proofs.reader.mains_and.Statement.{statement}
 use Rattle.card_file.proofs.reader.mains_and.Tie as tie
-use Rattle.card_file.proofs.reader.mains_and.Reads as reads
-use Rattle.card_file.proofs.reader.mains_and.Lts as lts
-use Rattle.card_file.proofs.reader.refused.Reads as refused-reads
-use Rattle.card_file.proofs.reader.shallows_and.Reads as shallows-and-reads
-use Rattle.card_constituents.proofs.constituents.constituent_reader.Reads as constituent-reader-reads
 use mathlib.Core.Path.{sym, _∙_}
 use lib.ListN.{drop}
 use Rattle.columns.specs.Lines.{linesOf}
 use Rattle.table.specs.inner.View.{tableOf, listed}
+use Rattle.card_mains.specs.Mains.{satellitesIn}
 use Rattle.card_file.specs.inner.Rest.{mainsAnd}
-use Rattle.card_file.proofs.reader.Followed.{part-refused, part-reached, reached-within}
+use Rattle.card_file.proofs.reader.Followed.{part-refused, part-reached, reached-within, refused-gives}
 use Rattle.card_file.proofs.reader.Parts.{part-3}
 
 slice-aggregate-constituent-reader : tie.Need-slice-aggregate-constituent-reader
 slice-aggregate-constituent-reader c = search needs
 
 constituent-reader-requires : tie.Need-constituent-reader-requires
+unfolding satellitesIn listed
 constituent-reader-requires c κs = search needs
 
 enum-known-progress : tie.Need-enum-known-progress
@@ -42,7 +39,7 @@ unfolding mainsAnd listed
 returns c =
     let s = c .before .before .before .before .before .before .before .before .before .before .before .before in
     let g = c .before .before .progress .given in
-    c .refused .ensures ∙ sym (part-refused (s .args .file .now) (c .before .before .before .before .constituent-reader .result .progress) _ _ (c .before .before .before .before .constituent-reader .ensures .0 ∙ part-3 (s .args .table) (linesOf (drop (s .args .at) (s .args .file .now))) (s .args .n)) _ (g .0 .0) (g .0 .1 .0) (g .1))
+    refused-gives _ _ _ _ (c .refused .ensures) ∙ sym (part-refused (s .args .file .now) (c .before .before .before .before .constituent-reader .result .progress) _ _ (c .before .before .before .before .constituent-reader .ensures .0 ∙ part-3 (s .args .table) (linesOf (drop (s .args .at) (s .args .file .now))) (s .args .n)) _ (g .0 .0) (g .0 .1 .0) (g .1))
 
 returns-2 : tie.Need-returns-2
 unfolding mainsAnd tableOf listed

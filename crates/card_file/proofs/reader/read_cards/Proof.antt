@@ -1,68 +1,39 @@
--- The whole file: part 1 read into an empty table, then the rest; unfolded, that is `readCards`.
+-- The answer of a card file: by where its reading ended.
 use borrow.Author.Needs.{needs}
 use Rattle.card_file.proofs.reader.read_cards.Statement.{statement}
 use Rattle.card_file.proofs.reader.read_cards.Tie as tie
-use Rattle.card_file.proofs.reader.read_cards.Reads as reads
-use Rattle.card_file.proofs.reader.read_cards.Lts as lts
-use Rattle.card_file.proofs.reader.longitudes_and.Reads as longitudes-and-reads
-use Rattle.card_file.proofs.reader.refused.Reads as refused-reads
-use Rattle.card_frequencies.proofs.frequencies.read_frequencies.Reads as read-frequencies-reads
-use Rattle.table.proofs.no_cards.Reads as no-cards-reads
-use mathlib.Core.Path.{sym, _∙_}
-use mathlib.Core.List.{List, []}
-use Prim.Native.Nat.{ℕ}
-use Rattle.table.specs.Table.{Frequency}
+use mathlib.Core.Path.{_≡_, sym, ap, _∙_}
+use Rattle.refusals.specs.Outcome.{refused}
 use Rattle.table.specs.inner.View.{tableOf}
-use Rattle.card_file.specs.Cards.{readCards, Outcome}
-use Rattle.card_file.specs.inner.Rest.{longitudesAnd, increasesAnd, mainsAnd, shallowsAnd}
-use Rattle.card_file.proofs.reader.Followed.{part-refused, part-reached, reached-within}
+use Rattle.card.specs.inner.Lines.{readingGives}
+use Rattle.card.specs.declared.lines.Progress.{Progress}
+use Rattle.card_file.specs.Cards.{outcomeIn, cardsOutcome}
 
-read-frequencies-requires : tie.Need-read-frequencies-requires
-read-frequencies-requires c κs = search needs
+parse-cards-requires : tie.Need-parse-cards-requires
+parse-cards-requires c κs = search needs
+
+enum-told : tie.Need-enum-told
+enum-told c = search needs
 
 enum-known-progress : tie.Need-enum-known-progress
 enum-known-progress c = search needs
 
-refused-requires : tie.Need-refused-requires
-refused-requires c κs = search needs
-
-enum-known-progress-2 : tie.Need-enum-known-progress-2
-enum-known-progress-2 c = search needs
-
-no-cards-requires : tie.Need-no-cards-requires
-no-cards-requires c κs = search needs
-
-longitudes-and-requires : tie.Need-longitudes-and-requires
-longitudes-and-requires c κs =
-    let s = c .before .before .before .before .before .before .before .before in
-    let g = c .before .before .before .before .progress2 .given in
-    let w = reached-within (s .args .file .now) (c .before .before .before .before .before .before .read-frequencies .result .progress) (g .0 .0) (g .0 .1 .0) (c .before .before .before .before .before .before .read-frequencies .ensures .1 .0) (g .1) in
-    (w .0, w .1, c .before .before .before .before .before .before .read-frequencies .ensures .1 .1)
+refusal-for-requires : tie.Need-refusal-for-requires
+refusal-for-requires c κs = search needs
 
 returns : tie.Need-returns
-unfolding readCards
+unfolding cardsOutcome
 returns c =
-    let s = c .before .before .before .before .before .before in
-    let g = c .before .before .progress .given in
-    c .refused .ensures ∙ sym (part-refused (s .args .file .now) (c .before .before .before .before .read-frequencies .result .progress) _ _ (c .before .before .before .before .read-frequencies .ensures .0) _ (g .0 .0) (g .0 .1 .0) (g .1))
+    let p = c .before .before .before .parse-cards in
+    sym (ap outcomeIn (sym (p .ensures)) ∙ ap (λ (q : Progress). outcomeIn (readingGives (c .before .before .before .before .before .args .file .now) q (tableOf (p .result .table)))) (c .enum-told .given .1))
 
 returns-2 : tie.Need-returns-2
-unfolding readCards longitudesAnd increasesAnd mainsAnd shallowsAnd tableOf
+unfolding cardsOutcome
 returns-2 c =
-    let s = c .before .before .before .before .before .before .before .before .before in
-    let g = c .before .before .before .before .before .progress2 .given in
-    let next : List Frequency → List (List ℕ) → ℕ → Outcome = λ fs lines n. longitudesAnd (record { frequencies = fs; longitudes = []; increases = []; mains = []; shallows = [] }) lines n in
-    c .longitudes-and .ensures ∙ sym (part-reached (s .args .file .now) (c .before .before .before .before .before .before .before .read-frequencies .result .progress) _ _ (c .before .before .before .before .before .before .before .read-frequencies .ensures .0) next (g .0 .0) (g .0 .1 .0) (g .1))
+    let p = c .before .before .before .before .before .parse-cards in
+    rw (c .refusal-for .ensures) (sym (ap outcomeIn (sym (p .ensures)) ∙ ap (λ (q : Progress). outcomeIn (readingGives (c .before .before .before .before .before .before .before .args .file .now) q (tableOf (p .result .table)))) (c .before .before .progress .given .1)))
 
 pub read-cards-spec : {M : Type 1} → statement M
 read-cards-spec =
     tie.close
-    (tie.spec
-    read-frequencies-requires
-    enum-known-progress
-    refused-requires
-    enum-known-progress-2
-    no-cards-requires
-    longitudes-and-requires
-    returns
-    returns-2)
+    (tie.spec parse-cards-requires enum-told enum-known-progress refusal-for-requires returns returns-2)
