@@ -27,7 +27,7 @@ outcome-code (accepted a) = (a ∷ [], (0, 0))
 outcome-code (refused number place) = ([], (number, place))
 
 abbrev outcome-read : {A : Type 0} → List A × (ℕ × ℕ) → Outcome A
-outcome-read (a ∷ as, code) = accepted a
+outcome-read (a ∷ rest, code) = accepted a
 outcome-read ([], (number, place)) = refused number place
 
 outcome-back : {A : Type 0} (o : Outcome A) → outcome-read (outcome-code o) ≡ o

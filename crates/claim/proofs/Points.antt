@@ -34,14 +34,14 @@ Asked = Outcome (Table × station.Station × state.Month)
 ready-by : (P : Maybe state.Month → Asked → Type 0) (outside : state.Month → Bool) → ((m : Maybe state.Month) (number : ℕ) → P m (refused number 0))
     → ((t : Table) (s : station.Station) (m : state.Month) → P (state.some m) (accepted (t, s, m)))
     → (t : Maybe Table) (s : Maybe station.Station) (m : Maybe state.Month) → P m (ready outside (record { table = t; station = s; month = m }))
-ready-by P outside no yes state.none s m = no m 21
-ready-by P outside no yes (state.some t) state.none m = no m 22
-ready-by P outside no yes (state.some t) (state.some s) state.none = no state.none 23
-ready-by P outside no yes (state.some t) (state.some s) (state.some m) = nine (outside m)
+ready-by P outside turned there state.none s m = turned m 21
+ready-by P outside turned there (state.some t) state.none m = turned m 22
+ready-by P outside turned there (state.some t) (state.some s) state.none = turned state.none 23
+ready-by P outside turned there (state.some t) (state.some s) (state.some m) = nine (outside m)
   where
     nine : (past : Bool) → P (state.some m) (refuseIf past 9 0 (accepted (t, s, m)))
-    nine true = no (state.some m) 9
-    nine false = yes t s m
+    nine true = turned (state.some m) 9
+    nine false = there t s m
 
 -- ---- a height
 
@@ -105,7 +105,7 @@ turns-give P first last ms hs none-found all-found =
     (λ t s m. room m (turnsOf (slopeAt (m .constituents)) (stationStride t s) first last) (tooMany (turnsOf (slopeAt (m .constituents)) (stationStride t s) first last) (length ms) (length hs)))
   where
     room : (m : state.Month) (ts : List Turn) (short : Bool) → P (state.some m) (unlessRefused (refuseIf short 10 0 (accepted ts)) ms hs λ ts.
-    (record { returned = accepted (record { count = length ts; high = firstHigh ts }); minutes = inFront (minutesOf ts) ms; heights = inFront (map (heightAt (m .constituents)) (minutesOf ts)) hs }))
+        (record { returned = accepted (record { count = length ts; high = firstHigh ts }); minutes = inFront (minutesOf ts) ms; heights = inFront (map (heightAt (m .constituents)) (minutesOf ts)) hs }))
     room m ts true = none-found (state.some m) 10
     room m ts false = all-found m ts
 
