@@ -8,7 +8,7 @@ use native.Mathlib.Omega.{arith}
 use lib.ListN.{length, take, drop, length-map}
 use lib.Seq.{take-at}
 use lib.IntN.{ℤ}
-use Rattle.refusals.specs.Outcome.{Outcome, accepted, refused, refuseIf, answered, onAccepted, _>>=_}
+use Rattle.refusals.specs.Outcome.{accepted, refused, refuseIf, answered, onAccepted}
 use Rattle.table.specs.Table.{Table}
 use Rattle.station.specs.Station as station
 use Rattle.month_prepared.specs.Prepared.{Constituent}
@@ -24,12 +24,10 @@ use Rattle.calls.specs.State as state
 use Rattle.calls.specs.State.{Maybe}
 use Rattle.calls.specs.Calls.{ready, heightReturns, seriesHeights, seriesGives, turnsGives}
 use Rattle.calls.specs.Asked.{minuteOutside, seriesOutside, turnsOutside}
+use Rattle.calls.proofs.Posed.{Asked, height-of, series-of, turns-of}
 use Rattle.claim.specs.Document.{Request, Cards, Station, Date, Height, Series, Turns, Names, Last, workedOut, after, gives, givesAll, Point, heightPoints, pointsFrom, seriesPoints, pointsOf, turnsPoints, points, constituentsThere, lastConstituents, AllNear, nil, cons, EachNear, end, next}
 
 -- ---- what is asked first: a refusal, or the month that is there
-
-abbrev Asked : Type 0
-Asked = Outcome (Table × station.Station × state.Month)
 
 ready-by : (P : Maybe state.Month → Asked → Type 0) (outside : state.Month → Bool) → ((m : Maybe state.Month) (number : ℕ) → P m (refused number 0))
     → ((t : Table) (s : station.Station) (m : state.Month) → P (state.some m) (accepted (t, s, m)))
@@ -44,9 +42,6 @@ ready-by P outside turned there (state.some t) (state.some s) (state.some m) = n
     nine false = there t s m
 
 -- ---- a height
-
-abbrev height-of : ℕ → Asked → Outcome ℤ
-height-of minute o = o >>= λ (t, s, m). accepted (heightAt (m .constituents) minute)
 
 height-near : (minute : ℕ) (t : Maybe Table) (s : Maybe station.Station) (m : Maybe state.Month)
     → AllNear (constituentsThere m) (heightPoints minute (heightReturns (record { table = t; station = s; month = m }) minute))
@@ -63,9 +58,6 @@ from-near cs start step j zero = nil
 from-near cs start step j (suc n) =
     let on : start + (j + 1) * step ≡ start + j * step + step = omega arith in
     cons (height-is-near cs (start + j * step)) (subst (λ (m : ℕ). AllNear cs (pointsFrom m step (seriesFrom cs start step (j + 1) n))) on (from-near cs start step (j + 1) n))
-
-abbrev series-of : ℕ → ℕ → ℕ → Asked → Outcome (List ℤ)
-series-of start step places o = o >>= λ (t, s, m). accepted (seriesOf (m .constituents) start step places)
 
 series-near : (start step : ℕ) (heights : List ℤ) (t : Maybe Table) (s : Maybe station.Station) (m : Maybe state.Month)
     → AllNear (constituentsThere m) (seriesPoints start step (seriesGives (record { table = t; station = s; month = m }) start step heights .returned) (seriesGives (record { table = t; station = s; month = m }) start step heights .heights))
@@ -100,7 +92,7 @@ pub turns-give : (P : Maybe state.Month → TurnsGiven → Type 0) (first last :
     → (t : Maybe Table) (s : Maybe station.Station) (m : Maybe state.Month) → P m (turnsGives (record { table = t; station = s; month = m }) first last ms hs)
 unfolding turnsGives given
 turns-give P first last ms hs none-found all-found =
-    ready-by (λ m o. P m (unlessRefused o ms hs λ (t, s, m). given (heightAt (m .constituents)) (turnsOf (slopeAt (m .constituents)) (stationStride t s) first last) ms hs))
+    ready-by (λ m o. P m (turns-of first last ms hs o))
     (λ m. turnsOutside (m .last) first last) none-found
     (λ t s m. room m (turnsOf (slopeAt (m .constituents)) (stationStride t s) first last) (tooMany (turnsOf (slopeAt (m .constituents)) (stationStride t s) first last) (length ms) (length hs)))
   where
