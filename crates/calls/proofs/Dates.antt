@@ -1,6 +1,6 @@
 -- A date's cases, by the flags of the state: refused by 21, 22 or 8, and the month that is prepared, or refused by 11. Assumes nothing.
 use Prim.{Unit}
-use mathlib.Core.Path.{_≡_, refl, sym, _∙_}
+use mathlib.Core.Path.{_≡_, refl, sym}
 use Prim.Native.Nat.{ℕ}
 use mathlib.Core.Bool.{Bool, true, false, not}
 use mathlib.Core.List.{List}
@@ -29,8 +29,8 @@ module _ (table : Table) (station : Station) (d : Bool) (month : Month) (year m 
   abbrev before : Bool → Bool → State
   before t s = stateOf t table s station d month
 
-  abbrev ready : List Constituent → Month
-  ready constituents = record { last = monthMinutes year m; constituents = constituents }
+  abbrev prepared : List Constituent → Month
+  prepared constituents = record { last = monthMinutes year m; constituents = constituents }
 
   -- what is asked first is returned first
   gives-refused : (t s : Bool) (number place : ℕ) → dateBy t s year m ≡ refused number place → dateGives (when t table) (when s station) year m ≡ refused number place
@@ -38,7 +38,7 @@ module _ (table : Table) (station : Station) (d : Bool) (month : Month) (year m 
   gives-refused true true number place e = by (inRange year m) e
     where
       by : (c : Bool) → _≡_ {A = Outcome Unit} (answered (refuseIf {A = Unit {0} × Unit {0}} (not c) 8 0 (accepted (tt, tt)))) (refused number place)
-          → (refuseIf {A = Table × Station} (not c) 8 0 (accepted (table, station)) >>= λ (t, s). monthOf t s year m >>= λ constituents. accepted (ready constituents)) ≡ refused number place
+          → (refuseIf {A = Table × Station} (not c) 8 0 (accepted (table, station)) >>= λ (t, s). monthOf t s year m >>= λ constituents. accepted (prepared constituents)) ≡ refused number place
       by true e′ = not-both (sym e′)
       by false e′ = cc
   gives-refused true false number place e = cc
@@ -51,20 +51,20 @@ module _ (table : Table) (station : Station) (d : Bool) (month : Month) (year m 
   date-refused t s number place e = (rw (gives-refused t s number place e), rw (gives-refused t s number place e))
 
   gives-prepared : (t s : Bool) → dateBy t s year m ≡ accepted tt
-      → dateGives (when t table) (when s station) year m ≡ (monthOf table station year m >>= λ constituents. accepted (ready constituents))
+      → dateGives (when t table) (when s station) year m ≡ (monthOf table station year m >>= λ constituents. accepted (prepared constituents))
   unfolding dateGives
   gives-prepared t s e = let on = date-passed t s year m e in simp (on .0, on .1, on .2)
 
   -- table and station are kept, and the month is there where none of its records is too large
   abbrev left : (t s : Bool) → Outcome (List Constituent) → State
-  left t s o = onAccepted o (λ constituents. record { table = before t s .table; station = before t s .station; month = some (ready constituents) }) (before t s)
+  left t s o = onAccepted o (λ constituents. record { table = before t s .table; station = before t s .station; month = some (prepared constituents) }) (before t s)
 
   pub date-prepared : (t s : Bool) → dateBy t s year m ≡ accepted tt
       → (answered (monthOf table station year m) ≡ dateReturns (before t s) year m) × (left t s (monthOf table station year m) ≡ dateLeaves (before t s) year m)
   unfolding dateReturns dateLeaves
   date-prepared t s e = rw (gives-prepared t s e) (by (monthOf table station year m))
     where
-      by : (o : Outcome (List Constituent)) → (answered o ≡ answered (o >>= λ constituents. accepted (ready constituents)))
-          × (left t s o ≡ onAccepted (o >>= λ constituents. accepted (ready constituents)) (λ prepared. record { table = before t s .table; station = before t s .station; month = some prepared }) (before t s))
+      by : (o : Outcome (List Constituent)) → (answered o ≡ answered (o >>= λ constituents. accepted (prepared constituents)))
+          × (left t s o ≡ onAccepted (o >>= λ constituents. accepted (prepared constituents)) (λ left. record { table = before t s .table; station = before t s .station; month = some left }) (before t s))
       by (accepted constituents) = (refl, refl)
       by (refused number place) = (refl, refl)

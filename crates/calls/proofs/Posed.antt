@@ -22,8 +22,23 @@ use Rattle.calls.specs.Asked.{minuteOutside, seriesOutside, turnsOutside
 use Rattle.calls.specs.inner.Flags.{stateOf, minutesBy}
 use Rattle.calls.specs.Calls.{ready, heightReturns, seriesHeights, seriesGives, turnsGives}
 
-abbrev Asked : Type 0
+-- ---- what follows what is asked
+
+abbrev pub Asked : Type 0
 Asked = Outcome (Table × Station × Month)
+
+abbrev pub height-of : ℕ → Asked → Outcome ℤ
+height-of minute o = o >>= λ (table, station, month). accepted (heightAt (month .constituents) minute)
+
+abbrev pub series-of : ℕ → ℕ → ℕ → Asked → Outcome (List ℤ)
+series-of start step places o = o >>= λ (table, station, month). accepted (seriesOf (month .constituents) start step places)
+
+abbrev pub turns-of : ℕ → ℕ → List ℕ → List ℤ → Asked → TurnsGiven
+turns-of first last minutes heights o =
+    unlessRefused o minutes heights λ (table, station, month).
+    given (heightAt (month .constituents)) (turnsOf (slopeAt (month .constituents)) (stationStride table station) first last) minutes heights
+
+-- ---- by the flags
 
 -- a refusal's place is 0
 no-place : {A B : Type 0} {n p number place : ℕ} → _≡_ {A = Outcome A} (refused n p) (refused number place) → _≡_ {A = Outcome B} (refused n 0) (refused number 0)
@@ -62,16 +77,13 @@ module _ (t : Bool) (table : Table) (s : Bool) (station : Station) (d : Bool) (m
     abbrev outside-height : Month → Bool
     outside-height m = minuteOutside (m .last) minute
 
-    abbrev height-of : Asked → Outcome ℤ
-    height-of o = o >>= λ (table, station, month). accepted (heightAt (month .constituents) minute)
-
     pub height-refused : (number place : ℕ) → minutesBy t s d (minuteOutside (month .last) minute) ≡ refused number place → refused number 0 ≡ heightReturns before minute
     unfolding heightReturns
-    height-refused number place e = sym (ap height-of (refused-by outside-height table station month t s d number place e))
+    height-refused number place e = sym (ap (height-of minute) (refused-by outside-height table station month t s d number place e))
 
     pub height-given : minutesBy t s d (minuteOutside (month .last) minute) ≡ accepted tt → accepted (heightAt (month .constituents) minute) ≡ heightReturns before minute
     unfolding heightReturns
-    height-given e = sym (ap height-of (given-by outside-height table station month t s d e))
+    height-given e = sym (ap (height-of minute) (given-by outside-height table station month t s d e))
 
   -- ---- a series
 
@@ -79,18 +91,15 @@ module _ (t : Bool) (table : Table) (s : Bool) (station : Station) (d : Bool) (m
     abbrev outside-series : Month → Bool
     outside-series m = seriesOutside (m .last) start step (length heights)
 
-    abbrev series-of : Asked → Outcome (List ℤ)
-    series-of o = o >>= λ (table, station, month). accepted (seriesOf (month .constituents) start step (length heights))
-
     pub series-refused : (number place : ℕ) → minutesBy t s d (seriesOutside (month .last) start step (length heights)) ≡ refused number place
         → record { returned = refused number 0; heights = heights } ≡ seriesGives before start step heights
     unfolding seriesGives seriesHeights
-    series-refused number place e = rw (ap series-of (refused-by outside-series table station month t s d number place e))
+    series-refused number place e = rw (ap (series-of start step (length heights)) (refused-by outside-series table station month t s d number place e))
 
     pub series-given : minutesBy t s d (seriesOutside (month .last) start step (length heights)) ≡ accepted tt
         → record { returned = accepted tt; heights = seriesOf (month .constituents) start step (length heights) } ≡ seriesGives before start step heights
     unfolding seriesGives seriesHeights
-    series-given e = rw (ap series-of (given-by outside-series table station month t s d e))
+    series-given e = rw (ap (series-of start step (length heights)) (given-by outside-series table station month t s d e))
 
   -- ---- turns
 
@@ -98,18 +107,13 @@ module _ (t : Bool) (table : Table) (s : Bool) (station : Station) (d : Bool) (m
     abbrev outside-turns : Month → Bool
     outside-turns m = turnsOutside (m .last) first last
 
-    abbrev turns-of : Asked → TurnsGiven
-    turns-of o =
-        unlessRefused o minutes heights λ (table, station, month).
-        given (heightAt (month .constituents)) (turnsOf (slopeAt (month .constituents)) (stationStride table station) first last) minutes heights
-
     pub turns-refused : (number place : ℕ) → minutesBy t s d (turnsOutside (month .last) first last) ≡ refused number place
         → record { returned = refused number 0; minutes = minutes; heights = heights } ≡ turnsGives before first last minutes heights
     unfolding turnsGives
-    turns-refused number place e = sym (ap turns-of (refused-by outside-turns table station month t s d number place e))
+    turns-refused number place e = sym (ap (turns-of first last minutes heights) (refused-by outside-turns table station month t s d number place e))
 
     pub turns-given : minutesBy t s d (turnsOutside (month .last) first last) ≡ accepted tt
         → given (heightAt (month .constituents)) (turnsOf (slopeAt (month .constituents)) (stationStride table station) first last) minutes heights
         ≡ turnsGives before first last minutes heights
     unfolding turnsGives
-    turns-given e = sym (ap turns-of (given-by outside-turns table station month t s d e))
+    turns-given e = sym (ap (turns-of first last minutes heights) (given-by outside-turns table station month t s d e))

@@ -12,12 +12,12 @@ use Rattle.month_prepared.specs.Prepared.{Constituent}
 use Rattle.heights.specs.Exact.{Near}
 use Rattle.heights.specs.Height.{heightAt}
 use Rattle.turns.specs.Search.{minutesOf}
-use Rattle.turns.specs.Written as written
+use Rattle.turns.specs.Written.{TurnsFound, TurnsGiven, inFront}
 use Rattle.calls.specs.State as state
 use Rattle.calls.specs.State.{Maybe}
-use Rattle.calls.specs.Returned.{Returned, accepted, heightIs, turnsAre, refused}
-use Rattle.calls.specs.Calls.{TurnsGiven, turnsGives}
-use Rattle.claim.specs.Document.{Request, Turns, Gave, told, wrote, found, named, Last, nothing, workedOut, after, gives, givesAll, lastAfter, Point, pointsFrom, pointsOf, points, constituentsOf, AllNear, cons, EachNear, end, next}
+use Rattle.refusals.specs.Outcome.{Outcome, accepted, refused}
+use Rattle.calls.specs.Calls.{turnsGives}
+use Rattle.claim.specs.Document.{Request, Turns, Gave, told, predicted, wrote, found, named, Last, nothing, workedOut, after, gives, givesAll, lastAfter, Point, pointsFrom, pointsOf, points, lastConstituents, AllNear, cons, EachNear, end, next}
 use Rattle.claim.proofs.Points.{turns-give, as-many}
 use Rattle.claim.specs.Claim.{OfAHeight, OfASeries, OfTurns}
 
@@ -32,7 +32,7 @@ not-empty [] x = omega arith
 not-empty (y ∷ xs) x = omega arith
 
 last-near : (l : Last) (qs : List Request) (gs : List Gave) (q : Request) (g : Gave) → EachNear l (qs ++ q ∷ []) (gs ++ g ∷ [])
-    → AllNear (constituentsOf (lastAfter l qs)) (points q g)
+    → AllNear (lastConstituents (lastAfter l qs)) (points q g)
 unfolding lastAfter
 last-near l [] [] q g (next x xs) = x
 last-near l [] (f ∷ gs) q g x = absurd (omega (arith, same-length x, not-empty gs g))
@@ -58,16 +58,14 @@ of-nth cs (m ∷ ms) (h ∷ hs) (suc count) (suc n) c i j (cons x xs) = of-nth c
 -- ---- turns that are given stand in both buffers
 
 -- as many as are said to be there
-abbrev Stand : Returned → List ℕ → List ℤ → Type 0
-Stand accepted ms hs = Unit {0}
-Stand (heightIs h) ms hs = Unit {0}
-Stand (turnsAre count high) ms hs = (count ≤ length ms) × (count ≤ length hs)
+abbrev Stand : Outcome TurnsFound → List ℕ → List ℤ → Type 0
+Stand (accepted f) ms hs = (f .count ≤ length ms) × (f .count ≤ length hs)
 Stand (refused number place) ms hs = Unit {0}
 
 abbrev AllStand : TurnsGiven → Type 0
 AllStand t = Stand (t .returned) (t .minutes) (t .heights)
 
-front-holds : {A : Type 0} (new old : List A) (n : ℕ) → length new ≡ n → n ≤ length (written.inFront new old)
+front-holds : {A : Type 0} (new old : List A) (n : ℕ) → length new ≡ n → n ≤ length (inFront new old)
 front-holds new old n e = omega (arith, e, length-append new (drop (length new) old))
 
 turns-stand : (first last : ℕ) (ms : List ℕ) (hs : List ℤ) (t : Maybe Table) (s : Maybe station.Station) (m : Maybe state.Month)
@@ -95,10 +93,11 @@ last-exactly qs gs q g e = sym (last-is g gs g) ∙ ap (last-of g) (e ∙ gives-
 
 -- what a call found, or nothing
 abbrev found-in : Gave → TurnsGiven
-found-in (told r) = record { returned = r; minutes = []; heights = [] }
-found-in (wrote s) = record { returned = s .returned; minutes = []; heights = s .heights }
+found-in (told r) = record { returned = refused 0 0; minutes = []; heights = [] }
+found-in (predicted r) = record { returned = refused 0 0; minutes = []; heights = [] }
+found-in (wrote s) = record { returned = refused 0 0; minutes = []; heights = [] }
 found-in (found t) = t
-found-in (named names) = record { returned = accepted; minutes = []; heights = [] }
+found-in (named names) = record { returned = refused 0 0; minutes = []; heights = [] }
 
 found-stand : (l : Last) (first last : ℕ) (ms : List ℕ) (hs : List ℤ) (t : TurnsGiven) → found t ≡ gives l (Turns first last ms hs) → AllStand t
 unfolding gives
@@ -118,7 +117,7 @@ of-a-series qs gs start step before left claim n h = from-nth _ start step left 
 
 pub of-turns : OfTurns
 of-turns qs gs first last ms ms′ hs hs′ count high claim n c =
-    let t : TurnsGiven = record { returned = turnsAre count high; minutes = ms′; heights = hs′ } in
+    let t : TurnsGiven = record { returned = accepted (record { count = count; high = high }); minutes = ms′; heights = hs′ } in
     let there : (count ≤ length ms′) × (count ≤ length hs′) = found-stand (lastAfter nothing qs) first last ms hs t (last-exactly qs gs _ _ (claim .exactly)) in
     let in-minutes : count ≤ length ms′ = there .0 in
     let in-heights : count ≤ length hs′ = there .1 in

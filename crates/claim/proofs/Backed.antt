@@ -11,6 +11,7 @@ use contract.Monad.{fact}
 use contract.Adequate.{Satisfies, sat-fact}
 use denote.Ref.{RefT}
 use borrow.Fn.World.{World, w₀}
+use Rattle.refusals.specs.Outcome.{refused, outcomeOf}
 use Rattle.refusals.specs.declared.Answer.{Answer}
 use Rattle.refusals.specs.declared.Answer.the-variants.{Refused}
 use Rattle.refusals.specs.declared.Refusal.the-variants.{NoTable, Ended}
@@ -18,6 +19,7 @@ use Rattle.columns.specs.Lines.{linesOf}
 use Rattle.columns.specs.Names.{namesFrom}
 use Rattle.card_frequencies.specs.Frequencies.{frequenciesFrom}
 use Rattle.card_file.specs.Cards.{readCards}
+use Rattle.card_file.specs.Outcome.{cardsOutcome}
 use Rattle.station.specs.declared.records.Record.{Record}
 use Rattle.station.specs.declared.records.Rows.{Rows}
 use Rattle.station.specs.Records.{recordsFrom, recordsOf}
@@ -31,11 +33,10 @@ use Rattle.clock.specs.declared.TableNames.{TableNames}
 use Rattle.clock.specs.View.{view}
 use Rattle.calls.specs.State.{State}
 use Rattle.calls.specs.Names.{namesIn}
-use Rattle.calls.specs.Returned.{refused, answerReturned}
 use Rattle.clock.specs.Returned.{heightReturned, turnsReturned}
-use Rattle.calls.specs.Calls.{cardsReturns, cardsLeaves, stationReturns, stationLeaves, dateReturns, dateLeaves, heightReturns, seriesGives, turnsGives}
+use Rattle.calls.specs.Calls.{cardsReturns, cardsLeaves, stationReturns, stationLeaves, dateGives, dateReturns, dateLeaves, heightReturns, seriesHeights, seriesGives, turnsGives}
 use Rattle.clock.specs.Posts.{NewPost, CardsPost, StationPost, DatePost, HeightPost, SeriesPost, TurnsPost}
-use Rattle.claim.specs.Document.{Cards, Station, Date, Height, Series, Turns, Names, told, wrote, found, named}
+use Rattle.claim.specs.Document.{Cards, Station, Date, Height, Series, Turns, Names, told, predicted, wrote, found, named}
 use Rattle.claim.specs.Calls.{Keeps, New, Call, Calls, done, _then_}
 use Rattle.claim.specs.Controls.{Controls, eachKind, eachRefused}
 
@@ -59,11 +60,11 @@ lent xs = record { ptr = (0, 0); name = 0; now = xs }
 -- ---- what a clock with no table says
 
 no-file : cardsReturns [] ≡ refused 7 1
-unfolding cardsReturns readCards linesOf frequenciesFrom
+unfolding cardsReturns cardsOutcome readCards linesOf frequenciesFrom
 no-file = refl
 
 no-file-leaves : (k : State) → cardsLeaves k [] ≡ k
-unfolding cardsLeaves readCards linesOf frequenciesFrom
+unfolding cardsLeaves cardsOutcome readCards linesOf frequenciesFrom
 no-file-leaves k = refl
 
 no-station : (c : Clock) (latitude : ℤ) (records : List Record) → NewPost c → StationPost c latitude records (Refused NoTable 0) c
@@ -76,7 +77,7 @@ no-station c latitude records p =
     }
 
 no-month : (c : Clock) (year month : ℕ) → NewPost c → DatePost c year month (Refused NoTable 0) c
-unfolding dateReturns dateLeaves
+unfolding dateGives dateReturns dateLeaves
 no-month c year month p =
     record {
       made = p .made;
@@ -89,29 +90,29 @@ no-month c year month p =
 new-there : (c : Clock) → NewPost c → New c
 new-there c p = New.news (record { bound = λ w. tt; contract = kept _ (NewPost c) p })
 
-cards-there : (c c′ : Clock) (file : List ℕ) (answer : Answer) → CardsPost c file answer c′ → Call c (Cards file) (told (answerReturned answer)) c′
+cards-there : (c c′ : Clock) (file : List ℕ) (answer : Answer) → CardsPost c file answer c′ → Call c (Cards file) (told (outcomeOf answer)) c′
 cards-there c c′ file answer p =
     Call.loads {κs = ([], tt)} {file = lent file} {r = record { answer = answer; clock = c′ }} (record { bound = λ w. tt; contract = kept _ (CardsPost c file answer c′) p })
 
 station-there : (c c′ : Clock) (latitude : ℤ) (records : List Record) (answer : Answer) → StationPost c latitude records answer c′
-    → Call c (Station latitude records) (told (answerReturned answer)) c′
+    → Call c (Station latitude records) (told (outcomeOf answer)) c′
 station-there c c′ latitude records answer p =
     Call.stations {κs = ([], tt)} {records = lent records} {r = record { answer = answer; clock = c′ }} (record { bound = λ w. tt; contract = kept _ (StationPost c latitude records answer c′) p })
 
 placing-there : (c c′ : Clock) (latitude : ℤ) (n : ℕ) (rows : Rows) (answer : Answer) → StationPost c latitude (recordsOf rows n) answer c′
-    → Call c (Station latitude (recordsOf rows n)) (told (answerReturned answer)) c′
+    → Call c (Station latitude (recordsOf rows n)) (told (outcomeOf answer)) c′
 placing-there c c′ latitude n rows answer p =
     Call.placed {n = n} {rows = rows} {r = record { answer = answer; clock = c′ }} (record { bound = λ w. tt; contract = kept _ (StationPost c latitude (recordsOf rows n) answer c′) p })
 
-date-there : (c c′ : Clock) (year month : ℕ) (answer : Answer) → DatePost c year month answer c′ → Call c (Date year month) (told (answerReturned answer)) c′
+date-there : (c c′ : Clock) (year month : ℕ) (answer : Answer) → DatePost c year month answer c′ → Call c (Date year month) (told (outcomeOf answer)) c′
 date-there c c′ year month answer p =
     Call.dates {r = record { answer = answer; clock = c′ }} (record { bound = λ w. tt; contract = kept _ (DatePost c year month answer c′) p })
 
-height-there : (c : Clock) (minute : ℕ) (answer : HeightAnswer) → HeightPost c minute answer → Call c (Height minute) (told (heightReturned answer)) c
+height-there : (c : Clock) (minute : ℕ) (answer : HeightAnswer) → HeightPost c minute answer → Call c (Height minute) (predicted (heightReturned answer)) c
 height-there c minute answer p = Call.heights (record { bound = λ w. tt; contract = kept _ (HeightPost c minute answer) p })
 
 series-there : (c : Clock) (start step : ℕ) (hs hs′ : List ℤ) (answer : Answer) → SeriesPost c start step hs hs′ answer
-    → Call c (Series start step hs) (wrote (record { returned = answerReturned answer; heights = hs′ })) c
+    → Call c (Series start step hs) (wrote (record { returned = outcomeOf answer; heights = hs′ })) c
 series-there c start step hs hs′ answer p =
     Call.serieses {κs = ([], tt)} {before = lent hs} (record { bound = λ w. tt; contract = kept _ (SeriesPost c start step hs hs′ answer) p })
 
@@ -124,7 +125,7 @@ names-there : (c : Clock) (r : TableNames) → namesFrom (r .bytes) 0 (r .count)
 names-there c r p = Call.hands (record { bound = λ w. tt; contract = kept _ (namesFrom (r .bytes) 0 (r .count) ≡ namesIn (view c)) p })
 
 each-kind : (c : Clock) → NewPost c → Calls c eachKind eachRefused c
-unfolding heightReturns seriesGives turnsGives recordsFrom namesFrom
+unfolding heightReturns seriesHeights seriesGives turnsGives recordsFrom namesFrom
 each-kind c p =
     cards-there c c [] (Refused Ended 1) (record { made = p .made; returns = sym no-file; leaves = sym (no-file-leaves _) })
     then station-there c c (pos 0) [] (Refused NoTable 0) (no-station c (pos 0) [] p)

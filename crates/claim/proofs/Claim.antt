@@ -1,6 +1,7 @@
 -- THE CLAIM: demand 3, for any list of calls. The clock's state agrees with what the document works out from the calls before, call by
 -- call, each known by its contract alone; so all that the calls give is what the document gives. Rests on `Calls`' contracts, and on the
 -- distance of each height (`Points`). Assumes nothing.
+use Prim.{Unit}
 use Prim.Native.Nat.{ℕ}
 use mathlib.Core.List.{List, _∷_}
 use mathlib.Core.Path.{_≡_, refl, ap, ap₂, sym, subst, _∙_}
@@ -9,21 +10,21 @@ use base.Logic.{id⊢}
 use contract.Monad.{top, fact}
 use denote.Ref.{now}
 use lib.IntN.{ℤ}
+use Rattle.refusals.specs.Outcome.{Outcome, accepted, refused, onAccepted, answered, outcomeOf}
 use Rattle.refusals.specs.declared.Answer.{Answer}
-use Rattle.card_file.specs.Cards as cards
-use Rattle.card_file.specs.Cards.{readCards}
+use Rattle.table.specs.Table.{Table}
+use Rattle.card_file.specs.Outcome.{cardsOutcome}
 use Rattle.station.specs.declared.records.Record.{Record}
 use Rattle.station.specs.Records.{recordsOf}
 use Rattle.clock.specs.declared.Clock.{Clock}
-use Rattle.calls.specs.State.{State, some, none}
+use Rattle.calls.specs.State.{Month, State, some, none}
 use Rattle.columns.specs.Names.{namesFrom}
 use Rattle.calls.specs.Names.{namesIn}
-use Rattle.calls.specs.Returned.{Returned, accepted, heightIs, turnsAre, refused, onAccepted, answerReturned}
-use Rattle.calls.specs.Calls.{cardsReturns, cardsLeaves, fileReturns, fileLeaves, stationReturns, stationLeaves, dateReturns, dateLeaves, heightReturns, seriesGives, turnsGives}
+use Rattle.calls.specs.Calls.{cardsReturns, cardsLeaves, stationReturns, stationLeaves, dateGives, dateReturns, dateLeaves, heightReturns, seriesGives, turnsGives}
 use Rattle.clock.specs.View.{view, Made}
 use Rattle.clock.specs.Posts.{NewPost, CardsPost, StationPost, DatePost, HeightPost, SeriesPost, TurnsPost}
 use Rattle.claim.specs.Calls.{Keeps, New, Call, Calls, done, _then_}
-use Rattle.claim.specs.Document.{Request, Cards, Station, Date, Gave, told, wrote, found, named, Last, nothing, workedOut, after, gives, givesAll, lastAfter, EachNear}
+use Rattle.claim.specs.Document.{Request, Cards, Station, Date, Gave, told, predicted, wrote, found, named, Last, nothing, tableOfCards, workedOut, after, gives, givesAll, lastAfter, EachNear}
 use Rattle.claim.specs.Claim.{OfAnyCalls}
 use Rattle.claim.proofs.Points.{near-calls}
 use Rattle.claim.proofs.Decided.{same-once}
@@ -35,21 +36,20 @@ pub record Agrees (c : Clock) (l : Last) : Type 0 where
 
 -- ---- what a call leaves is what is worked out after it
 
-works : (r : Returned) (x y : Last) → workedOut (onAccepted r x y) ≡ onAccepted r (workedOut x) (workedOut y)
+works : (r : Outcome Unit) (x y : Last) → workedOut (onAccepted r (λ _. x) y) ≡ onAccepted r (λ _. workedOut x) (workedOut y)
 unfolding workedOut
-works accepted x y = refl
-works (heightIs h) x y = refl
-works (turnsAre count high) x y = refl
+works (accepted u) x y = refl
 works (refused number place) x y = refl
 
 cards-works : (l : Last) (file : List ℕ) → cardsLeaves (workedOut l) file ≡ workedOut (after l (Cards file))
 unfolding cardsLeaves cardsReturns after workedOut
-cards-works l file = by (readCards file) refl
+cards-works l file = by (cardsOutcome file) refl
   where
-    by : (o : cards.Outcome) → readCards file ≡ o
-        → fileLeaves o (workedOut l) ≡ workedOut (onAccepted (fileReturns o) (record { cards = some file; station = none; date = none }) l)
-    by (cards.accepted table) e = rw e
-    by (cards.refused number line) e = refl
+    by : (o : Outcome Table) → cardsOutcome file ≡ o
+        → onAccepted o (λ table. record { table = some table; station = none; month = none }) (workedOut l)
+        ≡ workedOut (onAccepted (answered o) (λ _. record { cards = some file; station = none; date = none }) l)
+    by (accepted table) e = rw e
+    by (refused number line) e = refl
 
 station-works : (l : Last) (latitude : ℤ) (records : List Record) → stationLeaves (workedOut l) latitude records ≡ workedOut (after l (Station latitude records))
 unfolding stationLeaves after workedOut
@@ -58,10 +58,14 @@ station-works l latitude records =
     (record { cards = l .cards; station = some (record { latitude = latitude; records = records }); date = none }) l)
 
 date-works : (l : Last) (year month : ℕ) → dateLeaves (workedOut l) year month ≡ workedOut (after l (Date year month))
-unfolding dateLeaves after workedOut
-date-works l year month =
-    sym (works (dateReturns (workedOut l) year month)
-    (record { cards = l .cards; station = l .station; date = some (record { year = year; month = month }) }) l)
+unfolding dateLeaves dateReturns after workedOut
+date-works l year month = by (dateGives (tableOfCards (l .cards)) (l .station) year month) refl
+  where
+    by : (o : Outcome Month) → dateGives (tableOfCards (l .cards)) (l .station) year month ≡ o
+        → onAccepted o (λ prepared. record { table = tableOfCards (l .cards); station = l .station; month = some prepared }) (workedOut l)
+        ≡ workedOut (onAccepted (answered o) (λ _. record { cards = l .cards; station = l .station; date = some (record { year = year; month = month }) }) l)
+    by (accepted prepared) e = rw e
+    by (refused number place) e = refl
 
 -- ---- call by call
 
@@ -75,7 +79,7 @@ new-agrees (New.news {r} x) =
     ∥∥₁-map (x .contract .keeps (Unit {0}) (NewPost r) (λ w. top (w .𝓤) _) (λ w. id⊢ (w .𝓤) _) tt) (λ p. record { made = p .made; keeps = p .leaves })
 
 pub station-agrees : {c c′ : Clock} {latitude : ℤ} {records : List Record} {answer : Answer} (l : Last) → Agrees c l → ∥ StationPost c latitude records answer c′ ∥₁
-    → ∥ ((told (answerReturned answer) ≡ gives l (Station latitude records)) × Agrees c′ (after l (Station latitude records))) ∥₁
+    → ∥ ((told (outcomeOf answer) ≡ gives l (Station latitude records)) × Agrees c′ (after l (Station latitude records))) ∥₁
 unfolding gives
 station-agrees {latitude = latitude} {records = records} l h post =
     ∥∥₁-map post (λ p. (
@@ -101,7 +105,7 @@ call-agrees l h (Call.dates {c = c} {year = year} {month = month} {r = r} x) =
     ))
 call-agrees l h (Call.heights {c = c} {minute = minute} {r = r} x) =
     ∥∥₁-map (holds {φ = Made c} {ψ = HeightPost c minute r} (x .contract) (h .made)) (λ p.
-    (ap told (p .returns ∙ ap (λ (k : State). heightReturns k minute) (h .keeps)), h))
+    (ap predicted (p .returns ∙ ap (λ (k : State). heightReturns k minute) (h .keeps)), h))
 call-agrees l h (Call.serieses {c = c} {start = start} {step = step} {before = hs} {after = hs′} {r = r} x) =
     ∥∥₁-map (holds {φ = Made c} {ψ = SeriesPost c start step (now hs) hs′ r} (x .contract) (h .made)) (λ p.
     (ap wrote (p .gives ∙ ap (λ (k : State). seriesGives k start step (now hs)) (h .keeps)), h))

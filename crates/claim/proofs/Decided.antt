@@ -1,14 +1,16 @@
 -- What calls give can be told apart, so that to be equal is a proposition: a list of what calls gave has no two ways to equal another.
--- By a code in numbers for what a call returns. Assumes nothing.
+-- By a code in pairs and lists for what a call gives. Assumes nothing.
+use Prim.{Unit}
 use Prim.Native.Nat.{ℕ, zero, suc}
-use mathlib.Core.Bool.{Bool, true, false}
+use mathlib.Core.Bool.{Bool, Bool-discrete}
 use mathlib.Core.List.{List, [], _∷_, List-discrete}
 use mathlib.Core.Path.{_≡_, refl, ap, sym, _∙_}
 use mathlib.Core.HLevel.{Discrete, hedberg, ×-discrete}
 use native.Mathlib.Decide.{ℕ-discrete}
-use lib.IntN.{ℤ, pos, negsuc, natAbs, ℤ-discrete}
-use Rattle.calls.specs.Returned.{Returned, accepted, heightIs, turnsAre, refused}
-use Rattle.claim.specs.Document.{Gave, told, wrote, found, named}
+use lib.IntN.{ℤ, ℤ-discrete}
+use Rattle.refusals.specs.Outcome.{Outcome, accepted, refused}
+use Rattle.turns.specs.Written.{TurnsFound}
+use Rattle.claim.specs.Document.{Gave, told, predicted, wrote, found, named}
 
 -- what has a code that can be read back can be told apart where the codes can
 coded : {A B : Type 0} (code : A → B) (read : B → A) → ((a : A) → read (code a) ≡ a) → Discrete B → Discrete A
@@ -18,57 +20,55 @@ coded {A} {B} code read back d x y = by (d (code x) (code y))
     by (yes e) = yes (sym (back x) ∙ ap read e ∙ back y)
     by (no n) = no (λ e. n (ap code e))
 
--- ---- what a call returns, as a list of numbers
+-- ---- what a call returns
 
-abbrev sign : Bool → ℤ
-sign true = pos 0
-sign false = negsuc 0
+abbrev outcome-code : {A : Type 0} → Outcome A → List A × (ℕ × ℕ)
+outcome-code (accepted a) = (a ∷ [], (0, 0))
+outcome-code (refused number place) = ([], (number, place))
 
-abbrev returned-code : Returned → List ℤ
-returned-code accepted = []
-returned-code (heightIs h) = h ∷ []
-returned-code (refused number place) = pos number ∷ pos place ∷ []
-returned-code (turnsAre count high) = pos count ∷ sign high ∷ pos 0 ∷ []
+abbrev outcome-read : {A : Type 0} → List A × (ℕ × ℕ) → Outcome A
+outcome-read (a ∷ rest, code) = accepted a
+outcome-read ([], (number, place)) = refused number place
 
-abbrev is-high : ℤ → Bool
-is-high (pos n) = true
-is-high (negsuc n) = false
+outcome-back : {A : Type 0} (o : Outcome A) → outcome-read (outcome-code o) ≡ o
+outcome-back (accepted a) = refl
+outcome-back (refused number place) = refl
 
-abbrev returned-read : List ℤ → Returned
-returned-read [] = accepted
-returned-read (h ∷ []) = heightIs h
-returned-read (number ∷ place ∷ []) = refused (natAbs number) (natAbs place)
-returned-read (count ∷ high ∷ z ∷ zs) = turnsAre (natAbs count) (is-high high)
+outcome-discrete : {A : Type 0} → Discrete A → Discrete (Outcome A)
+outcome-discrete d = coded outcome-code outcome-read outcome-back (×-discrete (List-discrete d) (×-discrete ℕ-discrete ℕ-discrete))
 
-returned-back : (r : Returned) → returned-read (returned-code r) ≡ r
-returned-back accepted = refl
-returned-back (heightIs h) = refl
-returned-back (refused number place) = refl
-returned-back (turnsAre count true) = refl
-returned-back (turnsAre count false) = refl
+unit-discrete : Discrete (Unit {0})
+unit-discrete a b = yes refl
 
-returned-discrete : Discrete Returned
-returned-discrete = coded returned-code returned-read returned-back (List-discrete ℤ-discrete)
+turns-discrete : Discrete TurnsFound
+turns-discrete =
+    coded (λ (t : TurnsFound). (t .count, t .high)) (λ (c : ℕ × Bool). record { count = c .0; high = c .1 }) (λ t. refl) (×-discrete ℕ-discrete Bool-discrete)
 
 -- ---- what a call gives: which kind it is, what it returns, its two buffers, and the names
 
 abbrev Code : Type 0
-Code = ℕ × (Returned × (List ℕ × (List ℤ × List (List ℕ))))
+Code = ℕ × (Outcome Unit × (Outcome ℤ × (Outcome TurnsFound × (List ℕ × (List ℤ × List (List ℕ))))))
+
+abbrev none : {A : Type 0} → Outcome A
+none = refused 0 0
 
 abbrev gave-code : Gave → Code
-gave-code (told r) = (0, (r, ([], ([], []))))
-gave-code (wrote s) = (1, (s .returned, ([], (s .heights, []))))
-gave-code (found t) = (2, (t .returned, (t .minutes, (t .heights, []))))
-gave-code (named names) = (3, (accepted, ([], ([], names))))
+gave-code (told r) = (0, (r, (none, (none, ([], ([], []))))))
+gave-code (predicted r) = (1, (none, (r, (none, ([], ([], []))))))
+gave-code (wrote s) = (2, (s .returned, (none, (none, ([], (s .heights, []))))))
+gave-code (found t) = (3, (none, (none, (t .returned, (t .minutes, (t .heights, []))))))
+gave-code (named names) = (4, (none, (none, (none, ([], ([], names))))))
 
 abbrev gave-read : Code → Gave
-gave-read (zero, (r, (ms, (hs, ns)))) = told r
-gave-read (suc zero, (r, (ms, (hs, ns)))) = wrote (record { returned = r; heights = hs })
-gave-read (suc (suc zero), (r, (ms, (hs, ns)))) = found (record { returned = r; minutes = ms; heights = hs })
-gave-read (suc (suc (suc n)), (r, (ms, (hs, ns)))) = named ns
+gave-read (zero, (r, (h, (t, (ms, (hs, ns)))))) = told r
+gave-read (suc zero, (r, (h, (t, (ms, (hs, ns)))))) = predicted h
+gave-read (suc (suc zero), (r, (h, (t, (ms, (hs, ns)))))) = wrote (record { returned = r; heights = hs })
+gave-read (suc (suc (suc zero)), (r, (h, (t, (ms, (hs, ns)))))) = found (record { returned = t; minutes = ms; heights = hs })
+gave-read (suc (suc (suc (suc n))), (r, (h, (t, (ms, (hs, ns)))))) = named ns
 
 gave-back : (g : Gave) → gave-read (gave-code g) ≡ g
 gave-back (told r) = refl
+gave-back (predicted r) = refl
 gave-back (wrote s) = refl
 gave-back (found t) = refl
 gave-back (named names) = refl
@@ -76,7 +76,7 @@ gave-back (named names) = refl
 gave-discrete : Discrete Gave
 gave-discrete =
     coded gave-code gave-read gave-back
-    (×-discrete ℕ-discrete (×-discrete returned-discrete (×-discrete (List-discrete ℕ-discrete) (×-discrete (List-discrete ℤ-discrete) (List-discrete (List-discrete ℕ-discrete))))))
+    (×-discrete ℕ-discrete (×-discrete (outcome-discrete unit-discrete) (×-discrete (outcome-discrete ℤ-discrete) (×-discrete (outcome-discrete turns-discrete) (×-discrete (List-discrete ℕ-discrete) (×-discrete (List-discrete ℤ-discrete) (List-discrete (List-discrete ℕ-discrete))))))))
 
 -- to have given the same is a proposition, of one call and of a list
 pub gave-once : (g h : Gave) → IsProp (g ≡ h)

@@ -1,14 +1,14 @@
 -- Each height that the document gives for a list of calls is near the exact sum at its own minute. Rests on the distance of one height
 -- (`height-is-near` of heights), over the cases of what a call returns. Assumes nothing.
 use Prim.Native.Nat.{ℕ, zero, suc, _+_, _*_}
-use mathlib.Core.Bool.{Bool, true, false, cond, _||_}
+use mathlib.Core.Bool.{Bool, true, false}
 use mathlib.Core.List.{List, [], _∷_, map}
 use mathlib.Core.Path.{_≡_, subst, _∙_}
 use native.Mathlib.Omega.{arith}
 use lib.ListN.{length, take, drop, length-map}
-use lib.Dec.{ltb}
 use lib.Seq.{take-at}
 use lib.IntN.{ℤ}
+use Rattle.refusals.specs.Outcome.{accepted, refused, refuseIf, answered, onAccepted}
 use Rattle.table.specs.Table.{Table}
 use Rattle.station.specs.Station as station
 use Rattle.month_prepared.specs.Prepared.{Constituent}
@@ -18,28 +18,37 @@ use Rattle.heights.proofs.distance.Distance.{height-is-near}
 use Rattle.turns.specs.Slope.{slopeAt}
 use Rattle.turns.specs.Search.{Turn, turnsOf}
 use Rattle.turns.specs.Strides.{stationStride}
-use Rattle.turns.specs.Written as written
+use Rattle.turns.specs.Written.{TurnsGiven, unlessRefused, tooMany, inFront, given}
 use Rattle.turns.specs.Search.{firstHigh, minutesOf}
 use Rattle.calls.specs.State as state
 use Rattle.calls.specs.State.{Maybe}
-use Rattle.calls.specs.Returned.{accepted, heightIs, turnsAre, refused}
-use Rattle.calls.specs.Calls.{heightReturns, SeriesGiven, seriesRefused, seriesGives, TurnsGiven, turnsRefused, turnsGives, searched}
-use Rattle.calls.specs.Asked.{stepOutside, lastMinute}
-use Rattle.claim.specs.Document.{Request, Cards, Station, Date, Height, Series, Turns, Names, Last, workedOut, after, gives, givesAll, Point, heightPoints, pointsFrom, seriesPoints, pointsOf, turnsPoints, points, constituentsIn, constituentsOf, AllNear, nil, cons, EachNear, end, next}
+use Rattle.calls.specs.Calls.{ready, heightReturns, seriesHeights, seriesGives, turnsGives}
+use Rattle.calls.specs.Asked.{minuteOutside, seriesOutside, turnsOutside}
+use Rattle.calls.proofs.Posed.{Asked, height-of, series-of, turns-of}
+use Rattle.claim.specs.Document.{Request, Cards, Station, Date, Height, Series, Turns, Names, Last, workedOut, after, gives, givesAll, Point, heightPoints, pointsFrom, seriesPoints, pointsOf, turnsPoints, points, constituentsThere, lastConstituents, AllNear, nil, cons, EachNear, end, next}
+
+-- ---- what is asked first: a refusal, or the month that is there
+
+ready-by : (P : Maybe state.Month → Asked → Type 0) (outside : state.Month → Bool) → ((m : Maybe state.Month) (number : ℕ) → P m (refused number 0))
+    → ((t : Table) (s : station.Station) (m : state.Month) → P (state.some m) (accepted (t, s, m)))
+    → (t : Maybe Table) (s : Maybe station.Station) (m : Maybe state.Month) → P m (ready outside (record { table = t; station = s; month = m }))
+ready-by P outside turned there state.none s m = turned m 21
+ready-by P outside turned there (state.some t) state.none m = turned m 22
+ready-by P outside turned there (state.some t) (state.some s) state.none = turned state.none 23
+ready-by P outside turned there (state.some t) (state.some s) (state.some m) = nine (outside m)
+  where
+    nine : (past : Bool) → P (state.some m) (refuseIf past 9 0 (accepted (t, s, m)))
+    nine true = turned (state.some m) 9
+    nine false = there t s m
 
 -- ---- a height
 
 height-near : (minute : ℕ) (t : Maybe Table) (s : Maybe station.Station) (m : Maybe state.Month)
-    → AllNear (constituentsIn m) (heightPoints minute (heightReturns (record { table = t; station = s; month = m }) minute))
+    → AllNear (constituentsThere m) (heightPoints minute (heightReturns (record { table = t; station = s; month = m }) minute))
 unfolding heightReturns
-height-near minute state.none s m = nil
-height-near minute (state.some t) state.none m = nil
-height-near minute (state.some t) (state.some s) state.none = nil
-height-near minute (state.some t) (state.some s) (state.some m) = asked (ltb (m .last) minute)
-  where
-    asked : (past : Bool) → AllNear (m .constituents) (heightPoints minute (cond past (refused 9 0) (heightIs (heightAt (m .constituents) minute))))
-    asked true = nil
-    asked false = cons (height-is-near (m .constituents) minute) nil
+height-near minute =
+    ready-by (λ m o. AllNear (constituentsThere m) (heightPoints minute (height-of minute o))) (λ m. minuteOutside (m .last) minute) (λ m number. nil)
+    (λ t s m. cons (height-is-near (m .constituents) minute) nil)
 
 -- ---- a series
 
@@ -51,20 +60,12 @@ from-near cs start step j (suc n) =
     cons (height-is-near cs (start + j * step)) (subst (λ (m : ℕ). AllNear cs (pointsFrom m step (seriesFrom cs start step (j + 1) n))) on (from-near cs start step (j + 1) n))
 
 series-near : (start step : ℕ) (heights : List ℤ) (t : Maybe Table) (s : Maybe station.Station) (m : Maybe state.Month)
-    → AllNear (constituentsIn m) (seriesPoints start step (seriesGives (record { table = t; station = s; month = m }) start step heights .returned) (seriesGives (record { table = t; station = s; month = m }) start step heights .heights))
-unfolding seriesGives
-series-near start step heights state.none s m = nil
-series-near start step heights (state.some t) state.none m = nil
-series-near start step heights (state.some t) (state.some s) state.none = nil
-series-near start step heights (state.some t) (state.some s) (state.some m) =
-    asked (ltb (m .last) start || stepOutside step || ltb (m .last) (lastMinute start step (length heights)))
-  where
-    given : Bool → SeriesGiven
-    given outside = cond outside (seriesRefused heights 9) (record { returned = accepted; heights = seriesOf (m .constituents) start step (length heights) })
-
-    asked : (outside : Bool) → AllNear (m .constituents) (seriesPoints start step (given outside .returned) (given outside .heights))
-    asked true = nil
-    asked false = subst (λ (k : ℕ). AllNear (m .constituents) (pointsFrom k step (seriesOf (m .constituents) start step (length heights)))) (let e : start + 0 * step ≡ start = omega arith in e) (from-near (m .constituents) start step 0 (length heights))
+    → AllNear (constituentsThere m) (seriesPoints start step (seriesGives (record { table = t; station = s; month = m }) start step heights .returned) (seriesGives (record { table = t; station = s; month = m }) start step heights .heights))
+unfolding seriesGives seriesHeights
+series-near start step heights =
+    ready-by (λ m o. AllNear (constituentsThere m) (seriesPoints start step (answered (series-of start step (length heights) o)) (onAccepted (series-of start step (length heights) o) (λ new. new) heights)))
+    (λ m. seriesOutside (m .last) start step (length heights)) (λ m number. nil)
+    (λ t s m. subst (λ (k : ℕ). AllNear (m .constituents) (pointsFrom k step (seriesOf (m .constituents) start step (length heights)))) (let e : start + 0 * step ≡ start = omega arith in e) (from-near (m .constituents) start step 0 (length heights)))
 
 -- ---- turns
 
@@ -77,51 +78,42 @@ abbrev foundPoints : TurnsGiven → List Point
 foundPoints g = turnsPoints (g .returned) (g .minutes) (g .heights)
 
 -- what stands in front of a buffer is what was put there
-front-is : {A : Type 0} (new old : List A) (n : ℕ) → length new ≡ n → take n (written.inFront new old) ≡ new
+front-is : {A : Type 0} (new old : List A) (n : ℕ) → length new ≡ n → take n (inFront new old) ≡ new
 front-is new old n e = take-at new (drop (length new) old) n e
 
 -- what a search for turns gives: a refusal, with both buffers as they were, or what was found, in front of both
 pub turns-give : (P : Maybe state.Month → TurnsGiven → Type 0) (first last : ℕ) (ms : List ℕ) (hs : List ℤ)
-    → ((m : Maybe state.Month) (number : ℕ) → P m (turnsRefused ms hs number))
+    → ((m : Maybe state.Month) (number : ℕ) → P m (record { returned = refused number 0; minutes = ms; heights = hs }))
     → ((m : state.Month) (ts : List Turn) → P (state.some m) (record {
-      returned = turnsAre (length ts) (firstHigh ts);
-      minutes = written.inFront (minutesOf ts) ms;
-      heights = written.inFront (map (heightAt (m .constituents)) (minutesOf ts)) hs;
+      returned = accepted (record { count = length ts; high = firstHigh ts });
+      minutes = inFront (minutesOf ts) ms;
+      heights = inFront (map (heightAt (m .constituents)) (minutesOf ts)) hs;
     }))
     → (t : Maybe Table) (s : Maybe station.Station) (m : Maybe state.Month) → P m (turnsGives (record { table = t; station = s; month = m }) first last ms hs)
-unfolding turnsGives written.given
-turns-give P first last ms hs none-found all-found state.none s m = none-found m 21
-turns-give P first last ms hs none-found all-found (state.some t) state.none m = none-found m 22
-turns-give P first last ms hs none-found all-found (state.some t) (state.some s) state.none = none-found state.none 23
-turns-give P first last ms hs none-found all-found (state.some t) (state.some s) (state.some m) =
-    asked (ltb (m .last) last || ltb last first) (turnsOf (slopeAt (m .constituents)) (stationStride t s) first last)
+unfolding turnsGives given
+turns-give P first last ms hs none-found all-found =
+    ready-by (λ m o. P m (turns-of first last ms hs o))
+    (λ m. turnsOutside (m .last) first last) none-found
+    (λ t s m. room m (turnsOf (slopeAt (m .constituents)) (stationStride t s) first last) (tooMany (turnsOf (slopeAt (m .constituents)) (stationStride t s) first last) (length ms) (length hs)))
   where
-    given : Bool → List Turn → TurnsGiven
-    given short ts =
-        searched (cond short (record { returned = written.refused 10; minutes = ms; heights = hs })
-        (record { returned = written.found (length ts) (firstHigh ts); minutes = written.inFront (minutesOf ts) ms; heights = written.inFront (map (heightAt (m .constituents)) (minutesOf ts)) hs }))
-
-    room : (short : Bool) (ts : List Turn) → P (state.some m) (given short ts)
-    room true ts = none-found (state.some m) 10
-    room false ts = all-found m ts
-
-    asked : (outside : Bool) (ts : List Turn) → P (state.some m) (cond outside (turnsRefused ms hs 9) (given (ltb (length ms) (length ts) || ltb (length hs) (length ts)) ts))
-    asked true ts = none-found (state.some m) 9
-    asked false ts = room (ltb (length ms) (length ts) || ltb (length hs) (length ts)) ts
+    room : (m : state.Month) (ts : List Turn) (short : Bool) → P (state.some m) (unlessRefused (refuseIf short 10 0 (accepted ts)) ms hs λ ts.
+        (record { returned = accepted (record { count = length ts; high = firstHigh ts }); minutes = inFront (minutesOf ts) ms; heights = inFront (map (heightAt (m .constituents)) (minutesOf ts)) hs }))
+    room m ts true = none-found (state.some m) 10
+    room m ts false = all-found m ts
 
 pub as-many : (ts : List Turn) → length (minutesOf ts) ≡ length ts
 as-many ts = length-map ts (λ (u : Turn). u .minute)
 
 turns-near : (first last : ℕ) (ms : List ℕ) (hs : List ℤ) (t : Maybe Table) (s : Maybe station.Station) (m : Maybe state.Month)
-    → AllNear (constituentsIn m) (foundPoints (turnsGives (record { table = t; station = s; month = m }) first last ms hs))
+    → AllNear (constituentsThere m) (foundPoints (turnsGives (record { table = t; station = s; month = m }) first last ms hs))
 turns-near first last ms hs =
-    turns-give (λ m g. AllNear (constituentsIn m) (foundPoints g)) first last ms hs (λ m number. nil) (λ m ts.
+    turns-give (λ m g. AllNear (constituentsThere m) (foundPoints g)) first last ms hs (λ m number. nil) (λ m ts.
     rw (front-is (minutesOf ts) ms (length ts) (as-many ts), front-is (map (heightAt (m .constituents)) (minutesOf ts)) hs (length ts) (length-map (minutesOf ts) (heightAt (m .constituents)) ∙ as-many ts))
     (pairs-near (m .constituents) (minutesOf ts)))
 
 -- ---- the list
 
-near-call : (l : Last) (q : Request) → AllNear (constituentsOf l) (points q (gives l q))
+near-call : (l : Last) (q : Request) → AllNear (lastConstituents l) (points q (gives l q))
 unfolding gives
 near-call l (Cards file) = nil
 near-call l (Station latitude records) = nil

@@ -15,6 +15,7 @@ use contract.Lifetimes.{Lfts}
 use denote.Ref.{RefT, now}
 use denote.Triple.Clauses.{Ended, Clauses, ClausesAt, Lasts, atExit}
 use borrow.Fn.World.{World, ArgsD, ResD}
+use Rattle.refusals.specs.Outcome.{outcomeOf}
 use Rattle.refusals.specs.declared.Answer.{Answer}
 use Rattle.columns.specs.Names.{namesFrom}
 use Rattle.station.specs.declared.records.Record.{Record}
@@ -25,9 +26,8 @@ use Rattle.clock.specs.declared.After.{After}
 use Rattle.clock.specs.declared.HeightAnswer.{HeightAnswer}
 use Rattle.clock.specs.declared.TurnsAnswer.{TurnsAnswer}
 use Rattle.clock.specs.declared.TableNames.{TableNames}
-use Rattle.calls.specs.Returned.{answerReturned}
 use Rattle.clock.specs.Returned.{heightReturned, turnsReturned}
-use Rattle.claim.specs.Document.{Request, Cards, Station, Date, Height, Series, Turns, Names, Gave, told, wrote, found, named}
+use Rattle.claim.specs.Document.{Request, Cards, Station, Date, Height, Series, Turns, Names, Gave, told, predicted, wrote, found, named}
 use Rattle.clock.proofs.new as new
 use Rattle.clock.proofs.load_cards as load
 use Rattle.clock.proofs.set_station as station
@@ -68,23 +68,23 @@ pub data New : Clock → Type 2 where
 pub data Call : Clock → Request → Gave → Clock → Type 2 where
   loads : {κs : Lfts 1} {c : Clock} {file : RefT (List ℕ)} {r : After}
       → Once load.ended (λ M. load.clauses) κs (c, (file, tt)) r (tt, (tt, tt))
-      → Call c (Cards (now file)) (told (answerReturned (r .answer))) (r .clock)
+      → Call c (Cards (now file)) (told (outcomeOf (r .answer))) (r .clock)
   -- a station's records are lent as a row of records, `stations`, or taken apart into plain arrays, `placed`
   stations : {κs : Lfts 1} {c : Clock} {latitude : ℤ} {records : RefT (List Record)} {r : After}
       → Once station.ended (λ M. station.clauses) κs (c, (latitude, (records, tt))) r (tt, (tt, (tt, tt)))
-      → Call c (Station latitude (now records)) (told (answerReturned (r .answer))) (r .clock)
+      → Call c (Station latitude (now records)) (told (outcomeOf (r .answer))) (r .clock)
   placed : {c : Clock} {latitude : ℤ} {n : ℕ} {rows : Rows} {r : After}
       → Once placing.ended (λ M. placing.clauses) tt (c, (latitude, (n, (rows, tt)))) r (tt, (tt, (tt, (tt, tt))))
-      → Call c (Station latitude (recordsOf rows n)) (told (answerReturned (r .answer))) (r .clock)
+      → Call c (Station latitude (recordsOf rows n)) (told (outcomeOf (r .answer))) (r .clock)
   dates : {c : Clock} {year month : ℕ} {r : After}
       → Once date.ended (λ M. date.clauses) tt (c, (year, (month, tt))) r (tt, (tt, (tt, tt)))
-      → Call c (Date year month) (told (answerReturned (r .answer))) (r .clock)
+      → Call c (Date year month) (told (outcomeOf (r .answer))) (r .clock)
   heights : {c : Clock} {minute : ℕ} {r : HeightAnswer}
       → Once height.ended (λ M. height.clauses) tt (c, (minute, tt)) r (tt, (tt, tt))
-      → Call c (Height minute) (told (heightReturned r)) c
+      → Call c (Height minute) (predicted (heightReturned r)) c
   serieses : {κs : Lfts 1} {c : Clock} {start step : ℕ} {before : RefT (List ℤ)} {after : List ℤ} {r : Answer}
       → Once series.ended (λ M. series.clauses) κs (c, (start, (step, (before, tt)))) r (tt, (tt, (tt, (after, tt))))
-      → Call c (Series start step (now before)) (wrote (record { returned = answerReturned r; heights = after })) c
+      → Call c (Series start step (now before)) (wrote (record { returned = outcomeOf r; heights = after })) c
   searches : {κs : Lfts 2} {c : Clock} {first last : ℕ} {ms : RefT (List ℕ)} {hs : RefT (List ℤ)} {ms′ : List ℕ} {hs′ : List ℤ} {r : TurnsAnswer}
       → Once turns.ended (λ M. turns.clauses) κs (c, (first, (last, (ms, (hs, tt))))) r (tt, (tt, (tt, (ms′, (hs′, tt)))))
       → Call c (Turns first last (now ms) (now hs)) (found (record { returned = turnsReturned r; minutes = ms′; heights = hs′ })) c

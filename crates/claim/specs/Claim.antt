@@ -8,9 +8,9 @@ use mathlib.Core.Path.{_≡_}
 use lib.IntN.{ℤ, pos}
 use lib.ListN.{length, getD}
 use Rattle.heights.specs.Exact.{Near}
-use Rattle.calls.specs.Returned.{accepted, heightIs, turnsAre}
+use Rattle.refusals.specs.Outcome.{accepted}
 use Rattle.clock.specs.declared.Clock.{Clock}
-use Rattle.claim.specs.Document.{Request, Height, Series, Turns, Gave, told, wrote, found, Last, nothing, constituentsOf, givesAll, lastAfter, EachNear}
+use Rattle.claim.specs.Document.{Request, Height, Series, Turns, Gave, predicted, wrote, found, Last, nothing, lastConstituents, givesAll, lastAfter, EachNear}
 use Rattle.claim.specs.Calls.{New, Calls}
 
 -- `exactly`: what the calls return and write is what the document gives for the list, all of it and no other: each call accepted or refused
@@ -35,19 +35,19 @@ Before qs = lastAfter nothing qs
 -- "a single height at the minute asked"
 abbrev pub OfAHeight : Type 0
 OfAHeight =
-    (qs : List Request) (gs : List Gave) (minute : ℕ) (h : ℤ) → Claim (qs ++ Height minute ∷ []) (gs ++ told (heightIs h) ∷ [])
-    → Near (constituentsOf (Before qs)) minute h
+    (qs : List Request) (gs : List Gave) (minute : ℕ) (h : ℤ) → Claim (qs ++ Height minute ∷ []) (gs ++ predicted (accepted h) ∷ [])
+    → Near (lastConstituents (Before qs)) minute h
 
 -- "a series' height n, from 0, at start + n × step"
 abbrev pub OfASeries : Type 0
 OfASeries =
     (qs : List Request) (gs : List Gave) (start step : ℕ) (before after : List ℤ)
-    → Claim (qs ++ Series start step before ∷ []) (gs ++ wrote (record { returned = accepted; heights = after }) ∷ [])
-    → (n : ℕ) → n < length after → Near (constituentsOf (Before qs)) (start + n * step) (getD after n (pos 0))
+    → Claim (qs ++ Series start step before ∷ []) (gs ++ wrote (record { returned = accepted tt; heights = after }) ∷ [])
+    → (n : ℕ) → n < length after → Near (lastConstituents (Before qs)) (start + n * step) (getD after n (pos 0))
 
 -- "a turn's height at the minute written with it"
 abbrev pub OfTurns : Type 0
 OfTurns =
     (qs : List Request) (gs : List Gave) (first last : ℕ) (ms ms′ : List ℕ) (hs hs′ : List ℤ) (count : ℕ) (high : Bool)
-    → Claim (qs ++ Turns first last ms hs ∷ []) (gs ++ found (record { returned = turnsAre count high; minutes = ms′; heights = hs′ }) ∷ [])
-    → (n : ℕ) → n < count → Near (constituentsOf (Before qs)) (getD ms′ n 0) (getD hs′ n (pos 0))
+    → Claim (qs ++ Turns first last ms hs ∷ []) (gs ++ found (record { returned = accepted (record { count = count; high = high }); minutes = ms′; heights = hs′ }) ∷ [])
+    → (n : ℕ) → n < count → Near (lastConstituents (Before qs)) (getD ms′ n 0) (getD hs′ n (pos 0))

@@ -6,6 +6,7 @@ use Prim.Native.Nat.{ℕ}
 use mathlib.Core.List.{List, [], _∷_}
 use mathlib.Core.Path.{_≡_}
 use lib.IntN.{ℤ, pos}
+use Rattle.refusals.specs.Outcome.{refused, outcomeOf}
 use Rattle.refusals.specs.declared.Answer.{Answer}
 use Rattle.columns.specs.Names.{namesFrom}
 use Rattle.station.specs.declared.records.Record.{Record}
@@ -17,10 +18,9 @@ use Rattle.clock.specs.declared.TurnsAnswer.{TurnsAnswer}
 use Rattle.clock.specs.declared.TableNames.{TableNames}
 use Rattle.clock.specs.View.{view}
 use Rattle.calls.specs.Names.{namesIn}
-use Rattle.calls.specs.Returned.{refused, answerReturned}
 use Rattle.clock.specs.Returned.{heightReturned, turnsReturned}
 use Rattle.clock.specs.Posts.{NewPost, CardsPost, StationPost, DatePost, HeightPost, SeriesPost, TurnsPost}
-use Rattle.claim.specs.Document.{Request, Cards, Station, Date, Height, Series, Turns, Names, Gave, told, wrote, found, named}
+use Rattle.claim.specs.Document.{Request, Cards, Station, Date, Height, Series, Turns, Names, Gave, told, predicted, wrote, found, named}
 use Rattle.claim.specs.Calls.{New, Call, Calls}
 
 -- a list with each kind of call in it (a station twice, its records lent as a row and in arrays), and what a clock with no table gives for
@@ -30,21 +30,21 @@ eachKind = Cards [] ∷ Station (pos 0) [] ∷ Station (pos 0) [] ∷ Date 1976 
 
 abbrev pub eachRefused : List Gave
 eachRefused =
-    told (refused 7 1) ∷ told (refused 21 0) ∷ told (refused 21 0) ∷ told (refused 21 0) ∷ told (refused 21 0)
+    told (refused 7 1) ∷ told (refused 21 0) ∷ told (refused 21 0) ∷ told (refused 21 0) ∷ predicted (refused 21 0)
     ∷ wrote (record { returned = refused 21 0; heights = pos 5 ∷ [] })
     ∷ found (record { returned = refused 21 0; minutes = 9 ∷ []; heights = pos 5 ∷ [] }) ∷ named [] ∷ []
 
 pub record Controls : Type 2 where
   pub new : (c : Clock) → NewPost c → New c
-  pub cards : (c c′ : Clock) (file : List ℕ) (answer : Answer) → CardsPost c file answer c′ → Call c (Cards file) (told (answerReturned answer)) c′
+  pub cards : (c c′ : Clock) (file : List ℕ) (answer : Answer) → CardsPost c file answer c′ → Call c (Cards file) (told (outcomeOf answer)) c′
   pub station : (c c′ : Clock) (latitude : ℤ) (records : List Record) (answer : Answer) → StationPost c latitude records answer c′
-      → Call c (Station latitude records) (told (answerReturned answer)) c′
+      → Call c (Station latitude records) (told (outcomeOf answer)) c′
   pub placing : (c c′ : Clock) (latitude : ℤ) (n : ℕ) (rows : Rows) (answer : Answer) → StationPost c latitude (recordsOf rows n) answer c′
-      → Call c (Station latitude (recordsOf rows n)) (told (answerReturned answer)) c′
-  pub date : (c c′ : Clock) (year month : ℕ) (answer : Answer) → DatePost c year month answer c′ → Call c (Date year month) (told (answerReturned answer)) c′
-  pub height : (c : Clock) (minute : ℕ) (answer : HeightAnswer) → HeightPost c minute answer → Call c (Height minute) (told (heightReturned answer)) c
+      → Call c (Station latitude (recordsOf rows n)) (told (outcomeOf answer)) c′
+  pub date : (c c′ : Clock) (year month : ℕ) (answer : Answer) → DatePost c year month answer c′ → Call c (Date year month) (told (outcomeOf answer)) c′
+  pub height : (c : Clock) (minute : ℕ) (answer : HeightAnswer) → HeightPost c minute answer → Call c (Height minute) (predicted (heightReturned answer)) c
   pub series : (c : Clock) (start step : ℕ) (hs hs′ : List ℤ) (answer : Answer) → SeriesPost c start step hs hs′ answer
-      → Call c (Series start step hs) (wrote (record { returned = answerReturned answer; heights = hs′ })) c
+      → Call c (Series start step hs) (wrote (record { returned = outcomeOf answer; heights = hs′ })) c
   pub turns : (c : Clock) (first last : ℕ) (ms ms′ : List ℕ) (hs hs′ : List ℤ) (answer : TurnsAnswer) → TurnsPost c first last ms ms′ hs hs′ answer
       → Call c (Turns first last ms hs) (found (record { returned = turnsReturned answer; minutes = ms′; heights = hs′ })) c
   pub names : (c : Clock) (r : TableNames) → namesFrom (r .bytes) 0 (r .count) ≡ namesIn (view c) → Call c Names (named (namesFrom (r .bytes) 0 (r .count))) c

@@ -1,22 +1,23 @@
 -- 01, "Heights and turns", demand 3: what the document says of a list of calls. Over the calls alone, with all that is lent to them:
 -- no clock, and nothing that a program keeps.
 -- Assumes nothing.
+use Prim.{Unit}
 use Prim.Native.Nat.{ℕ, _+_}
 use mathlib.Core.List.{List, [], _∷_}
 use lib.ListN.{take}
 use lib.IntN.{ℤ}
+use Rattle.refusals.specs.Outcome.{Outcome, onAccepted}
 use Rattle.table.specs.Table.{Table}
-use Rattle.card_file.specs.Cards as cards
-use Rattle.card_file.specs.Cards.{readCards}
+use Rattle.card_file.specs.Outcome.{cardsOutcome}
 use Rattle.station.specs.declared.records.Record.{Record}
 use Rattle.station.specs.Station as station
 use Rattle.month_prepared.specs.Prepared.{Constituent}
 use Rattle.heights.specs.Exact.{Near}
 use Rattle.calls.specs.State as state
 use Rattle.calls.specs.State.{Maybe, none, some, State}
-use Rattle.calls.specs.Returned.{Returned, accepted, heightIs, turnsAre, refused, onAccepted}
 use Rattle.calls.specs.Names.{namesIn}
-use Rattle.calls.specs.Calls.{cardsReturns, stationReturns, dateReturns, monthFor, heightReturns, SeriesGiven, seriesGives, TurnsGiven, turnsGives}
+use Rattle.turns.specs.Written.{TurnsFound, TurnsGiven}
+use Rattle.calls.specs.Calls.{cardsReturns, stationReturns, dateGives, dateReturns, heightReturns, SeriesGiven, seriesGives, turnsGives}
 
 -- "The calls are a card file, a station, a date, a height, a series and turns", each with all that is lent to it; and, though it is no call of
 -- 01 and gives nothing of the tide, the clock's handing out of names
@@ -31,7 +32,8 @@ pub data Request : Type 0 where
 
 -- what a call gives: what it returns, and its lent buffers as it leaves them
 pub data Gave : Type 0 where
-  told : Returned → Gave
+  told : Outcome Unit → Gave
+  predicted : Outcome ℤ → Gave
   wrote : SeriesGiven → Gave
   found : TurnsGiven → Gave
   named : List (List ℕ) → Gave
@@ -53,17 +55,13 @@ nothing = record { cards = none; station = none; date = none }
 
 -- ---- what follows from these, "by the rules of this document"
 
-abbrev pub tableIn : cards.Outcome → Maybe Table
-tableIn (cards.accepted table) = some table
-tableIn (cards.refused number line) = none
-
 abbrev pub tableOfCards : Maybe (List ℕ) → Maybe Table
 tableOfCards none = none
-tableOfCards (some file) = tableIn (readCards file)
+tableOfCards (some file) = onAccepted (cardsOutcome file) (λ table. some table) none
 
 abbrev pub monthOn : Maybe Table → Maybe station.Station → Maybe Day → Maybe state.Month
 monthOn t s none = none
-monthOn t s (some day) = monthFor t s (day .year) (day .month)
+monthOn t s (some day) = onAccepted (dateGives t s (day .year) (day .month)) (λ month. some month) none
 
 unfoldable pub workedOut : Last → State
 workedOut l =
@@ -78,13 +76,13 @@ workedOut l =
 -- "An accepted card file leaves its table, with no station and no month; an accepted station keeps the table and leaves itself, with no
 -- month; an accepted date keeps both [..]. Heights, series, turns and every refused call leave all three as they were."
 unfoldable pub after : Last → Request → Last
-after l (Cards file) = onAccepted (cardsReturns file) (record { cards = some file; station = none; date = none }) l
+after l (Cards file) = onAccepted (cardsReturns file) (λ _. record { cards = some file; station = none; date = none }) l
 after l (Station latitude records) =
     onAccepted (stationReturns (workedOut l) latitude records)
-    (record { cards = l .cards; station = some (record { latitude = latitude; records = records }); date = none }) l
+    (λ _. record { cards = l .cards; station = some (record { latitude = latitude; records = records }); date = none }) l
 after l (Date year month) =
     onAccepted (dateReturns (workedOut l) year month)
-    (record { cards = l .cards; station = l .station; date = some (record { year = year; month = month }) }) l
+    (λ _. record { cards = l .cards; station = l .station; date = some (record { year = year; month = month }) }) l
 after l (Height minute) = l
 after l (Series start step heights) = l
 after l (Turns first end minutes heights) = l
@@ -95,7 +93,7 @@ unfoldable pub gives : Last → Request → Gave
 gives l (Cards file) = told (cardsReturns file)
 gives l (Station latitude records) = told (stationReturns (workedOut l) latitude records)
 gives l (Date year month) = told (dateReturns (workedOut l) year month)
-gives l (Height minute) = told (heightReturns (workedOut l) minute)
+gives l (Height minute) = predicted (heightReturns (workedOut l) minute)
 gives l (Series start step heights) = wrote (seriesGives (workedOut l) start step heights)
 gives l (Turns first end minutes heights) = found (turnsGives (workedOut l) first end minutes heights)
 gives l Names = named (namesIn (workedOut l))
@@ -117,22 +115,16 @@ pub record Point : Type 0 where
   pub height : ℤ
 
 -- "a single height at the minute asked"
-abbrev pub heightPoints : ℕ → Returned → List Point
-heightPoints minute accepted = []
-heightPoints minute (heightIs h) = record { minute = minute; height = h } ∷ []
-heightPoints minute (turnsAre count high) = []
-heightPoints minute (refused number place) = []
+abbrev pub heightPoints : ℕ → Outcome ℤ → List Point
+heightPoints minute returned = onAccepted returned (λ h. record { minute = minute; height = h } ∷ []) []
 
 -- "a series' height n, from 0, at start + n × step"
 unfoldable pub pointsFrom : ℕ → ℕ → List ℤ → List Point
 pointsFrom minute step [] = []
 pointsFrom minute step (h ∷ hs) = record { minute = minute; height = h } ∷ pointsFrom (minute + step) step hs
 
-abbrev pub seriesPoints : ℕ → ℕ → Returned → List ℤ → List Point
-seriesPoints start step accepted heights = pointsFrom start step heights
-seriesPoints start step (heightIs h) heights = []
-seriesPoints start step (turnsAre count high) heights = []
-seriesPoints start step (refused number place) heights = []
+abbrev pub seriesPoints : ℕ → ℕ → Outcome Unit → List ℤ → List Point
+seriesPoints start step returned heights = onAccepted returned (λ _. pointsFrom start step heights) []
 
 -- "a turn's height at the minute written with it"
 unfoldable pub pointsOf : List ℕ → List ℤ → List Point
@@ -140,11 +132,8 @@ pointsOf [] hs = []
 pointsOf (m ∷ ms) [] = []
 pointsOf (m ∷ ms) (h ∷ hs) = record { minute = m; height = h } ∷ pointsOf ms hs
 
-abbrev pub turnsPoints : Returned → List ℕ → List ℤ → List Point
-turnsPoints accepted minutes heights = []
-turnsPoints (heightIs h) minutes heights = []
-turnsPoints (turnsAre count high) minutes heights = pointsOf (take count minutes) (take count heights)
-turnsPoints (refused number place) minutes heights = []
+abbrev pub turnsPoints : Outcome TurnsFound → List ℕ → List ℤ → List Point
+turnsPoints returned minutes heights = onAccepted returned (λ f. pointsOf (take (f .count) minutes) (take (f .count) heights)) []
 
 -- "The claim covers each height that a call in the list gives"
 abbrev pub points : Request → Gave → List Point
@@ -152,26 +141,29 @@ points (Cards file) g = []
 points (Station latitude records) g = []
 points (Date year month) g = []
 points Names g = []
-points (Height minute) (told r) = heightPoints minute r
+points (Height minute) (told r) = []
+points (Height minute) (predicted r) = heightPoints minute r
 points (Height minute) (wrote s) = []
 points (Height minute) (found t) = []
 points (Height minute) (named names) = []
 points (Series start step heights) (told r) = []
+points (Series start step heights) (predicted r) = []
 points (Series start step heights) (wrote s) = seriesPoints start step (s .returned) (s .heights)
 points (Series start step heights) (found t) = []
 points (Series start step heights) (named names) = []
 points (Turns first end minutes heights) (told r) = []
+points (Turns first end minutes heights) (predicted r) = []
 points (Turns first end minutes heights) (wrote s) = []
 points (Turns first end minutes heights) (found t) = turnsPoints (t .returned) (t .minutes) (t .heights)
 points (Turns first end minutes heights) (named names) = []
 
 -- V, P and Q of the station's constituents, worked out from what was last accepted
-abbrev pub constituentsIn : Maybe state.Month → List Constituent
-constituentsIn none = []
-constituentsIn (some month) = month .constituents
+abbrev pub constituentsThere : Maybe state.Month → List Constituent
+constituentsThere none = []
+constituentsThere (some month) = month .constituents
 
-abbrev pub constituentsOf : Last → List Constituent
-constituentsOf l = constituentsIn (workedOut l .month)
+abbrev pub lastConstituents : Last → List Constituent
+lastConstituents l = constituentsThere (workedOut l .month)
 
 -- each point near the exact sum
 pub data AllNear (cs : List Constituent) : List Point → Type 0 where
@@ -182,4 +174,4 @@ pub data AllNear (cs : List Constituent) : List Point → Type 0 where
 pub data EachNear : Last → List Request → List Gave → Type 0 where
   end : {l : Last} → EachNear l [] []
   next : {l : Last} {q : Request} {qs : List Request} {g : Gave} {gs : List Gave}
-      → AllNear (constituentsOf l) (points q g) → EachNear (after l q) qs gs → EachNear l (q ∷ qs) (g ∷ gs)
+      → AllNear (lastConstituents l) (points q g) → EachNear (after l q) qs gs → EachNear l (q ∷ qs) (g ∷ gs)

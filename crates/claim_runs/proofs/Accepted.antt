@@ -26,8 +26,8 @@ use Rattle.card_mains.specs.Mains.{mainMade, mainNumbers, mainCard, nextMain}
 use Rattle.card_constituents.specs.Constituents.{mainsFrom}
 use Rattle.card_shallows.specs.Shallow.{nextShallow}
 use Rattle.card_shallows.specs.Shallows.{shallowsFrom}
-use Rattle.card_file.specs.Cards as cards
 use Rattle.card_file.specs.Cards.{allDefined, readCards}
+use Rattle.card_file.specs.Outcome.{cardsOutcome}
 use Rattle.station.specs.declared.records.Record.{Record}
 use Rattle.station.specs.Station.{Station, placeRepeated, recordOutcome, recordsOutcome, stationOutcome}
 use Rattle.month_arguments.specs.Longitudes.{longitude, longitudesOn, times}
@@ -37,7 +37,7 @@ use Rattle.month_pairs.specs.Pairs.{checked}
 use Rattle.month_pairs.specs.Shallow.{mainCorrected}
 use Rattle.month_workings.specs.Worked.{argumentOf, correctionOf}
 use Rattle.month_prepared.specs.Prepared.{Constituent}
-use Rattle.month.specs.Month.{monthDay, weight, constituent, prepared, before, recordThen, recordsPrepared, monthOf}
+use Rattle.month.specs.Month.{monthDay, weight, constituent, recordsPrepared, monthOf}
 use Rattle.heights.specs.Angle.{angle}
 use Rattle.heights.specs.Share.{share}
 use Rattle.heights.specs.Height.{sumOfShares, heightAt}
@@ -50,8 +50,8 @@ use Rattle.turns.specs.Strides.{amplitudeOf, stationStride}
 use Rattle.turns.specs.Written as written
 use Rattle.calls.specs.State.{Maybe, none, some}
 use Rattle.calls.specs.Names.{namesIn}
-use Rattle.calls.specs.Returned.{accepted, heightIs, turnsAre}
-use Rattle.calls.specs.Calls.{cardsReturns, stationReturns, dateReturns, monthFor, heightReturns, seriesGives, turnsGives}
+use Rattle.refusals.specs.Outcome.{accepted}
+use Rattle.calls.specs.Calls.{cardsReturns, stationReturns, dateGives, dateReturns, heightReturns, seriesHeights, seriesGives, turnsGives}
 use Rattle.claim.specs.Document.{Last, workedOut, gives, after, givesAll}
 use Rattle.claim_runs.specs.Accepted.{z0, frequencyLine, fiveLine, mainLine, cardLines, ended, smallFile, acceptedCalls, AcceptedByTheDocument, AcceptedByTheMachine}
 use Rattle.claim_runs.specs.Runs.{GiveAll}
@@ -95,8 +95,8 @@ module _ (rest : List (List ℕ)) where
 abbrev table : Table
 table = record { frequencies = record { name = z0; frequency = 0 } ∷ []; longitudes = noughts; increases = noughts; mains = z0-main ∷ []; shallows = [] }
 
-cards-read : readCards smallFile ≡ cards.accepted table
-unfolding readCards allDefined isAmong
+cards-read : cardsOutcome smallFile ≡ accepted table
+unfolding cardsOutcome readCards allDefined isAmong
 cards-read = rw (lines-are, frequencies-are, longitudes-are, increases-are, mains-are, shallows-are)
 
 -- ---- the station's month
@@ -111,8 +111,8 @@ z0-station = record { latitude = pos 0; records = z0-records }
 abbrev z0-month : List Constituent
 z0-month = record { argument = 0; lag = 0; frequency = 0; p = pos 409_600; q = pos 0 } ∷ []
 
-month-is : monthOf table z0-station 1976 7 ≡ prepared z0-month
-unfolding monthOf recordsPrepared recordThen before definitionAt firstWith constituent weight argumentOf argument correctionOf mainCorrected checked mainPair sumOver times longitudesOn longitude monthDay dayCount yearsDays monthsDays monthDays isFourth
+month-is : monthOf table z0-station 1976 7 ≡ accepted z0-month
+unfolding monthOf recordsPrepared definitionAt firstWith constituent weight argumentOf argument correctionOf mainCorrected checked mainPair sumOver times longitudesOn longitude monthDay dayCount yearsDays monthsDays monthDays isFourth
 month-is = refl
 
 -- ---- its heights and turns
@@ -150,36 +150,36 @@ unfolding workedOut
 table-worked s = rw cards-read
 
 month-worked : workedOut afterDate ≡ record { table = some table; station = some z0-station; month = some (record { last = 44_640; constituents = z0-month }) }
-unfolding workedOut monthFor monthMinutes monthDays
+unfolding workedOut dateGives inRange between monthMinutes monthDays
 month-worked = rw (cards-read, month-is)
 
 -- ---- each call
 
-cards-accepted : cardsReturns smallFile ≡ accepted
+cards-accepted : cardsReturns smallFile ≡ accepted tt
 unfolding cardsReturns
 cards-accepted = rw cards-read
 
-none-accepted : stationReturns (workedOut afterCards) (pos 0) [] ≡ accepted
+none-accepted : stationReturns (workedOut afterCards) (pos 0) [] ≡ accepted tt
 unfolding stationReturns stationOutcome recordsOutcome
 none-accepted = rw (table-worked none)
 
-station-accepted : stationReturns (workedOut afterNone) (pos 0) z0-records ≡ accepted
+station-accepted : stationReturns (workedOut afterNone) (pos 0) z0-records ≡ accepted tt
 unfolding stationReturns stationOutcome recordsOutcome recordOutcome placeRepeated
 station-accepted = rw (table-worked (some (record { latitude = pos 0; records = [] })))
 
-date-accepted : dateReturns (workedOut afterStation) 1976 7 ≡ accepted
-unfolding dateReturns inRange between
+date-accepted : dateReturns (workedOut afterStation) 1976 7 ≡ accepted tt
+unfolding dateGives dateReturns inRange between
 date-accepted = rw (table-worked (some z0-station), month-is)
 
-height-given : heightReturns (workedOut afterDate) 0 ≡ heightIs (pos 100)
+height-given : heightReturns (workedOut afterDate) 0 ≡ accepted (pos 100)
 unfolding heightReturns
 height-given = rw (month-worked, height-is)
 
-series-given : seriesGives (workedOut afterDate) 0 1 [] ≡ record { returned = accepted; heights = [] }
-unfolding seriesGives seriesFrom
+series-given : seriesGives (workedOut afterDate) 0 1 [] ≡ record { returned = accepted tt; heights = [] }
+unfolding seriesHeights seriesGives seriesFrom
 series-given = rw month-worked
 
-turns-given : turnsGives (workedOut afterDate) 0 360 [] [] ≡ record { returned = turnsAre 0 false; minutes = []; heights = [] }
+turns-given : turnsGives (workedOut afterDate) 0 360 [] [] ≡ record { returned = accepted (record { count = 0; high = false }); minutes = []; heights = [] }
 unfolding turnsGives written.given
 turns-given = rw (month-worked, stride-is, turns-are 357)
 

@@ -15,7 +15,8 @@ use contract.Adequate.{Satisfies}
 use contract.Monad.{fact, factI, top}
 use denote.Laws.{Is}
 use borrow.Fn.World.{w₀}
-use Rattle.calls.specs.Returned.{Returned}
+use Rattle.refusals.specs.Outcome.{Outcome}
+use Rattle.turns.specs.Written.{TurnsFound}
 use Rattle.clock.specs.declared.Clock.{Clock}
 use Rattle.clock.specs.declared.After.{After}
 use Rattle.clock.specs.View.{Made}
@@ -24,7 +25,7 @@ use Rattle.clock.proofs.After as AfterType
 use Rattle.clock.proofs.new as new
 use Rattle.clock.proofs.new.Symbol as newCode
 use Rattle.clock.proofs.new.Met as newMet
-use Rattle.claim.specs.Document.{Request, Series, Turns, Gave, told, wrote, found, named, Last, nothing, after, gives, givesAll, lastAfter}
+use Rattle.claim.specs.Document.{Request, Series, Turns, Gave, told, predicted, wrote, found, named, Last, nothing, after, gives, givesAll, lastAfter}
 use Rattle.claim.specs.Calls as call
 use Rattle.claim.specs.Calls.{Call}
 use Rattle.claim.proofs.Points.{near-calls}
@@ -81,14 +82,14 @@ module _ {vc : Val} (l : Last) (h : Holds vc l) where
       ∥∥₁-map (left-anew (k .result) (k .is) (call.dates (k .once))) (λ a. ((k .leaves, a .0 ∙ ap told (sym (after-reads (k .result) (x .value) (k .is)))), a .1)))
   run-gives (heights {minute = minute} {vm = vm} x) =
       ∥∥₁-elim (ran (height-call (h .clock) vc minute vm) x) ∥∥₁-prop (λ k.
-      ∥∥₁-map (left-same (call.heights (k .once))) (λ a. ((k .leaves, a .0 ∙ ap told (sym (height-reads (k .result) (x .value) (k .is)))), a .1)))
+      ∥∥₁-map (left-same (call.heights (k .once))) (λ a. ((k .leaves, a .0 ∙ ap predicted (sym (height-reads (k .result) (x .value) (k .is)))), a .1)))
   run-gives (serieses {start = start} {step = step} {vs = vs} {vt = vt} {hs = hs} {b = b} {o = o} x) =
       ∥∥₁-elim (ran (series-call (h .clock) vc start step vs vt hs b o) x) ∥∥₁-prop (λ k.
       let hs′ : List ℤ = k .last .1 .1 .1 .0 in
       ∥∥₁-elim (heights-left (x .left) hs hs′ b o (x .rest) (k .as-many .0) (k .leaves)) ∥∥₁-prop (λ e.
       ∥∥₁-map (left-same (call.serieses (k .once))) (λ a. (
         subst (λ (zs : List ℤ). Leaves x (zs, tt) × (gives l (Series start step hs) ≡ wrote (record { returned = answerIn (x .value); heights = zs }))) e
-            (k .leaves, a .0 ∙ ap (λ (r : Returned). wrote (record { returned = r; heights = hs′ })) (sym (answer-reads (k .result) (x .value) (k .is)))),
+            (k .leaves, a .0 ∙ ap (λ (r : Outcome Unit). wrote (record { returned = r; heights = hs′ })) (sym (answer-reads (k .result) (x .value) (k .is)))),
         a .1,
       ))))
   run-gives (searches {first = first} {last = last} {vf = vf} {vl = vl} {ms = ms} {b = b} {o = o} {hs = hs} {b₁ = b₁} {o₁ = o₁} x) =
@@ -99,7 +100,7 @@ module _ {vc : Val} (l : Last) (h : Holds vc l) where
       ∥∥₁-map (left-same (call.searches (k .once))) (λ a. (
         subst (λ (zs : List ℕ × List ℤ). Leaves x (zs .0, (zs .1, tt)) × (gives l (Turns first last ms hs) ≡ found (record { returned = turnsIn (x .value); minutes = zs .0; heights = zs .1 })))
             (ap₂ (λ (ys : List ℕ) (zs : List ℤ). (ys, zs)) (e .0) (e .1))
-            (k .leaves, a .0 ∙ ap (λ (r : Returned). found (record { returned = r; minutes = ms′; heights = hs′ })) (sym (turns-reads (k .result) (x .value) (k .is)))),
+            (k .leaves, a .0 ∙ ap (λ (r : Outcome TurnsFound). found (record { returned = r; minutes = ms′; heights = hs′ })) (sym (turns-reads (k .result) (x .value) (k .is)))),
         a .1,
       ))))
   run-gives (hands x) =

@@ -9,7 +9,7 @@ use mir.Val.{Val, vunit, vint, ofList}
 use mir.ValLaws.{toZ-ofZ}
 use denote.Laws.{Is}
 use Rattle.columns.specs.Names.{namesFrom}
-use Rattle.refusals.specs.Outcome.{numberOf}
+use Rattle.refusals.specs.Outcome.{accepted, refused, numberOf, outcomeOf}
 use Rattle.refusals.specs.declared.Answer.{Answer}
 use Rattle.refusals.specs.declared.Answer.the-variants as answer
 use Rattle.refusals.specs.declared.Refusal.{Refusal}
@@ -17,7 +17,6 @@ use Rattle.refusals.specs.declared.Refusal.the-variants.{BadLine, Malformed, Ou
 use Rattle.refusals.proofs.Answer as AnswerType
 use Rattle.refusals.proofs.Answer.Laws as AnswerLaws
 use Rattle.refusals.proofs.Refusal.Laws as RefusalLaws
-use Rattle.calls.specs.Returned.{heightIs, refused, answerReturned}
 use Rattle.clock.specs.declared.After.{After}
 use Rattle.clock.specs.declared.HeightAnswer.{HeightAnswer}
 use Rattle.clock.specs.declared.HeightAnswer.the-variants as height
@@ -58,15 +57,15 @@ refusal-reads NoTable = refl
 refusal-reads NoStation = refl
 refusal-reads NoMonth = refl
 
-answer-lowered : (r : Answer) → answerIn (AnswerLaws.lowered r) ≡ answerReturned r
+answer-lowered : (r : Answer) → answerIn (AnswerLaws.lowered r) ≡ outcomeOf r
 answer-lowered answer.Accepted = refl
 answer-lowered (answer.Refused r place) = ap (λ (n : ℕ). refused n place) (refusal-reads r)
 
-pub answer-reads : (r : Answer) (v : Val) → Is AnswerType.the-row r (v ∷ []) → answerIn v ≡ answerReturned r
+pub answer-reads : (r : Answer) (v : Val) → Is AnswerType.the-row r (v ∷ []) → answerIn v ≡ outcomeOf r
 answer-reads r v is = ap (λ (vs : List Val). answerIn (first vs)) (AnswerLaws.lowers .val-is r (v ∷ []) is) ∙ answer-lowered r
 
 height-lowered : (r : HeightAnswer) (v : Val) → Is HeightAnswerType.the-row r (v ∷ []) → heightIn (HeightAnswerLaws.lowered r) ≡ heightReturned r
-height-lowered (height.Height h) v is = ap heightIs (toZ-ofZ w64 h (record { sfits = is .1 .1 .1 .1 .0 .1 }))
+height-lowered (height.Height h) v is = ap accepted (toZ-ofZ w64 h (record { sfits = is .1 .1 .1 .1 .0 .1 }))
 height-lowered (height.Refused r place) v is = ap (λ (n : ℕ). refused n place) (refusal-reads r)
 
 pub height-reads : (r : HeightAnswer) (v : Val) → Is HeightAnswerType.the-row r (v ∷ []) → heightIn v ≡ heightReturned r
@@ -79,7 +78,7 @@ turns-lowered (turns.Refused r place) = ap (λ (n : ℕ). refused n place) (refu
 pub turns-reads : (r : TurnsAnswer) (v : Val) → Is TurnsAnswerType.the-row r (v ∷ []) → turnsIn v ≡ turnsReturned r
 turns-reads r v is = ap (λ (vs : List Val). turnsIn (first vs)) (TurnsAnswerLaws.lowers .val-is r (v ∷ []) is) ∙ turns-lowered r
 
-pub after-reads : (r : After) (v : Val) → Is AfterType.the-row r (v ∷ []) → answerIn (answerPart v) ≡ answerReturned (r .answer)
+pub after-reads : (r : After) (v : Val) → Is AfterType.the-row r (v ∷ []) → answerIn (answerPart v) ≡ outcomeOf (r .answer)
 after-reads r v is = ap (λ (vs : List Val). answerIn (answerPart (first vs))) (AfterLaws.lowers .val-is r (v ∷ []) is) ∙ answer-lowered (r .answer)
 
 -- the clock in an `After`'s value is the machine's value of its clock

@@ -7,8 +7,8 @@ use mathlib.Core.List.{List, [], _∷_, _++_}
 use lib.ListN.{replicate}
 use lib.IntN.{pos}
 use mir.Val.{Val}
-use Rattle.calls.specs.Returned.{accepted, heightIs, turnsAre}
-use Rattle.claim.specs.Document.{Request, Cards, Station, Date, Height, Series, Turns, Names, Gave, told, wrote, found, named, nothing, givesAll}
+use Rattle.refusals.specs.Outcome.{accepted}
+use Rattle.claim.specs.Document.{Request, Cards, Station, Date, Height, Series, Turns, Names, Gave, told, predicted, wrote, found, named, nothing, givesAll}
 use Rattle.claim_runs.specs.Runs.{Started, Runs, GiveAll}
 
 -- ---- a smallest card file: one constituent, Z0, and no other number but 0
@@ -71,13 +71,13 @@ acceptedCalls =
 -- Z0 is level: its height is its amplitude, and there is no turn
 abbrev pub allAccepted : List Gave
 allAccepted =
-    told accepted
-    ∷ told accepted
-    ∷ told accepted
-    ∷ told accepted
-    ∷ told (heightIs (pos 100))
-    ∷ wrote (record { returned = accepted; heights = [] })
-    ∷ found (record { returned = turnsAre 0 false; minutes = []; heights = [] })
+    told (accepted tt)
+    ∷ told (accepted tt)
+    ∷ told (accepted tt)
+    ∷ told (accepted tt)
+    ∷ predicted (accepted (pos 100))
+    ∷ wrote (record { returned = accepted tt; heights = [] })
+    ∷ found (record { returned = accepted (record { count = 0; high = false }); minutes = []; heights = [] })
     ∷ named (z0 ∷ [])
     ∷ []
 

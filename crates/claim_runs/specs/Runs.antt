@@ -23,7 +23,7 @@ use Rattle.clock.proofs.height.Symbol as heightCode
 use Rattle.clock.proofs.series.Symbol as seriesCode
 use Rattle.clock.proofs.turns.Symbol as turnsCode
 use Rattle.clock.proofs.names.Symbol as namesCode
-use Rattle.claim.specs.Document.{Request, Cards, Station, Date, Height, Series, Turns, Names, Gave, told, wrote, found, named}
+use Rattle.claim.specs.Document.{Request, Cards, Station, Date, Height, Series, Turns, Names, Gave, told, predicted, wrote, found, named}
 use Rattle.claim_runs.specs.Handed.{value, reads, writes, Ran, Leaves}
 use Rattle.claim_runs.specs.Values.{answerIn, heightIn, turnsIn, tableNamesIn, minutesAt, heightsAt, answerPart, clockIn}
 
@@ -65,7 +65,7 @@ Gives (loads x) g = Leaves x tt × (g ≡ told (answerIn (answerPart (x .value))
 Gives (stations x) g = Leaves x tt × (g ≡ told (answerIn (answerPart (x .value))))
 Gives (placed x) g = Leaves x tt × (g ≡ told (answerIn (answerPart (x .value))))
 Gives (dates x) g = Leaves x tt × (g ≡ told (answerIn (answerPart (x .value))))
-Gives (heights x) g = Leaves x tt × (g ≡ told (heightIn (x .value)))
+Gives (heights x) g = Leaves x tt × (g ≡ predicted (heightIn (x .value)))
 Gives (serieses {hs = hs} {b = b} {o = o} x) g =
     let hs′ : List ℤ = heightsAt (x .left) b o (length hs) in
     Leaves x (hs′, tt) × (g ≡ wrote (record { returned = answerIn (x .value); heights = hs′ }))

@@ -1,6 +1,7 @@
 -- The machine's values for what the clock's calls return, read: a struct by its fields, an enum by its tag, which stands first, and the
 -- fields behind it; and what lies in a memory, as the machine loads it.
 -- Assumes nothing.
+use Prim.{Unit}
 use Prim.Native.Nat.{ℕ, zero, suc, _+_}
 use mathlib.Core.Bool.{false, cond}
 use mathlib.Core.List.{List, [], _∷_}
@@ -13,7 +14,8 @@ use mir.Syntax.{Width, w32, w64, tyInt}
 use mir.Val.{Val, vunit, vbool, vint, vfloat, vptr, vstruct, Vals, vnil, vcons, asInt, asBool, toZ, bytes}
 use prog.Memory.{Memory, loadM}
 use Rattle.columns.specs.Names.{namesFrom}
-use Rattle.calls.specs.Returned.{Returned, accepted, heightIs, turnsAre, refused}
+use Rattle.refusals.specs.Outcome.{Outcome, accepted, refused}
+use Rattle.turns.specs.Written.{TurnsFound}
 
 abbrev pub partIn : ℕ → Val → Val
 partIn k vunit = vunit
@@ -26,7 +28,7 @@ partIn k (vstruct vs) = getV vs k
 abbrev pub numberIn : Val → ℕ
 numberIn v = asInt 0 v (λ w n. n)
 
-abbrev pub byTag : Val → Returned → Returned → Returned
+abbrev pub byTag : {A : Type 0} → Val → A → A → A
 byTag v first second = cond (eqb (numberIn (partIn 0 v)) 0) first second
 
 -- the tags of the refusals are their places in 01's two tables
@@ -34,18 +36,18 @@ abbrev pub refusalNumbers : List ℕ
 refusalNumbers = 1 ∷ 2 ∷ 3 ∷ 4 ∷ 5 ∷ 6 ∷ 7 ∷ 8 ∷ 9 ∷ 10 ∷ 11 ∷ 21 ∷ 22 ∷ 23 ∷ []
 
 -- "A refusal returns its number and a place"
-abbrev pub refusedIn : Val → Returned
+abbrev pub refusedIn : {A : Type 0} → Val → Outcome A
 refusedIn v = refused (getD refusalNumbers (numberIn (partIn 0 (partIn 1 v))) 0) (numberIn (partIn 2 v))
 
-abbrev pub answerIn : Val → Returned
-answerIn v = byTag v accepted (refusedIn v)
+abbrev pub answerIn : Val → Outcome Unit
+answerIn v = byTag v (accepted tt) (refusedIn v)
 
-abbrev pub heightIn : Val → Returned
-heightIn v = byTag v (heightIs (toZ w64 (numberIn (partIn 1 v)))) (refusedIn v)
+abbrev pub heightIn : Val → Outcome ℤ
+heightIn v = byTag v (accepted (toZ w64 (numberIn (partIn 1 v)))) (refusedIn v)
 
 -- "returned: how many, and whether the first is high"
-abbrev pub turnsIn : Val → Returned
-turnsIn v = byTag v (turnsAre (numberIn (partIn 1 v)) (asBool false (partIn 2 v) (λ t. t))) (refusedIn v)
+abbrev pub turnsIn : Val → Outcome TurnsFound
+turnsIn v = byTag v (accepted (record { count = numberIn (partIn 1 v); high = asBool false (partIn 2 v) (λ t. t) })) (refusedIn v)
 
 -- the numbers of an array
 unfoldable pub numbersIn : Vals → List ℕ

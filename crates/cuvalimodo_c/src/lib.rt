@@ -7,7 +7,7 @@ ghost use mathlib.Core.Path.{_≡_};
 ghost use mathlib.Core.Bool.{false};
 ghost use Rattle.card_file.specs.Cards.{readCards};
 ghost use Rattle.card_file.specs.Counts.{countsOf};
-ghost use Rattle.calls.specs.Returned.{answerReturned};
+ghost use Rattle.refusals.specs.Outcome.{outcomeOf};
 ghost use Rattle.clock.specs.Returned.{turnsReturned};
 ghost use Rattle.cuvalimodo_c.specs.Answers.{verdictOf, turningsOf};
 ghost use Rattle.cuvalimodo_c.specs.OneCall.{seriesOnce, turnsOnce, SeriesPost, TurnsPost};
@@ -39,7 +39,7 @@ pub struct Turnings {
 
 // An answer in numbers.
 fn told(answer: Answer) -> Verdict
-    ensures { λ r. ⌜ r ≡ verdictOf (answerReturned answer) ⌝ }
+    ensures { λ r. ⌜ r ≡ verdictOf (outcomeOf answer) ⌝ }
 {
     match answer {
         Answer::Accepted => Verdict {

@@ -1,7 +1,7 @@
 // A clock that is set in one call: from a card file, a station whose records lie in three arrays, and a date.
 ghost use mathlib.Core.Path.{_≡_};
 ghost use lib.ListN.{length};
-ghost use Rattle.calls.specs.Returned.{answerReturned};
+ghost use Rattle.refusals.specs.Outcome.{outcomeOf};
 ghost use Rattle.cuvalimodo_c.specs.Setting.{firstRefusal, settingReturned};
 ghost use Rattle.cuvalimodo_c.specs.declared.onecall.Setting.the-variants.{Uneven};
 ghost use Rattle.station.specs.Arrays.{recordsIn};
@@ -29,7 +29,7 @@ pub struct Ready {
 
 // The first of two answers that is a refusal.
 fn first_refusal(first: Answer, second: Answer) -> Answer
-    ensures { λ r. ⌜ answerReturned r ≡ firstRefusal (answerReturned first) (answerReturned second) ⌝ }
+    ensures { λ r. ⌜ outcomeOf r ≡ firstRefusal (outcomeOf first) (outcomeOf second) ⌝ }
 {
     match first {
         Answer::Accepted => {
@@ -43,7 +43,7 @@ fn first_refusal(first: Answer, second: Answer) -> Answer
 
 // What is said of a clock, from what the calls that set it say.
 fn setting_of(answer: Answer) -> Setting
-    ensures { λ r. ⌜ settingReturned r ≡ answerReturned answer ⌝ }
+    ensures { λ r. ⌜ settingReturned r ≡ outcomeOf answer ⌝ }
 {
     match answer {
         Answer::Accepted => {

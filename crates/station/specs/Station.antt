@@ -9,7 +9,7 @@ use lib.Dec.{eqb, leb, ltb}
 use lib.IntN.{ℤ, pos, negℤ}
 use lib.Signed.{ltZ}
 use Rattle.limits.specs.Limits.{mostAmplitude, mostLatitude, mostPhase, mostRecords}
-use Rattle.refusals.specs.Outcome.{Outcome, accepted, refuseIf, _>>=_, _>>_}
+use Rattle.refusals.specs.Outcome.{Outcome, accepted, refuseIf, _>>_}
 use Rattle.station.specs.declared.records.Record.{Record}
 
 -- "A station is a latitude in signed minutes [..] and at most 146 constituents [..] lent as one row of records: place, amplitude, phase."

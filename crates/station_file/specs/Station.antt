@@ -1,5 +1,6 @@
 -- 001, section 3.3: the station file, its cards in order. "Cards go line by line".
 -- Assumes nothing.
+use Prim.{Unit}
 use Prim.Native.Nat.{ℕ, _+_}
 use mathlib.Core.List.{List, [], _∷_, _++_}
 use lib.ListN.{length}
@@ -12,7 +13,7 @@ use Rattle.station_file.specs.Cards.{stationCard, nextRecord}
 
 -- what a station file comes to: an outcome, whose place is a line from 1; the latitude in minutes; the records, record k on line k + 1
 pub record StationFile : Type 0 where
-  pub outcome : Outcome
+  pub outcome : Outcome Unit
   pub latitude : ℤ
   pub records : List Record
 
@@ -22,7 +23,7 @@ refusedAt r line = record { outcome = refused r line; latitude = pos 0; records 
 
 -- a file that is accepted gives its latitude and its records
 abbrev pub acceptedWith : ℤ → List Record → StationFile
-acceptedWith latitude records = record { outcome = accepted; latitude = latitude; records = records }
+acceptedWith latitude records = record { outcome = accepted tt; latitude = latitude; records = records }
 
 -- where a card on line n leads: to the end, on with its record, or to the refusal that it earns
 abbrev pub onward : Next Record → ℕ → StationFile → (Record → StationFile) → StationFile

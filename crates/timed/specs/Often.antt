@@ -5,11 +5,12 @@ use mathlib.Core.Bool.{Bool, false}
 use mathlib.Core.List.{List}
 use lib.ListN.{getD, set}
 use lib.IntN.{ℤ, pos}
+use Rattle.refusals.specs.Outcome.{Outcome, accepted, onAccepted}
 use Rattle.station.specs.declared.records.Record.{Record}
 use Rattle.station.specs.Records.{recordsOf}
-use Rattle.calls.specs.State.{State, nothing}
-use Rattle.calls.specs.Returned.{Returned, accepted, heightIs, turnsAre, refused}
-use Rattle.calls.specs.Calls.{cardsLeaves, stationLeaves, dateLeaves, heightReturns, seriesGives, TurnsGiven, turnsGives}
+use Rattle.calls.specs.State.{State, emptyState}
+use Rattle.turns.specs.Written.{TurnsFound, TurnsGiven}
+use Rattle.calls.specs.Calls.{cardsLeaves, stationLeaves, dateLeaves, heightReturns, seriesGives, turnsGives}
 
 -- a station's records, the first n of the lent arrays
 abbrev pub recordsIn : List ℕ → List ℕ → List ℕ → ℕ → List Record
@@ -32,7 +33,7 @@ seriesOften k (suc n) heights = seriesGives k (n % 2) 1 (seriesOften k n heights
 
 -- the two buffers of a search for turns, from minute 0 in even turns and minute 1 in odd ones
 unfoldable pub turnsOften : State → ℕ → ℕ → List ℕ → List ℤ → TurnsGiven
-turnsOften k last zero minutes heights = record { returned = accepted; minutes = minutes; heights = heights }
+turnsOften k last zero minutes heights = record { returned = accepted (record { count = 0; high = false }); minutes = minutes; heights = heights }
 turnsOften k last (suc n) minutes heights =
     let before = turnsOften k last n minutes heights in turnsGives k (n % 2) last (before .minutes) (before .heights)
 
@@ -42,11 +43,8 @@ lastTurns k last n minutes heights =
     turnsGives k 0 last (turnsOften k last n minutes heights .minutes) (turnsOften k last n minutes heights .heights)
 
 -- the height that is given, or 0
-abbrev pub heightOrZero : Returned → ℤ
-heightOrZero (heightIs h) = h
-heightOrZero accepted = pos 0
-heightOrZero (turnsAre count high) = pos 0
-heightOrZero (refused number place) = pos 0
+abbrev pub heightOrZero : Outcome ℤ → ℤ
+heightOrZero returned = onAccepted returned (λ h. h) (pos 0)
 
 -- single heights at the first n of the minutes, each in the minute's place, 0 for a refused one
 unfoldable pub heightsAt : State → List ℕ → ℕ → List ℤ → List ℤ
@@ -56,15 +54,12 @@ heightsAt k minutes (suc n) heights =
 
 -- the state after a card file and a station, from nothing
 abbrev pub stationed : List ℕ → ℤ → List Record → State
-stationed file latitude records = stationLeaves (cardsLeaves nothing file) latitude records
+stationed file latitude records = stationLeaves (cardsLeaves emptyState file) latitude records
 
 -- the state after a card file, a station and a date, from nothing
 abbrev pub dated : List ℕ → ℤ → List Record → ℕ → ℕ → State
 dated file latitude records year month = dateLeaves (stationed file latitude records) year month
 
 -- whether the first turn is high
-abbrev pub firstHigh : Returned → Bool
-firstHigh (turnsAre count high) = high
-firstHigh accepted = false
-firstHigh (heightIs h) = false
-firstHigh (refused number place) = false
+abbrev pub firstHigh : Outcome TurnsFound → Bool
+firstHigh returned = onAccepted returned (λ f. f .high) false

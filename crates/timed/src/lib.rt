@@ -4,7 +4,7 @@ ghost use mathlib.Core.Path.{_≡_};
 ghost use Prim.Native.Nat.{min};
 ghost use lib.ListN.{length};
 ghost use Rattle.station.specs.Records.{recordsOf};
-ghost use Rattle.calls.specs.State.{nothing};
+ghost use Rattle.calls.specs.State.{emptyState};
 ghost use Rattle.calls.specs.Calls.{stationLeaves, dateLeaves, seriesGives};
 ghost use Rattle.clock.specs.View.{view, Made};
 ghost use Rattle.timed.specs.Often.{recordsIn, readOften, datedOften, seriesOften, lastTurns, heightsAt, stationed, dated, firstHigh};
@@ -72,7 +72,7 @@ pub extern "C" fn timed_cards<'a>(
     repeats: u32,
     heights: &mut [i64],
 )
-    ensures { λ _. ⌜ now (heights .exit) ≡ seriesGives (dateLeaves (stationLeaves (readOften nothing (now (file .entry)) repeats) latitude (recordsIn (now (places .entry)) (now (amplitudes .entry)) (now (phases .entry)) records)) year month) 0 1 (now (heights .entry)) .heights ⌝ }
+    ensures { λ _. ⌜ now (heights .exit) ≡ seriesGives (dateLeaves (stationLeaves (readOften emptyState (now (file .entry)) repeats) latitude (recordsIn (now (places .entry)) (now (amplitudes .entry)) (now (phases .entry)) records)) year month) 0 1 (now (heights .entry)) .heights ⌝ }
 {
     let rows = rows_from(places, amplitudes, phases);
     let tabled = often::read_often(clock::new(), file, repeats);

@@ -1,11 +1,10 @@
 -- What an accepted call has passed. By the cases of an outcome. Assumes nothing.
-use Prim.{Unit}
 use mathlib.Core.Path.{_≡_, refl}
 use Prim.Native.Nat.{ℕ, _≤_}
 use mathlib.Core.Bool.{Bool, true, false, _||_, true≢false}
 use lib.Dec.{ltb}
 use borrow.Author.Tests.{ltb-false}
-use Rattle.refusals.specs.Outcome.{Outcome, accepted}
+use Rattle.refusals.specs.Outcome.{accepted}
 use Rattle.refusals.proofs.Laws.{not-both}
 use Rattle.calls.specs.Asked.{minuteOutside, seriesOutside, turnsOutside, stepOutside, lastMinute}
 use Rattle.calls.specs.inner.Flags.{minutesBy}

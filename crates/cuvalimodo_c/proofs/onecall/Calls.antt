@@ -2,11 +2,12 @@
 -- Assumes nothing.
 use mathlib.Core.Path.{_≡_, sym, ap, ap₂, _∙_}
 use Prim.Native.Nat.{ℕ, min}
-use native.Mathlib.Omega.{arith}
 use mathlib.Core.Bool.{Bool, true, false}
 use mathlib.Core.List.{List}
 use lib.ListN.{length}
 use lib.IntN.{ℤ}
+use Rattle.refusals.specs.Outcome.{refused, outcomeOf}
+use Rattle.refusals.proofs.Laws.{not-both}
 use Rattle.refusals.specs.declared.Answer.{Answer}
 use Rattle.station.specs.declared.records.Record.{Record}
 use Rattle.station.specs.declared.records.Rows.{Rows}
@@ -14,8 +15,7 @@ use Rattle.station.specs.Records.{recordsOf}
 use Rattle.station.specs.inner.Rows.{rowsUpto}
 use Rattle.station.proofs.records.Copies.{records-length}
 use Rattle.clock.specs.declared.Clock.{Clock}
-use Rattle.calls.specs.State.{State, nothing}
-use Rattle.calls.specs.Returned.{accepted, refused, answerReturned}
+use Rattle.calls.specs.State.{State, emptyState}
 use Rattle.calls.specs.Calls.{cardsLeaves, stationReturns, stationLeaves, dateReturns, dateLeaves}
 use Rattle.clock.specs.View.{view}
 use Rattle.clock.specs.Posts.{NewPost, CardsPost, StationPost, DatePost}
@@ -39,14 +39,14 @@ placed c latitude ps ms fs rows answer left e p =
 -- a date after a station: the first refusal is said
 pub dated : (carded : Answer) (stationed after : After) (year month : ℕ) (later answer : Answer) (setting : Setting)
     → DatePost (stationed .clock) year month (after .answer) (after .clock)
-    → answerReturned later ≡ firstRefusal (answerReturned (stationed .answer)) (answerReturned (after .answer))
-    → answerReturned answer ≡ firstRefusal (answerReturned carded) (answerReturned later)
-    → settingReturned setting ≡ answerReturned answer
+    → outcomeOf later ≡ firstRefusal (outcomeOf (stationed .answer)) (outcomeOf (after .answer))
+    → outcomeOf answer ≡ firstRefusal (outcomeOf carded) (outcomeOf later)
+    → settingReturned setting ≡ outcomeOf answer
     → DatedPost carded stationed year month (record { setting = setting; clock = after .clock })
 dated carded stationed after year month later answer setting date second first said =
     record {
       made = date .made;
-      returns = said ∙ first ∙ ap (firstRefusal (answerReturned carded)) (second ∙ ap (firstRefusal (answerReturned (stationed .answer))) (date .returns));
+      returns = said ∙ first ∙ ap (firstRefusal (outcomeOf carded)) (second ∙ ap (firstRefusal (outcomeOf (stationed .answer))) (date .returns));
       leaves = date .leaves;
     }
 
@@ -62,10 +62,10 @@ module _ (file : List ℕ) (latitude : ℤ) (records : List Record) (year month 
         leaves = date .leaves ∙ ap (λ (k : State). dateLeaves k year month) after-station;
       }
     where
-      after-cards : view (cards .clock) ≡ cardsLeaves nothing file
+      after-cards : view (cards .clock) ≡ cardsLeaves emptyState file
       after-cards = carded .leaves ∙ ap (λ (k : State). cardsLeaves k file) (fresh .leaves)
 
-      after-station : view (station .clock) ≡ stationLeaves (cardsLeaves nothing file) latitude records
+      after-station : view (station .clock) ≡ stationLeaves (cardsLeaves emptyState file) latitude records
       after-station = stationed .leaves ∙ ap (λ (k : State). stationLeaves k latitude records) after-cards
 
 -- ---- with the records in three arrays
@@ -79,7 +79,7 @@ module _ (file : List ℕ) (latitude : ℤ) (ps ms fs : List ℕ) (year month : 
   unfolding setOnce
   ready-uneven e place is says fresh =
       let told : settingReturned (r .setting) ≡ refused 100 place = ap settingReturned says in
-      record { made = fresh .made; returns = rw (e, ← is) told; leaves = λ no. let odd : refused 100 place ≡ accepted = sym told ∙ no in let z : _≡_ {A = ℕ} 0 1 = cc in absurd (omega arith) }
+      record { made = fresh .made; returns = rw (e, ← is) told; leaves = λ no. not-both (sym told ∙ no) }
 
   pub ready-even : Even true → SetPost file latitude (recordsIn ps ms fs) year month r → ReadyPost file latitude ps ms fs year month r
   unfolding setOnce

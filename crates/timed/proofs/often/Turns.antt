@@ -6,7 +6,7 @@ use native.Mathlib.Numerals.{unary-clauses}
 use lib.ListN.{getD, set}
 use lib.IntN.{ℤ}
 use Rattle.calls.specs.State.{State}
-use Rattle.calls.specs.Returned.{Returned}
+use Rattle.refusals.specs.Outcome.{Outcome}
 use Rattle.calls.specs.Calls.{cardsLeaves, dateLeaves, heightReturns, seriesGives, turnsGives}
 use Rattle.timed.specs.Often.{readOften, datedOften, seriesOften, turnsOften, heightOrZero, heightsAt}
 
@@ -56,7 +56,7 @@ module _ (k : State) (minutes : List ℕ) (heights : List ℤ) where
   unfolding heightsAt
   places-none = refl
 
-  pub places-more : (n : ℕ) (r : Returned) (left : List ℤ) → r ≡ heightReturns k (getD minutes n 0) → left ≡ heightsAt k minutes n heights
+  pub places-more : (n : ℕ) (r : Outcome ℤ) (left : List ℤ) → r ≡ heightReturns k (getD minutes n 0) → left ≡ heightsAt k minutes n heights
       → set left n (heightOrZero r) ≡ heightsAt k minutes (n + 1) heights
   unfolding heightsAt
-  places-more n r left e f = simp unary-clauses (ap₂ (λ (x : Returned) (y : List ℤ). set y n (heightOrZero x)) e f)
+  places-more n r left e f = simp unary-clauses (ap₂ (λ (x : Outcome ℤ) (y : List ℤ). set y n (heightOrZero x)) e f)

@@ -3,7 +3,7 @@ use mathlib.Core.Path.{sym, _∙_, ap, ap₂, subst}
 use Prim.Native.Nat.{ℕ}
 use borrow.Author.Needs.{needs}
 use lib.Dec.{lit<}
-use lib.IntN.{ℤ, natAbs}
+use lib.IntN.{ℤ}
 use mir.Syntax.{w8}
 use mir.ValLaws.{toZ-ofZ}
 use Rattle.angles.proofs.Known.{fits}

@@ -2,7 +2,7 @@
 use native.Mathlib.Omega.{arith}
 use mathlib.Core.Path.{_∙_, ap, _≡_, refl}
 use Prim.Native.Nat.{ℕ, _-_, _≤_}
-use Rattle.calls.specs.Calls.{TurnsGiven}
+use Rattle.turns.specs.Written.{TurnsGiven}
 use Rattle.timed.proofs.often.Turns.{minutes-none, heights-none, turns-more}
 use borrow.Author.Needs.{needs}
 use Rattle.clock.specs.View.{view}
