@@ -18,7 +18,7 @@ import kit
 
 TRACE = kit.ROOT / "docs" / "TRACE.md"
 LABEL = re.compile(r"(?:([a-z_]+) )?([a-z0-9_]+)(\*?)$")
-WORD = re.compile(r"\b(law|theorem)s?\b|\b(inner )?([a-z]\w*)(?= `| [A-Z]\w*(?: `|[;:,]|\s*$))|\b([A-Z]\w*)(?= `|[;:,]|\s*$)|`([^`]+)`|;")
+WORD = re.compile(r"\b(law|theorem)s?\b|\b(inner )?([a-z]\w*)(?= `| (?:law|theorem)s? `| [A-Z]\w*(?: `|[;:,]|\s*$))|\b([A-Z]\w*)(?= `|[;:,]|\s*$)|`([^`]+)`|;")
 
 
 def folders(crate, label):
@@ -47,6 +47,14 @@ def marked(piece):
     return plain + "*" if wrong(plain) and not wrong(plain + "*") else plain
 
 
+def is_declared(name, crate, pattern):
+    """Whether a crate's files of a pattern declare a name: a function or type of the code, or what has a type in the proof language."""
+    code = r"^\s*(?:pub )?(?:fn|struct|enum|const) %s\b"
+    proof = r"^\s*(?:(?:pub|abbrev|unfoldable|data|record) )*%s(?: [({].*)? :"
+    said = (code if pattern.endswith(".rt") else proof) % re.escape(name)
+    return re.search(said, check_names.text_of(crate, pattern), re.M) is not None
+
+
 def unknown(line):
     """The names of a table's line, between its first column and its last, that are not there."""
     crate, inner = None, ""
@@ -65,7 +73,7 @@ def unknown(line):
                 proved = True
             elif name:
                 where = "proofs/**/*.antt" if proved else f"specs/{inner}{file or '*'}.antt" if file or column == "specs" else "src/**/*.rt"
-                if not crate or not check_names.is_said(name, crate, (where,)):
+                if not crate or not is_declared(name, crate, where):
                     yield f"{crate} `{name}` in {where}"
             else:
                 file, proved = None, False
