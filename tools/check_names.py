@@ -7,7 +7,7 @@ It looks for
 - links `[..](FILE)`, and paths that begin with one of the repository's folders (`crates/clock/src/lib.rt`, `tools/kit.py`);
 - paths in a crate, `claim/specs/Document.antt`, `turns/specs`;
 - paths of code, `crate::module::name`: the crate, its module, and the name where one is given;
-- in the tables of docs/TRACE.md and docs/DECISIONS.md, names behind a crate's: turns Search `turnsFrom`; heights `share_at`.
+- in the tables of docs/DECISIONS.md, names behind a crate's: turns Search `turnsFrom`; heights `share_at` (tools/check_trace.py looks up those of docs/TRACE.md).
 A word in capitals stands for any name (`crates/CRATE/specs/`). And the floors of docs/ARCHITECTURE.md must have the crates that those of crates.txt have.
 """
 
@@ -75,7 +75,7 @@ def missing(paper, line):
     for path in CODE.findall(line):
         if missing_code(path):
             yield f"{path}: {missing_code(path)}"
-    if line.startswith("|") and paper.name in ("TRACE.md", "DECISIONS.md"):
+    if line.startswith("|") and paper.name == "DECISIONS.md":
         for crate, file, names in BEHIND.findall(line):
             if crate in kit.crates():
                 yield from missing_behind(crate, file, names)

@@ -1,7 +1,12 @@
 #!/usr/bin/env python3
 """Writes the script that the program replay is run on: tools/replay_example.py > crates/replay/stdin.
 
-The manual's sample, Victoria in July 1976, with calls before, between and behind it that are refused.
+The manual's sample, Victoria in July 1976, with calls before, between and behind it that are refused; then document 01's cases "Checked against". What the program must answer
+(crates/replay/stdout) is what the second code answers, and
+
+    tools/replay_example.py --paper crates/replay/stdout
+
+fails where that is not what document 01 itself gives for its cases.
 """
 
 import json
@@ -12,27 +17,44 @@ HERE = os.path.dirname(os.path.abspath(__file__))
 DATA = os.path.join(HERE, "..", "data")
 sys.path.insert(0, os.path.join(HERE, "..", "second"))
 
-from cards import read_card_file
+from clock import Clock
+
+LAST = 44_640
+
+
+def read(name):
+    with open(os.path.join(DATA, name), "rb") as file:
+        return file.read()
+
+
+CARDS = read("standard-cards.txt")
+
+
+def clock_with(latitude, records):
+    """The second code's clock in July 1976."""
+    clock = Clock()
+    clock.set_cards(CARDS)
+    clock.set_station(latitude, records)
+    clock.set_date(1976, 7)
+    return clock
+
+
+PLACES = {name.rstrip().decode(): place for place, (name, _) in enumerate(clock_with(0, []).table.frequencies)}
 
 
 def station(latitude, records):
     return b"station %d %d\n" % (latitude, len(records)) + b"".join(b"%d %d %d\n" % record for record in records)
 
 
-def main():
-    with open(os.path.join(DATA, "standard-cards.txt"), "rb") as file:
-        cards = file.read()
-    with open(os.path.join(DATA, "victoria-1976-07.json")) as file:
-        sample = json.load(file)["prediction"]
-    places = {name: place for place, (name, _) in enumerate(read_card_file(cards).frequencies)}
-    records = [
-        (places[c["name"].encode().ljust(5)], c["amplitude_e4"], c["phase_e2"]) for c in sample["constituents"]
-    ]
-    latitude = sample["station"]["latitude_minutes_signed"]
-    calls = [
+def sample():
+    """The manual's sample among other calls."""
+    prediction = json.loads(read("victoria-1976-07.json"))["prediction"]
+    records = [(PLACES[c["name"]], c["amplitude_e4"], c["phase_e2"]) for c in prediction["constituents"]]
+    latitude = prediction["station"]["latitude_minutes_signed"]
+    return [
         b"height 0\n",
         b"cards 9\nno cards\n\n",
-        b"cards %d\n%s\n" % (len(cards), cards),
+        b"cards %d\n%s\n" % (len(CARDS), CARDS),
         b"date 1976 7\n",
         station(5_401, records),
         station(latitude, [(0, 0, 0)] * 147),
@@ -56,9 +78,60 @@ def main():
         b"date 2049 12\n",
         b"turns 0 44640 0 0\n",
         b"series 44640 1440 1\n",
-        b"height -1\n",
     ]
-    sys.stdout.buffer.write(b"".join(calls))
+
+
+def stride_cases(records, stride):
+    """A search from just before a turn on finds it where one stride fits in, and none where it does not; both with what they must answer."""
+    first = clock_with(0, records).turns(0, LAST, LAST, LAST)[0][0][0] - 1
+    return [
+        (station(0, records), b"accepted"),
+        (b"date 1976 7\n", b"accepted"),
+        (b"turns %d %d 1 1\n" % (first, first + stride - 1), b"turns 0 0"),
+        (b"turns %d %d 1 1\n" % (first, first + stride), b"turns 1 "),
+    ]
+
+
+def cases():
+    """01's cases: calls, each with how its answer begins; None where the answer must be that of the call four before."""
+    tides = [(PLACES["K1"], 3_000, 100), (PLACES["O1"], 2_000, 0), (PLACES["M2"], 9_000, 200)]
+    for lag, wanted in ((0, 65_535), (18_000, -65_535), (9_000, 0)):
+        yield station(0, [(PLACES["Z0"], 65_535, lag)]), b"accepted"
+        yield b"date 1976 0\n", b"refused 8 0"
+        yield b"date 1976 13\n", b"refused 8 0"
+        yield b"date 1976 7\n", b"accepted"
+        yield b"height 1\n", b"height %d" % wanted
+        yield b"turns 0 %d 0 0\n" % LAST, b"turns 0 0"
+    for daily, twice, stride in ((100, 400, 180), (101, 400, 30), (301, 100, 360), (300, 100, 30)):
+        yield from stride_cases([(PLACES["K1"], daily, 0), (PLACES["M2"], twice, 0)], stride)
+    yield from stride_cases([(PLACES["N2"], 1_000, 0)], 180)
+    for latitude, wanted in ((4 * 60 + 59, b"heights "), (5 * 60, None)):
+        yield station(latitude, tides), b"accepted"
+        yield b"date 1976 7\n", b"accepted"
+        yield b"height 0\n", b"height "
+        yield b"series 0 1440 32\n", wanted
+    yield station(0, [(0, 65_535, 0)]), b"accepted"
+    yield station(0, [(0, 65_536, 0)]), b"refused 3 1"
+    yield station(0, [(0, 0, 0)] * 147), b"refused 6 147"
+
+
+def differ(answers):
+    """The cases whose answers, in their order behind the sample's, are not the paper's."""
+    answers = answers[len(sample()) :]
+    for k, (call, wanted) in enumerate(cases()):
+        given = answers[k]
+        if not (given == answers[k - 4] if wanted is None else given == wanted or wanted.endswith(b" ") and given.startswith(wanted)):
+            yield call, given
+
+
+def main():
+    if sys.argv[1:2] == ["--paper"]:
+        with open(sys.argv[2], "rb") as file:
+            found = list(differ(file.read().split(b"\n")))
+        for call, given in found:
+            print(f"{call[:60]!r}: {given[:60]!r} is not what document 01 gives")
+        sys.exit(len(found) > 0)
+    sys.stdout.buffer.write(b"".join(sample() + [call for call, _ in cases()] + [b"height -1\n"]))
 
 
 if __name__ == "__main__":

@@ -1,4 +1,4 @@
--- REPLAY.md, "Input": one line of a script, without its LF, as the call or the record that it says; Bad where it is not of the form.
+-- docs/FORMATS.md, "The list of calls that `replay` plays": one line of a script, without its LF, as the call or the record that it says; Bad where it is not of the form.
 use Prim.Native.Nat.{ℕ, _-_, _^_}
 use mathlib.Core.List.{List, [], _∷_}
 use mathlib.Core.Bool.{Bool, false, cond}

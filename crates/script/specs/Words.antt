@@ -1,4 +1,4 @@
--- REPLAY.md, "Input": the words of a line, without its LF, and the decimal numbers among them. Assumes nothing.
+-- docs/FORMATS.md, "The list of calls that `replay` plays": the words of a line, without its LF, and the decimal numbers among them. Assumes nothing.
 use Prim.Native.Nat.{ℕ, _+_, _*_, _-_}
 use mathlib.Core.List.{List, [], _∷_}
 use mathlib.Core.Bool.{Bool, cond, _&&_}
