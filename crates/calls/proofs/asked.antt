@@ -1,2 +1,1 @@
-pub mod Past
 pub mod Passed

@@ -1,5 +1,6 @@
 pub mod State
 pub mod Asked
+pub mod Reasons
 pub mod Calls
 pub mod Names
 pub mod inner

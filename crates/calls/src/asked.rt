@@ -3,7 +3,8 @@ ghost use mathlib.Core.Path.{_≡_};
 ghost use Rattle.refusals.specs.Outcome.{outcomeOf};
 ghost use Rattle.calls.specs.Asked.{minuteOutside, seriesOutside, turnsOutside};
 ghost use Rattle.calls.specs.inner.Flags.{minutesBy};
-use limits::STEP;
+use crate::reasons;
+use crate::reasons::Reason;
 use refusals::Answer;
 use refusals::Refusal;
 
@@ -37,19 +38,13 @@ pub fn height_answer(tabled: bool, stationed: bool, dated: bool, last: u64, minu
 fn series_outside(last: u64, start: u64, step: u64, places: usize) -> bool
     ensures { λ r. ⌜ r ≡ seriesOutside last start step places ⌝ }
 {
-    if last < start {
-        return true;
+    let reason = reasons::series_reason(last, start, step, places);
+    match reason {
+        Reason::Within => false,
+        Reason::Start => true,
+        Reason::Step => true,
+        Reason::End => true,
     }
-    if step < 1 {
-        return true;
-    }
-    if STEP < step {
-        return true;
-    }
-    if places == 0 {
-        return false;
-    }
-    (last - start) / step < places as u64 - 1
 }
 
 // What a series of so many heights asks.

@@ -7,7 +7,6 @@ ghost use Prim.Native.Nat.{_+_};
 ghost use lib.ListN.{length};
 ghost use Rattle.commandline.specs.Days.{DayAsked};
 ghost use Rattle.commandline.specs.Words.{defaultByte, wordAt};
-use digits::dates;
 use digits::texts;
 use fields::Field;
 use fields::Format;
@@ -19,7 +18,7 @@ pub enum Asked {
     Month(u32, u32),
     Day(u32, u32, u32, u32),
     Heights(u32, u32, u32),
-    Series(u32, u32, u32, u32, u32),
+    Series(u32, u32, u32, u32, u32, u32),
     MonthDrawing(u32, u32),
     DayDrawing(u32, u32, u32),
     Wrong(Wrong, usize),
@@ -448,14 +447,14 @@ fn fitting(plain: usize, starts: [usize; 8], kinds: [u8; 8], form: Form) -> Fit 
     misfit(form.time, k, start_at(starts, k))
 }
 
-// A series' minute, step and count behind its year and month. The fourth word, which begins at `day`, is wrong where it is no day.
+// A series' day, minute, step and count behind its year and month. The fourth word, which begins at `day`, is wrong where it is no day.
 fn series_of(day: usize, v: [u32; 8]) -> Asked
     ensures { λ r. ⌜ DayAsked r ⌝ }
 {
     if v[3] < 1 {
         return Asked::Wrong(Wrong::NotDay, day);
     }
-    Asked::Series(v[1], v[2], dates::minute_of_month(v[3], v[4]), v[5], v[6])
+    Asked::Series(v[1], v[2], v[3], v[4], v[5], v[6])
 }
 
 // A day's numbers.

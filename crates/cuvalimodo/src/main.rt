@@ -148,7 +148,7 @@ fn asked_date(asked: Asked) -> Date {
         Asked::Month(year, month) => date_of(year, month, 0),
         Asked::Day(year, month, day, _) => date_of(year, month, day),
         Asked::Heights(year, month, _) => date_of(year, month, 0),
-        Asked::Series(year, month, _, _, _) => date_of(year, month, 0),
+        Asked::Series(year, month, day, _, _, _) => date_of(year, month, day),
         Asked::MonthDrawing(year, month) => date_of(year, month, 0),
         Asked::DayDrawing(year, month, day) => date_of(year, month, day),
         Asked::Help => date_of(0, 0, 0),
@@ -165,8 +165,8 @@ fn show(clock: Clock, face: Face, date: Date, asked: Asked)
         Asked::Month(_, _) => views::month(clock, face, date),
         Asked::Day(_, _, _, minute) => views::day(clock, face, date, minute),
         Asked::Heights(_, _, step) => views::heights(clock, face, date, step),
-        Asked::Series(_, _, start, step, count) => {
-            views::series(clock, face, date, start, step, count)
+        Asked::Series(_, _, _, minute, step, count) => {
+            views::series(clock, face, date, minute, step, count)
         }
         Asked::MonthDrawing(_, _) => drawing::month(clock, face, date),
         Asked::DayDrawing(_, _, _) => drawing::day(clock, face, date),
@@ -353,7 +353,7 @@ fn run(words: &[u8]) {
         Asked::Month(_, _) => with_files(words, request),
         Asked::Day(_, _, _, _) => with_files(words, request),
         Asked::Heights(_, _, _) => with_files(words, request),
-        Asked::Series(_, _, _, _, _) => with_files(words, request),
+        Asked::Series(_, _, _, _, _, _) => with_files(words, request),
         Asked::MonthDrawing(_, _) => with_files(words, request),
         Asked::DayDrawing(_, _, _) => with_files(words, request),
     }

@@ -92,7 +92,9 @@ pub fn day(clock: Clock, face: Face, date: Date)
     let answer = clock::series(clock, start, 5, &mut heights);
     match answer {
         Answer::Accepted => day_turns(clock, face, date, &heights),
-        Answer::Refused(refusal, _) => messages::refused_number(b"day", date.day as u64, refusal),
+        Answer::Refused(refusal, _) => {
+            messages::refused_day(date.year, date.month, date.day, refusal)
+        }
     }
 }
 

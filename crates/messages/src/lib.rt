@@ -1,11 +1,15 @@
 // What the program says of a refusal or of a command line that it cannot follow: one line on standard error each.
 mod pieces; // pieces of a line
 mod phrases; // which words say what
+pub mod matters; // what a refusal of minutes is about
 
 use commandline::Wrong;
+use digits::dates;
+use digits::texts;
 use faults::Fault;
 use libc::STDERR_FILENO;
 use libc::STDOUT_FILENO;
+use limits::STEP;
 use refusals::Refusal;
 
 // Says a piece of text.
@@ -56,12 +60,17 @@ pub fn refused(file: &[u8], line: usize, fault: Fault, refusal: Refusal) {
     say_refusal(refusal);
 }
 
-// SUBJECT NUMBER: words (refusal n), for what was asked with a number.
-pub fn refused_number(subject: &[u8], number: u64, refusal: Refusal) {
+// Says the start of a line on what was asked with a number.
+fn say_subject(subject: &[u8], number: u64) {
     say(subject);
     say(b" ");
     say_number(number);
     say(b": ");
+}
+
+// SUBJECT NUMBER: words (refusal n), for what was asked with a number.
+pub fn refused_number(subject: &[u8], number: u64, refusal: Refusal) {
+    say_subject(subject, number);
     pieces::write_general(STDERR_FILENO, refusal);
     say_refusal(refusal);
 }
@@ -69,6 +78,47 @@ pub fn refused_number(subject: &[u8], number: u64, refusal: Refusal) {
 // month NUMBER: words (refusal n), for a month that the clock refuses.
 pub fn refused_month(month: u32, refusal: Refusal) {
     refused_number(b"month", month as u64, refusal)
+}
+
+// Says a month and its year, as February 2026.
+fn say_month(year: u32, month: u32) {
+    let name = dates::month_name(month);
+    say(texts::trimmed(&name));
+    say(b" ");
+    say_number(year as u64);
+}
+
+// day NUMBER: MONTH has so many days (refusal n), for a day that the clock refuses; the general words where the month has that day.
+pub fn refused_day(year: u32, month: u32, day: u32, refusal: Refusal) {
+    if !matters::lacks_day(refusal, year, month, day) {
+        refused_number(b"day", day as u64, refusal);
+        return;
+    }
+    say_subject(b"day", day as u64);
+    say_month(year, month);
+    say(b" has ");
+    say_number(calendar::month_days(year, month) as u64);
+    say(b" days");
+    say_refusal(refusal);
+}
+
+// step NUMBER: a step is 1 to 1440 minutes (refusal n), for a step out of range.
+pub fn refused_step(step: u32, refusal: Refusal) {
+    say_subject(b"step", step as u64);
+    say(b"a step is 1 to ");
+    say_number(STEP);
+    say(b" minutes");
+    say_refusal(refusal);
+}
+
+// count NUMBER: the series runs past the end of MONTH, whose last minute is N (refusal n)
+pub fn refused_count(year: u32, month: u32, count: u32, refusal: Refusal) {
+    say_subject(b"count", count as u64);
+    say(b"the series runs past the end of ");
+    say_month(year, month);
+    say(b", whose last minute is ");
+    say_number(calendar::month_minutes(year, month) as u64);
+    say_refusal(refusal);
 }
 
 // FILE: it is too large.

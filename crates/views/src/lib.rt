@@ -20,7 +20,7 @@ use sheets::monthsheet;
 
 // Says that the clock refused the day.
 fn say_day(date: Date, refusal: Refusal) {
-    messages::refused_number(b"day", date.day as u64, refusal)
+    messages::refused_day(date.year, date.month, date.day, refusal)
 }
 
 // Writes the sheet of a month's turns.

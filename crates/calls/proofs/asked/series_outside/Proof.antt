@@ -1,36 +1,38 @@
--- `calls::asked::series_outside` meets its contract: the start, the step, then the last minute, by the laws of `Past`. Assumes nothing.
+-- `calls::asked::series_outside` meets its contract: it is outside where a question turns it down. Assumes nothing.
 use borrow.Author.Needs.{needs}
-use native.Mathlib.Omega.{arith}
 use mathlib.Core.Path.{sym, _∙_}
-use borrow.Author.Tests.{lt-ltb, le-ltb}
 use Rattle.calls.proofs.asked.series_outside.Statement.{statement}
 use Rattle.calls.proofs.asked.series_outside.Tie as tie
-use Rattle.calls.proofs.asked.Past.{in-range, past-is, none-past}
+use Rattle.calls.proofs.reasons.Past.{outside-is}
+
+series-reason-requires : tie.Need-series-reason-requires
+series-reason-requires c κs = search needs
+
+enum-told : tie.Need-enum-told
+enum-told c = search needs
+
+enum-told-2 : tie.Need-enum-told-2
+enum-told-2 c = search needs
+
+enum-told-3 : tie.Need-enum-told-3
+enum-told-3 c = search needs
+
+enum-told-4 : tie.Need-enum-told-4
+enum-told-4 c = search needs
 
 returns : tie.Need-returns
-returns c = simp (lt-ltb _ _ (c .if1 .taken))
+returns c = outside-is _ _ _ _ (sym (c .enum-told .given .1) ∙ c .before .before .series-reason .ensures)
 
 returns-2 : tie.Need-returns-2
-returns-2 c = simp (le-ltb _ _ (c .before .if1 .left), lt-ltb _ _ (c .if2 .taken))
+returns-2 c = outside-is _ _ _ _ (sym (c .enum-told2 .given .1) ∙ c .before .before .series-reason .ensures)
 
 returns-3 : tie.Need-returns-3
-returns-3 c = simp (le-ltb _ _ (c .before .before .if1 .left), le-ltb _ _ (c .before .if2 .left), lt-ltb _ _ (c .if3 .taken))
+returns-3 c = outside-is _ _ _ _ (sym (c .enum-told3 .given .1) ∙ c .before .before .series-reason .ensures)
 
 returns-4 : tie.Need-returns-4
-returns-4 c =
-    let x = c .before .before .before .before .args in
-    none-past (x .last) (x .start) (x .step) (x .places) (omega arith) (c .if4 .taken) ∙ sym (in-range (x .last) (x .start) (x .step) (omega arith) (omega arith) (omega arith))
-
-div-result : tie.Need-div-result
-div-result c = search needs
-
-sub-result : tie.Need-sub-result
-sub-result c = search needs
-
-returns-5 : tie.Need-returns-5
-returns-5 c =
-    let x = c .before .before .before .before .args in
-    past-is (x .last) (x .start) (x .step) (x .places) (omega arith) (omega arith) (omega arith) ∙ sym (in-range (x .last) (x .start) (x .step) (omega arith) (omega arith) (omega arith))
+returns-4 c = outside-is _ _ _ _ (sym (c .enum-told4 .given .1) ∙ c .before .before .series-reason .ensures)
 
 pub series-outside-spec : {M : Type 1} → statement M
-series-outside-spec = tie.close (tie.spec returns returns-2 returns-3 returns-4 div-result sub-result returns-5)
+series-outside-spec =
+    tie.close
+    (tie.spec series-reason-requires enum-told enum-told-2 enum-told-3 enum-told-4 returns returns-2 returns-3 returns-4)

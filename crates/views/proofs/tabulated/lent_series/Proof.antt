@@ -29,11 +29,11 @@ write-rows-requires c κs = search needs
 enum-known-answer : tie.Need-enum-known-answer
 enum-known-answer c = search needs
 
-slice-aggregate-refused-number : tie.Need-slice-aggregate-refused-number
-slice-aggregate-refused-number c = search needs
+series-matter-requires : tie.Need-series-matter-requires
+series-matter-requires c κs = search needs
 
-refused-number-requires : tie.Need-refused-number-requires
-refused-number-requires c κs = search needs
+say-series-requires : tie.Need-say-series-requires
+say-series-requires c κs = search needs
 
 same-length : tie.Need-same-length
 same-length c = search needs
@@ -59,8 +59,8 @@ lent-series-spec =
     enum-told
     write-rows-requires
     enum-known-answer
-    slice-aggregate-refused-number
-    refused-number-requires
+    series-matter-requires
+    say-series-requires
     same-length
     returns-2
     same-length-2

@@ -1,16 +1,22 @@
--- What a series asks of its minutes: the last one by a quotient. Assumes nothing.
-use mathlib.Core.Path.{_≡_, refl, sym}
+-- What a series asks of its minutes: which question turns it down, and the last minute by a quotient. Assumes nothing.
+use mathlib.Core.Path.{_≡_, refl, sym, ap, _∙_}
 use Prim.Native.Nat.{ℕ, _+_, _-_, _*_, _/_, _≤_, _<_}
-use mathlib.Core.Bool.{Bool, true, false, _||_}
+use mathlib.Core.Bool.{Bool, true, false, _||_, cond}
 use native.Mathlib.Omega.{arith}
 use native.Mathlib.Nat.{div-lt-iff-lt-mul}
 use lib.Dec.{ltb}
 use borrow.Author.Tests.{le-ltb, ltb-true, ltb-false}
+use Rattle.limits.specs.Limits.{mostStep}
 use Rattle.calls.specs.Asked.{stepOutside, lastMinute}
+use Rattle.calls.specs.Reasons.{seriesReason}
+use Rattle.calls.specs.declared.reasons.Reason.{Reason}
+use Rattle.calls.specs.declared.reasons.Reason.the-variants.{Within, Start, Step, End}
 
 -- a start in the month and a step in range leave the last minute to be asked
-pub in-range : (last start step : ℕ) {b : Bool} → start ≤ last → 1 ≤ step → step ≤ 1_440 → ltb last start || stepOutside step || b ≡ b
-in-range last start step h k l = simp (le-ltb last start h, le-ltb step 1 k, le-ltb 1_440 step l)
+pub in-range : (last start step places : ℕ) → start ≤ last → 1 ≤ step → step ≤ mostStep
+    → seriesReason last start step places ≡ cond (ltb last (lastMinute start step places)) End Within
+unfolding seriesReason
+in-range last start step places h k l = simp (le-ltb last start h, le-ltb step 1 k, le-ltb mostStep step l)
 
 -- a quotient below n - 1 is a last minute past the month's
 pub past-is : (last start step places : ℕ) → start ≤ last → 0 < step → 0 < places
@@ -38,3 +44,22 @@ pub none-past : (last start step places : ℕ) → start ≤ last → places ≡
 none-past last start step places h e =
     let l : start + (places - 1) * step ≤ last = rw e (omega arith) in
     sym (le-ltb last (lastMinute start step places) l)
+
+-- whether a question turns a series down
+abbrev pub outside : Reason → Bool
+outside Within = false
+outside Start = true
+outside Step = true
+outside End = true
+
+-- one of the three does where it is outside
+pub outside-is : (last start step places : ℕ) {told : Reason} → told ≡ seriesReason last start step places
+    → outside told ≡ (ltb last start || stepOutside step || ltb last (lastMinute start step places))
+unfolding seriesReason
+outside-is last start step places e = ap outside e ∙ three (ltb last start) (stepOutside step) (ltb last (lastMinute start step places))
+  where
+    three : (a b c : Bool) → outside (cond a Start (cond b Step (cond c End Within))) ≡ (a || b || c)
+    three true b c = refl
+    three false true c = refl
+    three false false true = refl
+    three false false false = refl
