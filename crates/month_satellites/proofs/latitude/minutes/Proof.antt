@@ -19,6 +19,12 @@ returns : tie.Need-returns
 unfolding latitudeSize
 returns c = let s = c .before .before .before in omega (arith, size-through w32 (s .args .latitude) (c .before .before .wide .result) (c .before .size .result) (lit< tt) (s .fits .latitude) (c .before .before .wide .ensures) (c .before .size .ensures))
 
+cast-if2 : tie.Need-cast-if2
+cast-if2 c = search needs
+
+cast-result : tie.Need-cast-result
+cast-result c = search needs
+
 returns-2 : tie.Need-returns-2
 unfolding latitudeSize
 returns-2 c = let s = c .before .before .before .before in omega (arith, size-through w32 (s .args .latitude) (c .before .before .before .wide .result) (c .before .before .size .result) (lit< tt) (s .fits .latitude) (c .before .before .before .wide .ensures) (c .before .before .size .ensures))
@@ -28,4 +34,4 @@ unfolding latitudeSize
 returns-3 c = let s = c .before .before .before .before in omega (arith, size-through w32 (s .args .latitude) (c .before .before .before .wide .result) (c .before .before .size .result) (lit< tt) (s .fits .latitude) (c .before .before .before .wide .ensures) (c .before .before .size .ensures))
 
 pub minutes-spec : {M : Type 1} → statement M
-minutes-spec = tie.close (tie.spec wide-requires size-requires returns returns-2 returns-3)
+minutes-spec = tie.close (tie.spec wide-requires size-requires returns cast-if2 cast-result returns-2 returns-3)
