@@ -1,9 +1,10 @@
 // What stands at a place of the table: a main, a shallow-water constituent, or nothing, by its row.
 use crate::entries::natural_at;
 use limits::PLACES;
+ghost use mathlib.Core.Path.{_≡_};
 ghost use Prim.Native.Nat.{_≤_};
-ghost use lib.ListN.{length};
-ghost use Rattle.table.specs.inner.Found.{placeIn, FirstRows, FindsBy};
+ghost use lib.ListN.{length, getD};
+ghost use Rattle.table.specs.inner.Found.{placeIn, FirstRows, foundBy};
 
 // The row of a main or of a shallow-water constituent, or neither.
 pub enum Found {
@@ -37,7 +38,7 @@ pub fn find<'a>(
     shallows: usize,
     place: u8,
 ) -> Found
-    ensures { λ r. ⌜ FindsBy (now (mainrows .entry)) mains (now (shallowrows .entry)) shallows place r ⌝ }
+    ensures { λ r. ⌜ r ≡ foundBy (getD (now (mainrows .entry)) place 0) mains (getD (now (shallowrows .entry)) place 0) shallows ⌝ }
 {
     let main = mainrows[place as usize];
     if main < mains {
