@@ -2,8 +2,9 @@
 use crate::entries::natural_at;
 use limits::PLACES;
 ghost use mathlib.Core.Path.{_≡_};
-ghost use Prim.Native.Nat.{_≤_};
+ghost use Prim.Native.Nat.{_<_, _≤_};
 ghost use lib.ListN.{length, getD};
+ghost use Rattle.limits.specs.Limits.{placesInAByte};
 ghost use Rattle.table.specs.inner.Found.{placeIn, FirstRows, foundBy};
 
 // The row of a main or of a shallow-water constituent, or neither.
@@ -39,6 +40,7 @@ pub fn find<'a>(
     place: u8,
 ) -> Found
     ensures { λ r. ⌜ r ≡ foundBy (getD (now (mainrows .entry)) place 0) mains (getD (now (shallowrows .entry)) place 0) shallows ⌝ }
+    ensures { λ _. ⌜ place < placesInAByte ⌝ }
 {
     let main = mainrows[place as usize];
     if main < mains {

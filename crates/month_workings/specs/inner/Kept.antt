@@ -1,5 +1,5 @@
 -- Only inner contracts cite this: what is kept of the mains that are worked out, each in a row of its V and its sums X and Y. A V of T or more stands for a main that is not yet.
-use Prim.Native.Nat.{ℕ, _+_, _<_}
+use Prim.Native.Nat.{ℕ, _+_, _*_, _<_}
 use mathlib.Core.Path.{_≡_}
 use mathlib.Core.List.{List}
 use lib.IntN.{ℤ, pos}

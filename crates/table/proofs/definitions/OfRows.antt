@@ -39,9 +39,9 @@ module _ (maincards : List ℕ) (mains : ℕ) (shallowcards : List ℕ) (shallow
   abbrev pub foundAt : Found
   foundAt = foundBy firstMain mains firstShallow shallows
 
-  pub by-first-rows : (mainrows shallowrows : List ℕ) → FirstRows (placeIn 3 maincards) mains mainrows → FirstRows (placeIn 6 shallowcards) shallows shallowrows → place < placesInAByte
+  pub by-first-rows : {mainrows shallowrows : List ℕ} → FirstRows (placeIn 3 maincards) mains mainrows → FirstRows (placeIn 6 shallowcards) shallows shallowrows → place < placesInAByte
       → foundBy (getD mainrows place 0) mains (getD shallowrows place 0) shallows ≡ foundAt
-  by-first-rows mainrows shallowrows m s h = ap₂ (λ (a b : ℕ). foundBy a mains b shallows) (m place h) (s place h)
+  by-first-rows m s h = ap₂ (λ (a b : ℕ). foundBy a mains b shallows) (m .each place h) (s .each place h)
 
   pub found-row : IsRow mains foundAt
   found-row = by (ltb firstMain mains) (ltb firstShallow shallows) refl

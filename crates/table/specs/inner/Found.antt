@@ -20,8 +20,8 @@ firstRow placeOf place k zero = k
 firstRow placeOf place k (suc n) = cond (eqb (placeOf k) place) k (firstRow placeOf place (suc k) n)
 
 -- for each place the first of so many rows that has it, or their number
-abbrev pub FirstRows : (ℕ → ℕ) → ℕ → List ℕ → Type 0
-FirstRows placeOf rows first = (place : ℕ) → place < placesInAByte → getD first place 0 ≡ firstRow placeOf place 0 rows
+pub record FirstRows (placeOf : ℕ → ℕ) (rows : ℕ) (first : List ℕ) : Type 0 where
+  pub each : (place : ℕ) → place < placesInAByte → getD first place 0 ≡ firstRow placeOf place 0 rows
 
 -- the first main's row, if it is one of so many, or else the first shallow constituent's, or nothing
 abbrev pub foundBy : ℕ → ℕ → ℕ → ℕ → Found
