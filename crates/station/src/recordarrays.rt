@@ -4,7 +4,7 @@ ghost use mathlib.Core.Bool.{false};
 ghost use Prim.Native.Nat.{_<_, min};
 ghost use lib.ListN.{length};
 ghost use Rattle.limits.specs.Limits.{mostRecords};
-ghost use Rattle.station.specs.inner.Rows.{rowsUpto, putRow, noRows};
+ghost use Rattle.station.specs.inner.Rows.{noRows, putRow, rowsOf};
 ghost use Rattle.station.specs.Arrays.{oneLength, lacking, recordsIn};
 use crate::records::Rows;
 use limits::RECORDS;
@@ -43,7 +43,7 @@ fn shorter(a: usize, b: usize) -> usize
 pub fn rows_in(places: &[u8], amplitudes: &[u32], phases: &[u32]) -> Rows
     requires { ⌜ length (now amplitudes) ≡ length (now places) ⌝ }
     requires { ⌜ length (now phases) ≡ length (now places) ⌝ }
-    ensures { λ r. ⌜ r ≡ rowsUpto (recordsIn (now (places .entry)) (now (amplitudes .entry)) (now (phases .entry))) (min (length (now (places .entry))) mostRecords) ⌝ }
+    ensures { λ r. ⌜ r ≡ rowsOf (recordsIn (now (places .entry)) (now (amplitudes .entry)) (now (phases .entry))) ⌝ }
 {
     let most = shorter(places.len(), RECORDS);
     let mut rows = no_rows();

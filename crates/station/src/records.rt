@@ -1,9 +1,8 @@
 // A station's records as they are lent, one for each constituent, taken apart into an array for each field.
 ghost use mathlib.Core.Path.{_≡_};
 ghost use Prim.Native.Nat.{_<_, min};
-ghost use lib.ListN.{length};
 ghost use Rattle.limits.specs.Limits.{mostRecords};
-ghost use Rattle.station.specs.inner.Rows.{noRows, putRow, rowsUpto};
+ghost use Rattle.station.specs.inner.Rows.{noRows, putRow, rowsOf};
 use limits::RECORDS;
 
 // One of a station's constituents, as it is lent: its place in the table, its amplitude and its phase lag.
@@ -52,7 +51,7 @@ fn at_most(n: usize) -> usize
 
 // The records taken apart, the first 146 of them: the thin function over the lent slice of structs. Its proof is a walk by hand.
 pub fn rows_of(rs: &[Record]) -> Rows
-    ensures { λ r. ⌜ r ≡ rowsUpto (now (rs .entry)) (min (length (now (rs .entry))) mostRecords) ⌝ }
+    ensures { λ r. ⌜ r ≡ rowsOf (now (rs .entry)) ⌝ }
 {
     let m = at_most(rs.len());
     let mut rows = none();

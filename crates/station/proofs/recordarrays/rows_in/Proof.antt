@@ -1,7 +1,7 @@
 -- The rows of three arrays: the loop keeps the rows of the records passed (`rowsUpto`), at most 146.
 use Rattle.station.proofs.recordarrays.Records.{rows-more}
 use Rattle.station.specs.Arrays.{recordsIn}
-use Rattle.station.specs.inner.Rows.{rowsUpto}
+use Rattle.station.proofs.records.Copies.{rowsUpto, records-length, rows-are}
 use borrow.Author.Needs.{needs}
 use lib.ListN.{length}
 use native.Mathlib.Omega.{arith}
@@ -66,8 +66,9 @@ returns : tie.Need-returns Inv-loop μ-loop
 returns c =
     let s = c .before in
     let a = c .before .before .before .before .before .before .before .args in
-    let e : s .loop .k ≡ min (length (a .places .now)) 146 = omega arith in
-    s .loop .inv .0 ∙ ap (rowsUpto (recordsIn (a .places .now) (a .amplitudes .now) (a .phases .now))) e
+    let rs = recordsIn (a .places .now) (a .amplitudes .now) (a .phases .now) in
+    let e : s .loop .k ≡ min (length rs) 146 = omega (arith, records-length (a .places .now) (a .amplitudes .now) (a .phases .now) 0 (length (a .places .now))) in
+    s .loop .inv .0 ∙ ap (rowsUpto rs) e ∙ rows-are rs
 
 pub rows-in-spec : {M : Type 1} → statement M
 rows-in-spec =

@@ -48,7 +48,8 @@ use denote.Triple.Table.{entered, cited}
 use denote.Triple.Walked.{says, Stays, stay-none-slice, walkOf, Walks, ends-at, walked, goes-none-slice, walk-meets}
 use Rattle.station.specs.declared.records.Record.{Record}
 use Rattle.station.specs.declared.records.Rows.{Rows}
-use Rattle.station.specs.inner.Rows.{blank, lentAt, putRow, putLent, noRows, rowsUpto}
+use Rattle.station.specs.inner.Rows.{putRow, noRows, rowsOf}
+use Rattle.station.proofs.records.Copies.{blank, lentAt, putLent, rowsUpto, rows-are}
 use Rattle.station.proofs.records.Record as T
 use Rattle.station.proofs.records.Record.Laws as T′
 use Rattle.station.proofs.records.Rows as R
@@ -158,10 +159,10 @@ module _ {M : Type 1} (𝓤 : URA M) (H : Heap 𝓤) (A : Atoms 𝓤) (W : Given
   abbrev mach : ℕ → Val
   mach i = LL.tuple-val T.the-type T′.the-laws (T.the-type .to (elem i))
 
-  exits : (v : Val) → ent 𝓤 (⋆ 𝓤 H A (‵ (flft κ q) ∷ ‵ Own ∷ ‵ (R.the-row .own (rowsUpto ys (min n 146)) (v ∷ [])) ∷ [])) (Post v)
+  exits : (v : Val) → ent 𝓤 (⋆ 𝓤 H A (‵ (flft κ q) ∷ ‵ Own ∷ ‵ (R.the-row .own (rowsOf ys) (v ∷ [])) ∷ [])) (Post v)
   exits v =
-      qed W (‵ (flft κ q) ∷ ‵ Own ∷ ‵ (R.the-row .own (rowsUpto ys (min n 146)) (v ∷ [])) ∷ []) ∵
-      suffices ! _ (ends-at 𝓤 H A it.ended stayed (it.clauses 𝓤 H A mem run) W (((κ, tt), (q, tt), tt, x, at), tt) v (rowsUpto ys (min n 146)) (tt, tt) (tt, tt)) $ says ! refl $
+      qed W (‵ (flft κ q) ∷ ‵ Own ∷ ‵ (R.the-row .own (rowsOf ys) (v ∷ [])) ∷ []) ∵
+      suffices ! _ (ends-at 𝓤 H A it.ended stayed (it.clauses 𝓤 H A mem run) W (((κ, tt), (q, tt), tt, x, at), tt) v (rowsOf ys) (tt, tt) (tt, tt)) $ says ! refl $
       nothing ! $ move ! (1 ∷ 0 ∷ []) $ join ! $ nothing ! $ move ! (2 ∷ 0 ∷ []) $ fjoin ! $ move ! (1 ∷ 0 ∷ []) $ frame ! $ frame ! $ done !
 
   -- what each call asks
@@ -262,9 +263,9 @@ module _ {M : Type 1} (𝓤 : URA M) (H : Heap 𝓤) (A : Atoms 𝓤) (W : Given
       (λ y. rewrite ! 4 (λ (z : Bool). ‵ (fat fullShare tyBool l₇ 0 (vbool z))) y refl $ leaves-loop ! (load ! (from ! (stop !)) (look ! 4 refl)) $
       exec ! (𝓣 .C) (𝓣 .Λ) (En l₀ l₁ l₂ l₃ l₄ l₅ l₆ l₇ l₈ l₉ lₐ) rest (atRet (En l₀ l₁ l₂ l₃ l₄ l₅ l₆ l₇ l₈ l₉ lₐ) Post) $
       let all : t .i ≡ min n 146 = omega (arith, em, t .small, ltb-false (t .i) m y) in
-      move ! (11 ∷ []) $ rewrite ! 0 (λ (k : ℕ). ‵ (R.the-row .own (rowsUpto ys k) (t .v ∷ []))) all refl $
-      peeks ! R.the-row (Is R.the-row) (shows 𝓤 H A R.the-row) (rowsUpto ys (min n 146)) (t .v ∷ []) (λ is′.
-      assigns ! (of-opd ! (load ! (from ! (stop !)) (look ! 1 refl))) (from ! (stop !)) (init ! 9 refl (LL.lawful R.the-type R′.the-laws 𝓤 H A W .typed (rowsUpto ys (min n 146)) _ is′ .0)) $
+      move ! (11 ∷ []) $ rewrite ! 0 (λ (r′ : Rows). ‵ (R.the-row .own r′ (t .v ∷ []))) (ap (rowsUpto ys) all ∙ rows-are ys) refl $
+      peeks ! R.the-row (Is R.the-row) (shows 𝓤 H A R.the-row) (rowsOf ys) (t .v ∷ []) (λ is′.
+      assigns ! (of-opd ! (load ! (from ! (stop !)) (look ! 1 refl))) (from ! (stop !)) (init ! 9 refl (LL.lawful R.the-type R′.the-laws 𝓤 H A W .typed (rowsOf ys) _ is′ .0)) $
       returns ! (look ! 9 refl) $ forget ! 1 refl $ forget ! 2 refl $ forget ! 5 refl $ forget ! 8 refl $ forget ! 9 refl $ forget ! 12 refl $ forget ! 13 refl $
       move ! (9 ∷ 14 ∷ []) $ free1 ! $ move ! (8 ∷ 13 ∷ []) $ free1 ! $ move ! (10 ∷ 12 ∷ []) $ free1 ! $ move ! (1 ∷ 11 ∷ []) $ free1 ! $ move ! (1 ∷ 10 ∷ []) $ free1 ! $ move ! (5 ∷ 9 ∷ []) $ free1 ! $ move ! (7 ∷ 8 ∷ []) $ free1 ! $ move ! (3 ∷ 7 ∷ []) $ free1 ! $ move ! (3 ∷ 6 ∷ []) $ free1 ! $ move ! (2 ∷ 5 ∷ []) $ free1 ! $ move ! (1 ∷ 4 ∷ []) $ free1 ! $ free0 ! $ keep ! (1 ∷ 2 ∷ 0 ∷ []) $ by ! (exits (t .v)))))
       (record { i = 0; v = v; small = omega arith }))))))))))))))))))))
