@@ -20,7 +20,7 @@ pub struct Rows {
 }
 
 // Rows with one more record.
-fn put(rows: Rows, k: usize, place: u8, amplitude: u32, phase: u32) -> Rows
+pub fn put(rows: Rows, k: usize, place: u8, amplitude: u32, phase: u32) -> Rows
     requires { ⌜ k < mostRecords ⌝ }
     ensures { λ r. ⌜ r ≡ putRow rows k place amplitude phase ⌝ }
 {
@@ -32,7 +32,7 @@ fn put(rows: Rows, k: usize, place: u8, amplitude: u32, phase: u32) -> Rows
 }
 
 // No rows yet.
-fn none() -> Rows
+pub fn no_rows() -> Rows
     ensures { λ r. ⌜ r ≡ noRows ⌝ }
 {
     Rows {
@@ -43,7 +43,7 @@ fn none() -> Rows
 }
 
 // Past 146 nothing is taken: a longer row is refused by its count.
-fn at_most(n: usize) -> usize
+pub fn at_most(n: usize) -> usize
     ensures { λ r. ⌜ r ≡ min n mostRecords ⌝ }
 {
     if n < RECORDS { n } else { RECORDS }
@@ -54,7 +54,7 @@ pub fn rows_of(rs: &[Record]) -> Rows
     ensures { λ r. ⌜ r ≡ rowsOf (now (rs .entry)) ⌝ }
 {
     let m = at_most(rs.len());
-    let mut rows = none();
+    let mut rows = no_rows();
     let mut i: usize = 0;
     while i < m {
         let r = rs[i];
