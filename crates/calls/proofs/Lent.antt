@@ -2,8 +2,7 @@
 -- of more, both are refused before a record is looked at, and nothing is left of them. Assumes nothing.
 use Prim.{Unit}
 use mathlib.Core.Path.{_≡_, refl, sym, ap, subst, _∙_}
-use Prim.Native.Nat.{ℕ, _≤_, min}
-use native.Mathlib.Omega.{arith}
+use Prim.Native.Nat.{ℕ}
 use mathlib.Core.Bool.{Bool, true, false}
 use mathlib.Core.List.{List}
 use lib.ListN.{length}
@@ -14,7 +13,7 @@ use borrow.Author.Tests.{ltb-false}
 use Rattle.refusals.specs.Outcome.{Outcome, refused, refuseIf, onAccepted, _>>=_}
 use Rattle.table.specs.Table.{Table}
 use Rattle.station.specs.Station.{stationOutcome}
-use Rattle.station.specs.inner.Rows.{rowsUpto}
+use Rattle.station.specs.inner.Rows.{rowsOf}
 use Rattle.station.specs.Records.{recordsOf}
 use Rattle.station.specs.declared.records.Record.{Record}
 use Rattle.station.specs.declared.records.Rows.{Rows}
@@ -73,12 +72,9 @@ module _ (k : State) (latitude : ℤ) (records : List Record) where
   crowd-same rs many many′ =
       (returns-agree k latitude rs records many′ many, leaves-same k latitude rs many′ ∙ sym (leaves-same k latitude records many))
 
-  rows-of-few : length records ≤ 146 → recordsOf (rowsUpto records (min (length records) 146)) (length records) ≡ records
-  rows-of-few h = let all : min (length records) 146 ≡ length records = omega arith in rw all (lent-is records h)
-
-  same-by : (b : Bool) → ltb 146 (length records) ≡ b → Same (recordsOf (rowsUpto records (min (length records) 146)) (length records))
+  same-by : (b : Bool) → ltb 146 (length records) ≡ b → Same (recordsOf (rowsOf records) (length records))
   same-by true e = crowd-same _ e (ap (ltb 146) (records-length _ _ _ 0 (length records)) ∙ e)
-  same-by false e = subst Same (sym (rows-of-few (ltb-false 146 (length records) e))) (refl, refl)
+  same-by false e = subst Same (sym (lent-is records (ltb-false 146 (length records) e))) (refl, refl)
 
-  pub lent-same : (rows : Rows) → rows ≡ rowsUpto records (min (length records) 146) → Same (recordsOf rows (length records))
+  pub lent-same : (rows : Rows) → rows ≡ rowsOf records → Same (recordsOf rows (length records))
   lent-same rows e = subst (λ (x : Rows). Same (recordsOf x (length records))) (sym e) (same-by (ltb 146 (length records)) refl)

@@ -25,7 +25,7 @@ pub data Case : Type 0 where
 infix 4 _gives_
 -- C(i)
 abbrev C : ℕ → ℤ
-C i = pos (entry step i)
+C i = entry step i
 
 -- "With 002's cards at 00:00 on 1 January 1976": its two longitude cards
 abbrev pub longitudes1976 : Longitudes

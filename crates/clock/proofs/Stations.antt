@@ -1,6 +1,6 @@
 -- A station's two cases, accepted and refused, from what the check of its records promises. Assumes nothing.
 use mathlib.Core.Path.{_≡_, sym, ap, _∙_}
-use Prim.Native.Nat.{ℕ, min}
+use Prim.Native.Nat.{ℕ}
 use mathlib.Core.List.{List}
 use lib.ListN.{length}
 use lib.IntN.{ℤ}
@@ -11,7 +11,7 @@ use Rattle.refusals.specs.declared.Answer.the-variants.{Accepted, Refused}
 use Rattle.table.specs.inner.View.{tableOf}
 use Rattle.station.specs.declared.records.Record.{Record}
 use Rattle.station.specs.Records.{recordsOf}
-use Rattle.station.specs.inner.Rows.{rowsUpto}
+use Rattle.station.specs.inner.Rows.{rowsOf}
 use Rattle.station.specs.declared.records.Rows.{Rows}
 use Rattle.station.specs.inner.Station.{stationOf}
 use Rattle.station.specs.declared.Taken.{Taken}
@@ -41,7 +41,7 @@ module _ (c : Clock) (latitude : ℤ) (n : ℕ) (rows : Rows) (made : Made c) (t
       record { made = made; returns = rw e (law .0); leaves = law .1 }
 
 -- what holds of the rows' records holds of those lent
-pub lent-post : (c : Clock) (latitude : ℤ) (records : List Record) (answer : Answer) (left : Clock) (rows : Rows) → rows ≡ rowsUpto records (min (length records) 146)
+pub lent-post : (c : Clock) (latitude : ℤ) (records : List Record) (answer : Answer) (left : Clock) (rows : Rows) → rows ≡ rowsOf records
     → StationPost c latitude (recordsOf rows (length records)) answer left → StationPost c latitude records answer left
 lent-post c latitude records answer left rows e p =
     let same = lent-same (view c) latitude records rows e in

@@ -3,6 +3,7 @@ pub mod Line
 pub mod Series
 pub mod Every
 pub mod Signs
+pub mod Natural
 pub mod Claim
 pub mod Rule
 pub mod Computed

@@ -8,9 +8,11 @@ use native.Mathlib.Omega.{arith}
 use native.Mathlib.Nat.{le-trans}
 use native.Mathlib.Numerals.{add-one}
 use lib.Dec.{T, eqb, leb, eqb→eq, leb→le}
+use lib.IntN.{pos}
 use lib.ListN.{length, getD}
 use Rattle.cosine.specs.Fraction.{quarter, added, taken, whole, base}
 use Rattle.cosine.specs.Fixed.{one, entry, IsNearest}
+use Rattle.cosine.proofs.Natural.{entryℕ, entry-is}
 use Rattle.cosine.proofs.Series.{addedBend, takenBend}
 use Rattle.cosine.proofs.Every.{both, both-left, both-right, every, at, below, below-at}
 use Rattle.cosine.proofs.Claim.{Good, entry-nearest}
@@ -18,11 +20,11 @@ use Rattle.cosine.proofs.Claim.{Good, entry-nearest}
 -- ---- the entries in `src/`: a test at each element of the list
 
 unfoldable pub right : ℕ → ℕ → ℕ → Bool
-right h k x = eqb x (entry h k)
+right h k x = eqb x (entryℕ h k)
 
-pub table-is : (h : ℕ) (xs : List ℕ) → T (every (right h) 0 xs) → (k : ℕ) → k < length xs → getD xs k 0 ≡ entry h k
+pub table-is : (h : ℕ) (xs : List ℕ) → T (every (right h) 0 xs) → (k : ℕ) → k < length xs → getD xs k 0 ≡ entryℕ h k
 unfolding right
-table-is h xs t k l = eqb→eq (getD xs k 0) (entry h k) (at (right h) xs t k l)
+table-is h xs t k l = eqb→eq (getD xs k 0) (entryℕ h k) (at (right h) xs t k l)
 
 -- ---- the entries by themselves: a test at each number
 
@@ -32,13 +34,13 @@ sound h k = leb (taken (k * h)) (added (k * h))
 
 -- the entry after k is below the entry k, by at most m
 unfoldable pub falling : ℕ → ℕ → ℕ → Bool
-falling h m k = both (leb (entry h (k + 1)) (entry h k)) (leb (entry h k) (entry h (k + 1) + m))
+falling h m k = both (leb (entryℕ h (k + 1)) (entryℕ h k)) (leb (entryℕ h k) (entryℕ h (k + 1) + m))
 
 -- a table of N + 1 entries, for steps of h, whose neighbours differ by at most m, is good for a bound of E
 pub record Passed (E h m N : ℕ) : Type 0 where
   pub some : zero < h
   pub steps : N * h ≡ quarter
-  pub top : entry h 0 ≤ one
+  pub top : entryℕ h 0 ≤ one
   pub all-sound : T (below (sound h) (suc N))
   pub all-fall : T (below (falling h m) N)
   pub bends-added : one * (h * h * addedBend) + 6 * whole ≤ 4 * (E * whole)
@@ -53,17 +55,20 @@ module _ {E h m N : ℕ} (p : Passed E h m N) where
   pub is-nearest : (k : ℕ) → k < suc N → IsNearest (entry h k) (base (k * h))
   is-nearest k l = entry-nearest h k (is-sound k l)
 
-  pub down : (k : ℕ) → k < N → entry h (k + 1) ≤ entry h k
-  unfolding falling
-  down k l = leb→le (entry h (k + 1)) (entry h k) (both-left (leb (entry h (k + 1)) (entry h k)) _ (below-at (falling h m) N (p .all-fall) k l))
+  pub natural : (k : ℕ) → k < suc N → entry h k ≡ pos (entryℕ h k)
+  natural k l = entry-is h k (is-sound k l)
 
-  pub near : (k : ℕ) → k < N → entry h k ≤ entry h (k + 1) + m
+  pub down : (k : ℕ) → k < N → entryℕ h (k + 1) ≤ entryℕ h k
   unfolding falling
-  near k l = leb→le (entry h k) (entry h (k + 1) + m) (both-right (leb (entry h (k + 1)) (entry h k)) _ (below-at (falling h m) N (p .all-fall) k l))
+  down k l = leb→le (entryℕ h (k + 1)) (entryℕ h k) (both-left (leb (entryℕ h (k + 1)) (entryℕ h k)) _ (below-at (falling h m) N (p .all-fall) k l))
 
-  pub at-most-one : (k : ℕ) → k ≤ N → entry h k ≤ one
+  pub near : (k : ℕ) → k < N → entryℕ h k ≤ entryℕ h (k + 1) + m
+  unfolding falling
+  near k l = leb→le (entryℕ h k) (entryℕ h (k + 1) + m) (both-right (leb (entryℕ h (k + 1)) (entryℕ h k)) _ (below-at (falling h m) N (p .all-fall) k l))
+
+  pub at-most-one : (k : ℕ) → k ≤ N → entryℕ h k ≤ one
   at-most-one zero l = p .top
-  at-most-one (suc k) l = le-trans (subst (λ (n : ℕ). entry h n ≤ entry h k) (add-one k) (down k l)) (at-most-one k (omega arith))
+  at-most-one (suc k) l = le-trans (subst (λ (n : ℕ). entryℕ h n ≤ entryℕ h k) (add-one k) (down k l)) (at-most-one k (omega arith))
 
   pub good : Good E h N
   good =

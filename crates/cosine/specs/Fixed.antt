@@ -2,11 +2,12 @@
 -- Assumes nothing.
 use mathlib.Core.Path.{_≡_}
 use mathlib.Core.List.{List}
-use Prim.Native.Nat.{ℕ, _+_, _-_, _*_, _/_, _%_, _^_, _≤_, _<_}
+use Prim.Native.Nat.{ℕ, _+_, _*_, _/_, _%_, _^_, _≤_, _<_}
 use mathlib.Core.Bool.{cond}
 use lib.Dec.{eqb}
-use lib.IntN.{ℤ, pos, natAbs, _-ℤ_, _*ℤ_}
+use lib.IntN.{ℤ, pos, natAbs, _+ℤ_, _-ℤ_, _*ℤ_}
 use lib.ListN.{getD}
+use Rattle.angles.specs.Floor.{floorDiv}
 use Rattle.cosine.specs.Fraction.{quarter, whole, base, around, cosine, sine}
 
 -- Cosines are counted in units of 2^-30.
@@ -23,30 +24,28 @@ step = 192_480_468_750
 abbrev pub bound : ℕ
 bound = 1_024
 
--- the whole number nearest m / n, for n over 0
-abbrev pub nearest : ℕ → ℕ → ℕ
-nearest m n = (2 * m + n) / (2 * n)
+-- the whole number nearest m / n: floor(m / n + 1/2)
+abbrev pub nearest : ℤ → ℕ → ℤ
+nearest m n = floorDiv (pos 2 *ℤ m +ℤ pos n) (2 * n)
 
 -- "each the whole number nearest 2^30 times the base fraction at i × .. ticks", for steps of h ticks: C(i) is `entry step i`.
--- No base fraction at an entry is negative, so its size is itself.
-unfoldable pub entry : ℕ → ℕ → ℕ
-entry h i = nearest (one * natAbs (base (i * h))) whole
+unfoldable pub entry : ℕ → ℕ → ℤ
+entry h i = nearest (pos one *ℤ base (i * h)) whole
 
 -- The same as a relation: c is a whole number nearest 2^30 × m / whole, at most a half from it, both sides times 2 × `whole`. (proofs/Computed.antt: each entry is.)
-abbrev pub IsNearest : ℕ → ℤ → Type 0
-IsNearest c m = natAbs (pos (2 * c) *ℤ pos whole -ℤ pos (2 * one) *ℤ m) ≤ whole
+abbrev pub IsNearest : ℤ → ℤ → Type 0
+IsNearest c m = natAbs (pos 2 *ℤ c *ℤ pos whole -ℤ pos (2 * one) *ℤ m) ≤ whole
 
 -- "For remainder r past entry i the fixed cosine is C(i) when r is 0, else C(i) - floor((C(i) - C(i+1)) × r / ..),"
--- The entries fall, so no difference here is negative.
-abbrev pub line : ℕ → ℕ → ℕ → ℕ → ℕ
-line h c d r = cond (eqb r 0) c (c - (c - d) * r / h)
+abbrev pub line : ℕ → ℤ → ℤ → ℕ → ℤ
+line h c d r = cond (eqb r 0) c (c -ℤ floorDiv ((c -ℤ d) *ℤ pos r) h)
 
-unfoldable pub fixedBase : ℕ → ℕ → ℕ
+unfoldable pub fixedBase : ℕ → ℕ → ℤ
 fixedBase h t = line h (entry h (t / h)) (entry h (t / h + 1)) (t % h)
 
 -- "with the same signs."
 unfoldable pub fixedCosine : ℕ → ℤ
-fixedCosine t = around (λ (u : ℕ). pos (fixedBase step u)) t
+fixedCosine t = around (fixedBase step) t
 
 -- "Sine is the cosine a quarter turn earlier."
 abbrev pub fixedSine : ℕ → ℤ
@@ -69,4 +68,4 @@ EntriesNearest = (i : ℕ) → i < entries → IsNearest (entry step i) (base (i
 
 -- The list is the table.
 pub record IsTable (xs : List ℕ) : Type 0 where
-  pub each : (i : ℕ) → i < entries → getD xs i 0 ≡ entry step i
+  pub each : (i : ℕ) → i < entries → pos (getD xs i 0) ≡ entry step i

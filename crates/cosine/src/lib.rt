@@ -1,10 +1,10 @@
 // The cosine and sine of an angle in ticks, in units of 2^-30, by a table that is made once and lent.
 ghost use mathlib.Core.Path.{_≡_};
-ghost use Prim.Native.Nat.{_+_, _-_, _*_, _/_, _<_, _≤_};
+ghost use Prim.Native.Nat.{_+_, _<_, _≤_};
 ghost use mathlib.Core.Bool.{cond};
 ghost use lib.IntN.{pos, negℤ, natAbs};
 ghost use Rattle.cosine.specs.Fraction.{inQuadrant};
-ghost use Rattle.cosine.specs.Fixed.{one, entries, step, entry, fixedCosine, fixedSine, IsTable};
+ghost use Rattle.cosine.specs.Fixed.{one, entries, step, entry, line, fixedCosine, fixedSine, IsTable};
 
 mod constants;
 
@@ -30,7 +30,7 @@ pub fn cosines() -> [u32; ENTRIES]
 fn on_line(table: &[u32; ENTRIES], i: usize, r: u64) -> u64
     requires { ⌜ IsTable (now table) ⌝ }
     requires { ⌜ (i + 1 < entries) × (r ≤ step) ⌝ }
-    ensures { λ v. ⌜ v ≡ entry step i - (entry step i - entry step (i + 1)) * r / step ⌝ }
+    ensures { λ v. ⌜ pos v ≡ line step (entry step i) (entry step (i + 1)) r ⌝ }
     ensures { λ v. ⌜ v ≤ one ⌝ }
 {
     let c = table[i] as u64;

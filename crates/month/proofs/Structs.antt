@@ -6,7 +6,7 @@ use Prim.Native.Nat.{ℕ, _+_, _≤_, _<_, min}
 use lib.IntN.{ℤ}
 use lib.ListN.{length, getD}
 use Rattle.table.specs.Table.{Main, Shallow}
-use Rattle.table.specs.inner.Found.{Finds}
+use Rattle.table.proofs.definitions.OfRows.{foundAt}
 use Rattle.table.specs.declared.Table.{Table}
 use Rattle.table.specs.declared.definitions.Found.{Found}
 use Rattle.station.specs.Records.{recordsFrom}
@@ -69,7 +69,7 @@ module _ (t : Table) (s : Station) (given : Given) where
 
   -- ---- what was worked out at record k
 
-  module _ (same : given .mains ≡ t .mains) (k : ℕ) (found : Found) (kept : List ℤ) (w : Worked) (finds : Finds (t .maincards) (t .mains) (t .shallowcards) (t .shallows) (getD (s .places) k 0) found)
+  module _ (same : given .mains ≡ t .mains) (k : ℕ) (found : Found) (kept : List ℤ) (w : Worked) (finds : found ≡ foundAt (t .maincards) (t .mains) (t .shallowcards) (t .shallows) (getD (s .places) k 0))
       (ready : Ready (argumentBy given (t .mainangles)) (correctedBy given (t .maincards) (t .satelliteangles) (t .satelliteratios)) (t .shallowcards) found kept) (from : FromMains kept (t .shallowcards) (t .coefficients) found w) where
     worked : IsWorked g l ms ss (getD (s .places) k 0) w
     worked =

@@ -10,17 +10,17 @@ use Rattle.cosine.specs.Fixed.{fixedSine}
 unfoldable pub latitudeSize : ℤ → ℕ
 latitudeSize latitude = min mostLatitude (max 300 (natAbs latitude))
 
--- "S20 = floor(fixed sine of the latitude's size / 2^10)." It is above 0.
-unfoldable pub s20 : ℤ → ℕ
-s20 latitude = natAbs (floorDiv (fixedSine (latitudeSize latitude * arcMinute)) (2 ^ 10))
+-- "S20 = floor(fixed sine of the latitude's size / 2^10)."
+unfoldable pub s20 : ℤ → ℤ
+s20 latitude = floorDiv (fixedSine (latitudeSize latitude * arcMinute)) (2 ^ 10)
 
--- "Diurnal G = floor(36,309 × (2^40 - 5 × S20²) / (100,000 × S20))"
-unfoldable pub diurnalNorth : ℕ → ℤ
-diurnalNorth s = floorDiv (pos 36_309 *ℤ (pos (2 ^ 40) -ℤ pos (5 * s ^ 2))) (100_000 * s)
+-- "Diurnal G = floor(36,309 × (2^40 - 5 × S20²) / (100,000 × S20))" (S20 is over 0, and a divisor a natural number)
+unfoldable pub diurnalNorth : ℤ → ℤ
+diurnalNorth s = floorDiv (pos 36_309 *ℤ (pos (2 ^ 40) -ℤ pos 5 *ℤ (s *ℤ s))) (100_000 * natAbs s)
 
 -- "semidiurnal G = floor(259,808 × S20 / 100,000)"
-unfoldable pub semidiurnalNorth : ℕ → ℤ
-semidiurnalNorth s = floorDiv (pos (259_808 * s)) 100_000
+unfoldable pub semidiurnalNorth : ℤ → ℤ
+semidiurnalNorth s = floorDiv (pos 259_808 *ℤ s) 100_000
 
 -- ".. count as 5 with their sign; 0 counts as north"; "south takes the negative"
 unfoldable pub bySide : ℤ → ℤ → ℤ

@@ -1,7 +1,7 @@
 // The latitude factors G.
 ghost use mathlib.Core.Path.{_≡_};
 ghost use Prim.Native.Nat.{_≤_, _^_};
-ghost use lib.IntN.{natAbs};
+ghost use lib.IntN.{pos, natAbs};
 ghost use Rattle.cosine.specs.Fixed.{IsTable};
 ghost use Rattle.month_satellites.specs.Latitude.{latitudeSize, s20, diurnalNorth, semidiurnalNorth, bySide, factorsAt};
 ghost use Rattle.month_satellites.specs.inner.Factors.{factorMost, IsS20, AreFactors, factorsOf};
@@ -42,7 +42,7 @@ fn minutes(latitude: i32) -> u64
 // The diurnal factor in the north, from S20.
 fn diurnal_north(s: u64) -> i64
     requires { ⌜ IsS20 s ⌝ }
-    ensures { λ r. ⌜ r ≡ diurnalNorth s ⌝ }
+    ensures { λ r. ⌜ r ≡ diurnalNorth (pos s) ⌝ }
     ensures { λ r. ⌜ natAbs r ≤ factorMost ⌝ }
 {
     let square = 5 * (s * s);
@@ -53,7 +53,7 @@ fn diurnal_north(s: u64) -> i64
 // The semidiurnal factor in the north, from S20.
 fn semidiurnal_north(s: u64) -> i64
     requires { ⌜ IsS20 s ⌝ }
-    ensures { λ r. ⌜ r ≡ semidiurnalNorth s ⌝ }
+    ensures { λ r. ⌜ r ≡ semidiurnalNorth (pos s) ⌝ }
     ensures { λ r. ⌜ natAbs r ≤ factorMost ⌝ }
 {
     floor_div((259_808 * s) as i64, 100_000)
@@ -74,7 +74,7 @@ fn by_side(latitude: i32, g: i64) -> i64
 // S20 of a latitude.
 fn s20_of(cosines: &[u32; ENTRIES], latitude: i32) -> u64
     requires { ⌜ IsTable (now cosines) ⌝ }
-    ensures { λ r. ⌜ r ≡ s20 latitude ⌝ }
+    ensures { λ r. ⌜ pos r ≡ s20 latitude ⌝ }
     ensures { λ r. ⌜ IsS20 r ⌝ }
 {
     let w = wave(cosines, minutes(latitude) * ARC_MINUTE);

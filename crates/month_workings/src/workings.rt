@@ -1,7 +1,6 @@
 // The mains that a month needs, each worked out once: its V, and its sums X and Y, kept in a row of three. A V of T or more stands for one that is not worked out yet.
 ghost use mathlib.Core.Path.{_≡_};
 ghost use Prim.Native.Nat.{_<_};
-ghost use Rattle.limits.specs.Limits.{mostMains};
 ghost use Rattle.angles.specs.Ticks.{turn};
 ghost use Rattle.cosine.specs.Fixed.{IsTable};
 ghost use Rattle.month_arguments.specs.Longitudes.{nodal};
@@ -95,32 +94,6 @@ fn sum_of<'a>(
     main_sum(cosines, angles, ratios, first, count, given.factors, l)
 }
 
-// Works out the main in row k, and keeps it there.
-fn keep_main<'a>(
-    cosines: &'a [u32; ENTRIES],
-    cards: &'a [u16; MAIN_CARDS],
-    angles: &'a [i8; MAIN_ANGLES],
-    satelliteangles: &'a [i8; SATELLITE_ANGLES],
-    ratios: &'a [u32; SATELLITE_RATIOS],
-    k: usize,
-    given: Given,
-    kept: &mut [i64; KEPT],
-)
-    requires { ⌜ IsTable (now cosines) ⌝ }
-    requires { ⌜ IsGiven given ⌝ }
-    requires { ⌜ KeptBy given (now cards) (now angles) (now satelliteangles) (now ratios) (now kept) ⌝ }
-    requires { ⌜ k < mostMains ⌝ }
-    ensures { λ _. ⌜ WithMain (argumentBy given (now (angles .entry))) (correctedBy given (now (cards .entry)) (now (satelliteangles .entry)) (now (ratios .entry))) k (now (kept .entry)) (now (kept .exit)) ⌝ }
-{
-    let p = sum_of(cosines, cards, satelliteangles, ratios, k, given);
-    let v = argument_of(angles, given.mains, k, given.longitudes) as i64;
-    let x = p.x;
-    let y = p.y;
-    kept[3 * k] = v;
-    kept[3 * k + 1] = x;
-    kept[3 * k + 2] = y;
-}
-
 // Works out the main in row k, if it is not yet.
 pub fn work_main<'a>(
     cosines: &'a [u32; ENTRIES],
@@ -143,16 +116,13 @@ pub fn work_main<'a>(
     if argument_at(kept, k) < TURN {
         return;
     }
-    keep_main(
-        cosines,
-        cards,
-        angles,
-        satelliteangles,
-        ratios,
-        k,
-        given,
-        kept,
-    );
+    let p = sum_of(cosines, cards, satelliteangles, ratios, k, given);
+    let v = argument_of(angles, given.mains, k, given.longitudes) as i64;
+    let x = p.x;
+    let y = p.y;
+    kept[3 * k] = v;
+    kept[3 * k + 1] = x;
+    kept[3 * k + 2] = y;
 }
 
 // Works out the mains of the parts of the shallow constituent in a row, those that are not yet.

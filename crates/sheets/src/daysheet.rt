@@ -42,26 +42,24 @@ fn higher(a: i64, b: i64) -> i64 {
     if a < b { b } else { a }
 }
 
-// The lowest of a height and of those from one place to before another.
-fn lowest(heights: &[i64], from: usize, to: usize, start: i64) -> i64 {
-    let mut low = start;
-    let mut i = from;
-    while i < to {
-        low = lower(low, digits::height_at(heights, i));
-        i += 1;
-    }
-    low
+// The lowest and the highest of some heights.
+struct Range {
+    low: i64,
+    high: i64,
 }
 
-// The highest of a height and of those from one place to before another.
-fn highest(heights: &[i64], from: usize, to: usize, start: i64) -> i64 {
-    let mut high = start;
+// The range of what is in one already and of the heights from one place to before another.
+fn widened(range: Range, heights: &[i64], from: usize, to: usize) -> Range {
+    let mut low = range.low;
+    let mut high = range.high;
     let mut i = from;
     while i < to {
-        high = higher(high, digits::height_at(heights, i));
+        let height = digits::height_at(heights, i);
+        low = lower(low, height);
+        high = higher(high, height);
         i += 1;
     }
-    high
+    Range { low, high }
 }
 
 // The column of a height between the lowest and the highest, of 0 to 48, rounded.
@@ -167,12 +165,17 @@ fn day_of(start: u32, hourly: &[i64], turns: Turns) -> Day {
     let end = hour_minute(start, 24) as u64;
     let to = swings::turn_from(&turns.minutes, from, turns.count, end);
     let water = digits::height_at(hourly, 0);
+    let first = Range {
+        low: water,
+        high: water,
+    };
+    let range = widened(widened(first, hourly, 1, 25), &turns.heights, from, to);
     Day {
         start,
         from,
         to,
-        low: lowest(&turns.heights, from, to, lowest(hourly, 1, 25, water)),
-        high: highest(&turns.heights, from, to, highest(hourly, 1, 25, water)),
+        low: range.low,
+        high: range.high,
     }
 }
 

@@ -1,36 +1,14 @@
 // A station's records that lie in three arrays: their places, amplitudes and phase lags.
 ghost use mathlib.Core.Path.{_≡_};
 ghost use mathlib.Core.Bool.{false};
-ghost use Prim.Native.Nat.{_<_, min};
+ghost use Prim.Native.Nat.{min};
 ghost use lib.ListN.{length};
-ghost use Rattle.limits.specs.Limits.{mostRecords};
-ghost use Rattle.station.specs.inner.Rows.{rowsUpto, putRow, noRows};
+ghost use Rattle.station.specs.inner.Rows.{rowsOf};
 ghost use Rattle.station.specs.Arrays.{oneLength, lacking, recordsIn};
 use crate::records::Rows;
-use limits::RECORDS;
-
-// No records.
-fn no_rows() -> Rows
-    ensures { λ r. ⌜ r ≡ noRows ⌝ }
-{
-    Rows {
-        places: [0u8; RECORDS],
-        amplitudes: [0u32; RECORDS],
-        phases: [0u32; RECORDS],
-    }
-}
-
-// Rows with one more record.
-fn with_record(rows: Rows, k: usize, place: u8, amplitude: u32, phase: u32) -> Rows
-    requires { ⌜ k < mostRecords ⌝ }
-    ensures { λ r. ⌜ r ≡ putRow rows k place amplitude phase ⌝ }
-{
-    let mut out = rows;
-    out.places[k] = place;
-    out.amplitudes[k] = amplitude;
-    out.phases[k] = phase;
-    out
-}
+use crate::records::at_most;
+use crate::records::no_rows;
+use crate::records::put;
 
 // The shorter of two.
 fn shorter(a: usize, b: usize) -> usize
@@ -43,13 +21,13 @@ fn shorter(a: usize, b: usize) -> usize
 pub fn rows_in(places: &[u8], amplitudes: &[u32], phases: &[u32]) -> Rows
     requires { ⌜ length (now amplitudes) ≡ length (now places) ⌝ }
     requires { ⌜ length (now phases) ≡ length (now places) ⌝ }
-    ensures { λ r. ⌜ r ≡ rowsUpto (recordsIn (now (places .entry)) (now (amplitudes .entry)) (now (phases .entry))) (min (length (now (places .entry))) mostRecords) ⌝ }
+    ensures { λ r. ⌜ r ≡ rowsOf (recordsIn (now (places .entry)) (now (amplitudes .entry)) (now (phases .entry))) ⌝ }
 {
-    let most = shorter(places.len(), RECORDS);
+    let most = at_most(places.len());
     let mut rows = no_rows();
     let mut k: usize = 0;
     while k < most {
-        rows = with_record(rows, k, places[k], amplitudes[k], phases[k]);
+        rows = put(rows, k, places[k], amplitudes[k], phases[k]);
         k += 1;
     }
     rows

@@ -1,9 +1,8 @@
 // A station's records as they are lent, one for each constituent, taken apart into an array for each field.
 ghost use mathlib.Core.Path.{_≡_};
 ghost use Prim.Native.Nat.{_<_, min};
-ghost use lib.ListN.{length};
 ghost use Rattle.limits.specs.Limits.{mostRecords};
-ghost use Rattle.station.specs.inner.Rows.{noRows, putRow, rowsUpto};
+ghost use Rattle.station.specs.inner.Rows.{noRows, putRow, rowsOf};
 use limits::RECORDS;
 
 // One of a station's constituents, as it is lent: its place in the table, its amplitude and its phase lag.
@@ -21,7 +20,7 @@ pub struct Rows {
 }
 
 // Rows with one more record.
-fn put(rows: Rows, k: usize, place: u8, amplitude: u32, phase: u32) -> Rows
+pub fn put(rows: Rows, k: usize, place: u8, amplitude: u32, phase: u32) -> Rows
     requires { ⌜ k < mostRecords ⌝ }
     ensures { λ r. ⌜ r ≡ putRow rows k place amplitude phase ⌝ }
 {
@@ -33,7 +32,7 @@ fn put(rows: Rows, k: usize, place: u8, amplitude: u32, phase: u32) -> Rows
 }
 
 // No rows yet.
-fn none() -> Rows
+pub fn no_rows() -> Rows
     ensures { λ r. ⌜ r ≡ noRows ⌝ }
 {
     Rows {
@@ -44,7 +43,7 @@ fn none() -> Rows
 }
 
 // Past 146 nothing is taken: a longer row is refused by its count.
-fn at_most(n: usize) -> usize
+pub fn at_most(n: usize) -> usize
     ensures { λ r. ⌜ r ≡ min n mostRecords ⌝ }
 {
     if n < RECORDS { n } else { RECORDS }
@@ -52,10 +51,10 @@ fn at_most(n: usize) -> usize
 
 // The records taken apart, the first 146 of them: the thin function over the lent slice of structs. Its proof is a walk by hand.
 pub fn rows_of(rs: &[Record]) -> Rows
-    ensures { λ r. ⌜ r ≡ rowsUpto (now (rs .entry)) (min (length (now (rs .entry))) mostRecords) ⌝ }
+    ensures { λ r. ⌜ r ≡ rowsOf (now (rs .entry)) ⌝ }
 {
     let m = at_most(rs.len());
-    let mut rows = none();
+    let mut rows = no_rows();
     let mut i: usize = 0;
     while i < m {
         let r = rs[i];

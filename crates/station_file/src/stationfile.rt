@@ -1,14 +1,13 @@
 // The station file in the columns of 001, section 3.3: a station card, then a card for each constituent.
 ghost use mathlib.Core.Path.{_≡_};
 ghost use mathlib.Core.List.{[]};
-ghost use Prim.Native.Nat.{_+_, _≤_, _<_, min};
+ghost use Prim.Native.Nat.{_+_, _≤_, min};
 ghost use lib.ListN.{length, drop};
 ghost use Rattle.limits.specs.Limits.{mostFrequencies, mostRecords};
 ghost use Rattle.columns.specs.Lines.{linesOf};
 ghost use Rattle.columns.specs.Names.{namesFrom};
 ghost use Rattle.refusals.specs.Outcome.{numberOf};
 ghost use Rattle.card.specs.inner.Answers as parts;
-ghost use Rattle.station.specs.inner.Rows.{noRows, putRow};
 ghost use Rattle.station_file.specs.Station.{recordsOn, stationFile};
 ghost use Rattle.station_file.specs.inner.File.{fileOf, refusedAs};
 use crate::stationfields::Latitude;
@@ -18,9 +17,10 @@ use crate::stationfields::station_card;
 use card::Refusal;
 use card::lines::line_at;
 use card::lines::next_line;
-use limits::RECORDS;
 use refusals::Answer;
 use station::records::Rows;
+use station::records::no_rows;
+use station::records::put;
 
 // What a station file comes to: its latitude in minutes, and its records in the clock's order; a refused one has latitude 0 and no records.
 pub struct StationCards {
@@ -28,29 +28,6 @@ pub struct StationCards {
     pub latitude: i32,
     pub count: usize,
     pub rows: Rows,
-}
-
-// No rows yet.
-fn no_rows() -> Rows
-    ensures { λ r. ⌜ r ≡ noRows ⌝ }
-{
-    Rows {
-        places: [0u8; RECORDS],
-        amplitudes: [0u32; RECORDS],
-        phases: [0u32; RECORDS],
-    }
-}
-
-// Rows with record k.
-fn put(rows: Rows, k: usize, place: u8, amplitude: u32, phase: u32) -> Rows
-    requires { ⌜ k < mostRecords ⌝ }
-    ensures { λ r. ⌜ r ≡ putRow rows k place amplitude phase ⌝ }
-{
-    let mut out = rows;
-    out.places[k] = place;
-    out.amplitudes[k] = amplitude;
-    out.phases[k] = phase;
-    out
 }
 
 // A refusal of the cards' readers, by its name among all.

@@ -63,13 +63,6 @@ module _ {A : Type 0} where
       let e : suc i + j ≡ i + suc j = omega arith in
       rw e at (sets-within (set xs i v) (suc i) vs j d (omega arith) (omega (arith, length-set xs i v)))
 
-  -- a row copied number by number: one number more, or none left
-  pub copy-next : (xs row : List A) (a j : ℕ) (d : A) → j < length row → sets xs (a + j) (drop j row) ≡ sets (set xs (a + j) (getD row j d)) (a + (j + 1)) (drop (j + 1) row)
-  copy-next xs row a j d h = let e : a + (j + 1) ≡ suc (a + j) = omega arith in rw (drop-cons row j d h, e, add-one j)
-
-  pub copy-end : (xs row : List A) (a j : ℕ) → length row ≤ j → sets xs (a + j) (drop j row) ≡ xs
-  copy-end xs row a j h = rw (drop-of-length-le row h)
-
   -- a run of stores with one number more at its end
   pub sets-one-more : (xs : List A) (i : ℕ) (vs : List A) (v : A) → sets xs i (vs ++ (v ∷ [])) ≡ set (sets xs i vs) (i + length vs) v
   sets-one-more xs i [] v = rw (add-zero i)
@@ -116,6 +109,23 @@ module _ {A : Type 0} where
     row-kept k h =
         listed-same (λ j. getD (sets xs (width * n) row) (width * k + j) none) (λ j. getD xs (width * k + j) none) 0 width
         (λ j a b. sets-before xs (width * n) row (width * k + j) none (omega (arith, mul-le-mul-left width h, mul-suc width k)))
+
+-- a row copied number by number, j of them so far: storing what is left of it gives what storing all of it gives
+pub record Copied {A : Type 0} (before : List A) (at : ℕ) (row now : List A) (j : ℕ) : Type 0 where
+  pub same-length : length now ≡ length before
+  pub rest : sets now (at + j) (drop j row) ≡ sets before at row
+
+module _ {A : Type 0} {before row : List A} {at : ℕ} where
+  pub copied-none : Copied before at row before 0
+  copied-none = record { same-length = refl; rest = rw (add-zero at) }
+
+  pub copied-next : {now : List A} {j : ℕ} (d : A) → j < length row → Copied before at row now j → Copied before at row (set now (at + j) (getD row j d)) (j + 1)
+  copied-next {now} {j} d h c =
+      let e : at + (j + 1) ≡ suc (at + j) = omega arith in
+      record { same-length = length-set now (at + j) (getD row j d) ∙ c .same-length; rest = rw (e, add-one j) (rw (drop-cons row j d h) at (c .rest)) }
+
+  pub copied-all : {now : List A} {j : ℕ} → length row ≤ j → Copied before at row now j → now ≡ sets before at row
+  copied-all h c = rw (drop-of-length-le row h) at (c .rest)
 
 -- the rows up to the one that was written: one more, at the end
 pub rows-put : {A : Type 0} (none : A) (width : ℕ) (xs : List A) (n : ℕ) (row : List A) → length row ≡ width → width * n + width ≤ length xs

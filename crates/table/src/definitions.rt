@@ -1,9 +1,11 @@
 // What stands at a place of the table: a main, a shallow-water constituent, or nothing, by its row.
 use crate::entries::natural_at;
 use limits::PLACES;
-ghost use Prim.Native.Nat.{_≤_};
-ghost use lib.ListN.{length};
-ghost use Rattle.table.specs.inner.Found.{placeIn, FirstRows, FindsBy};
+ghost use mathlib.Core.Path.{_≡_};
+ghost use Prim.Native.Nat.{_<_, _≤_};
+ghost use lib.ListN.{length, getD};
+ghost use Rattle.limits.specs.Limits.{placesInAByte};
+ghost use Rattle.table.specs.inner.Found.{placeIn, FirstRows, foundBy};
 
 // The row of a main or of a shallow-water constituent, or neither.
 pub enum Found {
@@ -37,7 +39,8 @@ pub fn find<'a>(
     shallows: usize,
     place: u8,
 ) -> Found
-    ensures { λ r. ⌜ FindsBy (now (mainrows .entry)) mains (now (shallowrows .entry)) shallows place r ⌝ }
+    ensures { λ r. ⌜ r ≡ foundBy (getD (now (mainrows .entry)) place 0) mains (getD (now (shallowrows .entry)) place 0) shallows ⌝ }
+    ensures { λ _. ⌜ place < placesInAByte ⌝ }
 {
     let main = mainrows[place as usize];
     if main < mains {

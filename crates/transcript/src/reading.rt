@@ -3,7 +3,6 @@ ghost use mathlib.Core.Path.{_≡_};
 ghost use Prim.Native.Nat.{_+_, _<_};
 ghost use lib.ListN.{length};
 ghost use Rattle.transcript.specs.inner.Window.{Within};
-ghost use Rattle.station.specs.inner.Rows.{noRows};
 ghost use Rattle.transcript.specs.inner.Posts.{FilePost, HeardPost, Lent, keptRow};
 use crate::input;
 use crate::input::Window;
@@ -11,6 +10,8 @@ use limits::RECORDS;
 use script::Call;
 use script::Entry;
 use station::records::Rows;
+use station::records::no_rows;
+use station::records::put;
 use std::num::wrapping_add_u64;
 
 // What a call asks. A card file stands in the buffer from the first place to the second; a station has a latitude and so many records; a series and
@@ -155,17 +156,6 @@ fn read_record(buffer: &mut [u8], window: Window) -> Told
     }
 }
 
-// No records yet.
-fn no_rows() -> Rows
-    ensures { λ r. ⌜ r ≡ noRows ⌝ }
-{
-    Rows {
-        places: [0u8; RECORDS],
-        amplitudes: [0u32; RECORDS],
-        phases: [0u32; RECORDS],
-    }
-}
-
 // The rows with record k, from 0; past the first 146 nothing is kept.
 fn with_row(rows: Rows, k: usize, place: u8, amplitude: u32, phase: u32) -> Rows
     ensures { λ r. ⌜ r ≡ keptRow rows k place amplitude phase ⌝ }
@@ -173,11 +163,7 @@ fn with_row(rows: Rows, k: usize, place: u8, amplitude: u32, phase: u32) -> Rows
     if RECORDS <= k {
         return rows;
     }
-    let mut out = rows;
-    out.places[k] = place;
-    out.amplitudes[k] = amplitude;
-    out.phases[k] = phase;
-    out
+    put(rows, k, place, amplitude, phase)
 }
 
 // A station's lines, all of them, or up to the first that is bad.

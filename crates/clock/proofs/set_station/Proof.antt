@@ -1,7 +1,7 @@
 -- `clock::set_station` meets its contract: a walk of its MIR, by hand. The slice is copied, one copy is passed to `station::rows_of`, and the clock and the rows go on to the covered `place_station`.
 -- Assumes nothing.
 use mathlib.Core.Path.{_≡_, refl}
-use Prim.Native.Nat.{ℕ, min, _<_, _^_}
+use Prim.Native.Nat.{ℕ, _<_, _^_}
 use mathlib.Core.List.{List, [], _∷_}
 use lib.Dec.{T as Holds}
 use lib.ListN.{length}
@@ -41,7 +41,7 @@ use denote.Triple.Table.{entered, cited}
 use denote.Triple.Walked.{says, needs, Stays, stay-none, stay-dropped, stay-none-slice, walkOf, Walks, ends-at, walked, goes-none, goes-dropped, goes-none-slice, walk-meets}
 use Rattle.station.specs.declared.records.Record.{Record}
 use Rattle.station.specs.declared.records.Rows.{Rows}
-use Rattle.station.specs.inner.Rows.{rowsUpto}
+use Rattle.station.specs.inner.Rows.{rowsOf}
 use Rattle.station.specs.Records.{recordsOf}
 use Rattle.station.proofs.records.Record as T
 use Rattle.station.proofs.records.Rows as R
@@ -103,7 +103,7 @@ module _ {M : Type 1} (𝓤 : URA M) (H : Heap 𝓤) (A : Atoms 𝓤) (W : Given
   Own = ShrSlice (named 0) κ T.the-row .own rs (sv ∷ [])
 
   abbrev taken : Rows
-  taken = rowsUpto ys (min n 146)
+  taken = rowsOf ys
 
   exits : (s : After) (u : Val) → StationPost c z ys (s .answer) (s .clock) → ent 𝓤 (⋆ 𝓤 H A (‵ (S.the-row .own s (u ∷ [])) ∷ (‵ (flft κ q) ⊛ ‵ ftrue) ∷ ‵ Own ∷ ‵ (i32 .own z (zv ∷ [])) ∷ [])) (Post u)
   exits s u e =

@@ -47,7 +47,7 @@ mul-result : tie.Need-mul-result
 mul-result c = line c .product-fits
 
 sub-result-2 : tie.Need-sub-result-2
-sub-result-2 c = line c .fall-below
+sub-result-2 c = line c .fall-less
 
 returns : tie.Need-returns
 returns c = (line c .is-line, line c .at-most)

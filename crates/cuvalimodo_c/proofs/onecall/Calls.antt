@@ -1,7 +1,8 @@
 -- A card file, a station and a date, one call after another: what the three calls promise, put together.
 -- Assumes nothing.
 use mathlib.Core.Path.{_≡_, sym, ap, ap₂, _∙_}
-use Prim.Native.Nat.{ℕ, min}
+use Prim.Native.Nat.{ℕ}
+use native.Mathlib.Omega.{arith}
 use mathlib.Core.Bool.{Bool, true, false}
 use mathlib.Core.List.{List}
 use lib.ListN.{length}
@@ -12,7 +13,7 @@ use Rattle.refusals.specs.declared.Answer.{Answer}
 use Rattle.station.specs.declared.records.Record.{Record}
 use Rattle.station.specs.declared.records.Rows.{Rows}
 use Rattle.station.specs.Records.{recordsOf}
-use Rattle.station.specs.inner.Rows.{rowsUpto}
+use Rattle.station.specs.inner.Rows.{rowsOf}
 use Rattle.station.proofs.records.Copies.{records-length}
 use Rattle.clock.specs.declared.Clock.{Clock}
 use Rattle.calls.specs.State.{State, emptyState}
@@ -30,11 +31,11 @@ use Rattle.cuvalimodo_c.specs.declared.onecall.Setting.the-variants.{Une
 
 -- a station whose records lie in three arrays
 pub placed : (c : Clock) (latitude : ℤ) (ps ms fs : List ℕ) (rows : Rows) (answer : Answer) (left : Clock)
-    → rows ≡ rowsUpto (recordsIn ps ms fs) (min (length ps) 146)
+    → rows ≡ rowsOf (recordsIn ps ms fs)
     → StationPost c latitude (recordsOf rows (length ps)) answer left → StationPost c latitude (recordsIn ps ms fs) answer left
 placed c latitude ps ms fs rows answer left e p =
     let long : length (recordsIn ps ms fs) ≡ length ps = records-length ps ms fs 0 (length ps) in
-    lent-post c latitude (recordsIn ps ms fs) answer left rows (rw long e) (rw long p)
+    lent-post c latitude (recordsIn ps ms fs) answer left rows e (rw long p)
 
 -- a date after a station: the first refusal is said
 pub dated : (carded : Answer) (stationed after : After) (year month : ℕ) (later answer : Answer) (setting : Setting)

@@ -8,6 +8,7 @@ use lib.ListN.{length, getD}
 use mir.Syntax.{w32, w64}
 use mir.Val.{SFits, toZ, ofZ}
 use mir.ValLaws.{toZ-ofZ}
+use Rattle.table.proofs.definitions.OfRows.{by-first-rows}
 use Rattle.angles.proofs.Machine.{held, fits-below}
 use Rattle.month_satellites.specs.inner.Ranges.{Sized}
 use Rattle.month_pairs.specs.inner.Ranges.{Small}
@@ -98,7 +99,7 @@ returns c =
     let s = c .before .before .before .before .before .before .before .before .before .before .before .before .before .before .before .before .before .before .before .before .loop in
     let found = c .before .before .before .before .before .before .before .before .before .before .before .before .before .before .before .find in
     let w = c .before .before .from-mains in
-    let at = found .ensures (a .t2 .maincards) (a .t2 .shallowcards) (c .before .before .before .before .before .before .before .before .before .before .before .before .before .before .before .before .before .before .before .before .before .before .before .before .before .before .before .first-rows .ensures) (c .before .before .before .before .before .before .before .before .before .before .before .before .before .before .before .before .before .before .before .before .before .before .before .first-rows2 .ensures) in
+    let at = found .ensures .0 ∙ by-first-rows (a .t2 .maincards) (a .t2 .mains) (a .t2 .shallowcards) (a .t2 .shallows) (getD (a .t3 .places) (s .k) 0) (c .before .before .before .before .before .before .before .before .before .before .before .before .before .before .before .before .before .before .before .before .before .before .before .before .before .before .before .first-rows .ensures) (c .before .before .before .before .before .before .before .before .before .before .before .before .before .before .before .before .before .before .before .before .before .before .before .first-rows2 .ensures) (found .ensures .1) in
     refused (a .t2) (a .t3) (a .given) (c .before .before .before .before .before .before .before .before .before .before .before .before .before .before .before .before .before .before .before .before .before .before .before .before .before .before .before .before .before .before .before .before .pre .1 .1) (s .k) (found .result) _ (w .result) at (c .before .before .before .before .before .before .before .work-mains .ensures) (w .ensures)
     (heldUpto (s .month) (s .k)) (c .before .before .before .before .before .before .before .before .before .before .before .before .before .before .before .before .before .before .before .before .before .before .before .before .before .before .before .before .before .before .before .held .result) (s .inv .0) (c .before .before .before .before .before .before .before .before .before .before .before .before .before .before .before .before .before .before .before .loop-test .taken) (c .enum-told .given .1)
 
@@ -180,7 +181,7 @@ loop-again c =
     let s = c .before .before .before .before .before .before .before .before .before .before .before .before .before .before .before .before .before .before .before .before .before .before .before .before .before .before .before .before .before .before .before .loop in
     let found = c .before .before .before .before .before .before .before .before .before .before .before .before .before .before .before .before .before .before .before .before .before .before .before .before .before .before .find in
     let w = c .before .before .before .before .before .before .before .before .before .before .before .before .before .from-mains in
-    let at = found .ensures (a .t2 .maincards) (a .t2 .shallowcards) (c .before .before .before .before .before .before .before .before .before .before .before .before .before .before .before .before .before .before .before .before .before .before .before .before .before .before .before .before .before .before .before .before .before .before .before .before .before .before .first-rows .ensures) (c .before .before .before .before .before .before .before .before .before .before .before .before .before .before .before .before .before .before .before .before .before .before .before .before .before .before .before .before .before .before .before .before .before .before .first-rows2 .ensures) in
+    let at = found .ensures .0 ∙ by-first-rows (a .t2 .maincards) (a .t2 .mains) (a .t2 .shallowcards) (a .t2 .shallows) (getD (a .t3 .places) (s .k) 0) (c .before .before .before .before .before .before .before .before .before .before .before .before .before .before .before .before .before .before .before .before .before .before .before .before .before .before .before .before .before .before .before .before .before .before .before .before .before .before .first-rows .ensures) (c .before .before .before .before .before .before .before .before .before .before .before .before .before .before .before .before .before .before .before .before .before .before .before .before .before .before .before .before .before .before .before .before .before .before .first-rows2 .ensures) (found .ensures .1) in
     let xy = c .before .before .before .before .before .before .before .before .before .before .before .c .given .0 .0 in
     let within = c .before .before .before .before .before .before .before .before .before .before .before .c .given .1 in
     let small : Sized (2 ^ 22) xy = subst Small within (w .ensures .small) in

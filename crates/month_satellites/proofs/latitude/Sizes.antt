@@ -1,7 +1,7 @@
 -- Sizes that `angles` does not state: of a difference of naturals, of a pair's products, and of what `floor_div` gives, carried on as `Known`.
 use mathlib.Core.Path.{_≡_, _∙_, ap}
 use Prim.Native.Nat.{ℕ, zero, suc, _*_, _^_, _≤_, _<_}
-use native.Mathlib.Nat.{le-trans, pow-suc, pow-zero, one-mul}
+use native.Mathlib.Nat.{le-trans}
 use native.Mathlib.Omega.{arith}
 use lib.IntN.{ℤ, pos, natAbs, _-ℤ_, _*ℤ_}
 use lib.Dec.{lit<}
@@ -18,9 +18,6 @@ use Rattle.angles.proofs.Known.{Known, read, times}
 pub apart-size : (a b n : ℕ) → a ≤ n → b ≤ n → natAbs (pos a -ℤ pos b) ≤ n
 apart-size a zero n h k = omega arith
 apart-size a (suc b) n h k = by-order (λ z. natAbs z ≤ n) a (suc b) (λ l. omega arith) (λ l. omega arith)
-
-pub square : (s : ℕ) → s ^ 2 ≡ s * s
-square s = pow-suc s 1 ∙ ap (λ (k : ℕ). k * s) (pow-suc s 0 ∙ (ap (λ (k : ℕ). k * s) (pow-zero s) ∙ one-mul s))
 
 -- what is known of a number by another name
 pub named : {x a b : ℤ} {A : ℕ} → Known x a A → a ≡ b → Known x b A

@@ -7,7 +7,7 @@ use lib.IntN.{ℤ}
 use Rattle.table.specs.inner.View.{listed, naturals, mainOf, shallowOf}
 use Rattle.table.proofs.entries.Beyond.{entry-at}
 use Rattle.table.specs.Definitions.{Definition, main, shallow}
-use Rattle.table.specs.inner.Found.{definitionOf, Within, Finds}
+use Rattle.table.proofs.definitions.OfRows.{definitionOf, IsRow, foundAt, found-row, found-is}
 use Rattle.table.specs.declared.definitions.Found.{Found}
 use Rattle.table.specs.declared.definitions.Found.the-variants as found
 use Rattle.month_arguments.specs.Longitudes.{Longitudes, nodal}
@@ -34,7 +34,7 @@ module _ (g : Factors) (l : Longitudes) (maincards : List ℕ) (mainangles satel
   abbrev IsReady : Found → Type 0
   IsReady r = Ready (argumentAt l mainangles mains) (correctedAt g (nodal l) maincards satelliteangles satelliteratios mains) shallowcards r kept
 
-  argument-is : (r : Found) → Within mains r → IsReady r → argumentFrom (argumentsIn kept) shallowcards coefficients r ≡ argumentOf l (mainsOf maincards mainangles satelliteangles satelliteratios mains) (meant r)
+  argument-is : (r : Found) → IsRow mains r → IsReady r → argumentFrom (argumentsIn kept) shallowcards coefficients r ≡ argumentOf l (mainsOf maincards mainangles satelliteangles satelliteratios mains) (meant r)
   unfolding argumentOf
   argument-is (found.Main k) h w =
       w .kept .arguments k (w .has) ∙ sym (entry-at 0 (rowArgument l mainangles) mains k h) ∙ main-row l maincards mainangles satelliteangles satelliteratios k
@@ -43,7 +43,7 @@ module _ (g : Factors) (l : Longitudes) (maincards : List ℕ) (mainangles satel
       ∙ ap (λ all. arguments.fromParts all (shallowOf shallowcards coefficients k)) (sym (mains-rows l maincards mainangles satelliteangles satelliteratios mains))
   argument-is found.Nothing h w = refl
 
-  correction-is : (r : Found) → Within mains r → IsReady r → pairFrom (pairsOf kept) shallowcards coefficients r ≡ correctionOf g l (mainsOf maincards mainangles satelliteangles satelliteratios mains) (meant r)
+  correction-is : (r : Found) → IsRow mains r → IsReady r → pairFrom (pairsOf kept) shallowcards coefficients r ≡ correctionOf g l (mainsOf maincards mainangles satelliteangles satelliteratios mains) (meant r)
   unfolding correctionOf
   correction-is (found.Main k) h w =
       w .kept .pairs k (w .has) ∙ sym (entry-at (good one) (rowCorrected g (nodal l) maincards satelliteangles satelliteratios) mains k h)
@@ -54,13 +54,14 @@ module _ (g : Factors) (l : Longitudes) (maincards : List ℕ) (mainangles satel
   correction-is found.Nothing h w = refl
 
   -- and so of what is found at a place
-  pub worked-out : (shallows place : ℕ) (r : Found) (w : Worked) → Finds maincards mains shallowcards shallows place r → IsReady r → FromMains kept shallowcards coefficients r w
+  pub worked-out : (shallows place : ℕ) (r : Found) (w : Worked) → r ≡ foundAt maincards mains shallowcards shallows place → IsReady r → FromMains kept shallowcards coefficients r w
       → IsWorked g l (mainsOf maincards mainangles satelliteangles satelliteratios mains) (shallowsOf shallowcards coefficients shallows) place w
   worked-out shallows place r w f ready is =
-      let d = f .definition mainangles satelliteangles satelliteratios coefficients in
+      let d = ap meant f ∙ found-is maincards mains shallowcards shallows place mainangles satelliteangles satelliteratios coefficients in
+      let row : IsRow mains r = subst (IsRow mains) (sym f) (found-row maincards mains shallowcards shallows place) in
       record {
-        argument = is .argument ∙ argument-is r (f .within) ready ∙ ap (argumentOf l (mainsOf maincards mainangles satelliteangles satelliteratios mains)) d;
-        correction = is .correction ∙ correction-is r (f .within) ready ∙ ap (correctionOf g l (mainsOf maincards mainangles satelliteangles satelliteratios mains)) d;
+        argument = is .argument ∙ argument-is r row ready ∙ ap (argumentOf l (mainsOf maincards mainangles satelliteangles satelliteratios mains)) d;
+        correction = is .correction ∙ correction-is r row ready ∙ ap (correctionOf g l (mainsOf maincards mainangles satelliteangles satelliteratios mains)) d;
         small = is .small;
       }
 

@@ -9,7 +9,8 @@ use native.Mathlib.Numerals.{add-one}
 use lib.ListN.{length, getD}
 use Rattle.station.specs.declared.records.Rows.{Rows}
 use Rattle.station.specs.Records.{recordFrom, recordsFrom}
-use Rattle.station.specs.inner.Rows.{blank, rowsUpto, putRow}
+use Rattle.station.specs.inner.Rows.{putRow}
+use Rattle.station.proofs.records.Copies.{blank, rowsUpto}
 use Rattle.station.specs.Arrays.{recordsIn}
 
 record-at : (ps ms fs : List ℕ) (k n i : ℕ) → i < n → getD (recordsFrom ps ms fs k n) i blank ≡ recordFrom ps ms fs (k + i)

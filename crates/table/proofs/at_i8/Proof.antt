@@ -1,18 +1,9 @@
--- `table::at_i8` meets its contract: inside the row the read is the row's number, past its end `getD` gives 0.
+-- `table::at_i8` meets its contract: past the row's end `getD` gives 0.
 use borrow.Author.Needs.{needs}
 use mathlib.Core.Path.{sym}
 use lib.ListN.{List·getD-eq-default}
 use Rattle.table.proofs.at_i8.Statement.{statement}
 use Rattle.table.proofs.at_i8.Tie as tie
 
-shared-slice-copy-out-result : tie.Need-shared-slice-copy-out-result
-shared-slice-copy-out-result c = search needs
-
-returns : tie.Need-returns
-returns c = search needs
-
-returns-2 : tie.Need-returns-2
-returns-2 c = sym (List·getD-eq-default (c .before .args .xs .now) _ (c .if1 .left))
-
 pub at-i8-spec : {M : Type 1} → statement M
-at-i8-spec = tie.close (tie.spec shared-slice-copy-out-result returns returns-2)
+at-i8-spec = tie.close (tie.spec (λ c. search needs) (λ c. search needs) (λ c. sym (List·getD-eq-default (c .before .args .xs .now) _ (c .if1 .left))))

@@ -4,7 +4,8 @@ use mathlib.Core.Bool.{Bool, true, false, cond}
 use Prim.Native.Nat.{ℕ, zero, suc, _+_, _-_, _≤_, _<_}
 use native.Mathlib.Numerals.{add-one}
 use native.Mathlib.Omega.{arith}
-use lib.Dec.{eqb}
+use borrow.Author.Tests.{ltb-true, ltb-false}
+use lib.Dec.{eqb, ltb}
 use Rattle.table.specs.inner.View.{listed}
 use Rattle.table.specs.Definitions.{Definition, firstWith}
 use Rattle.table.specs.inner.Found.{firstRow}
@@ -24,7 +25,7 @@ module _ {A : Type 0} (placeOf : A → ℕ) (place : ℕ) (found : A → Definit
   found-by true k next r rest ih e = ap (λ (j : ℕ). found (row j)) e
   found-by false k next r rest ih e = ih e
 
-  pub row-found : (k n r : ℕ) → firstRow (λ j. placeOf (row j)) place k n ≡ r → r < k + n → firstWith placeOf place found otherwise (listed row k n) ≡ found (row r)
+  row-found : (k n r : ℕ) → firstRow (λ j. placeOf (row j)) place k n ≡ r → r < k + n → firstWith placeOf place found otherwise (listed row k n) ≡ found (row r)
   unfolding firstRow listed firstWith
   row-found k zero r e h = absurd (omega arith)
   row-found k (suc n) r e h =
@@ -36,9 +37,17 @@ module _ {A : Type 0} (placeOf : A → ℕ) (place : ℕ) (found : A → Definit
   missing-by true k next r rest h ih e = absurd (omega arith)
   missing-by false k next r rest h ih e = ih e
 
-  pub row-missing : (k n r : ℕ) → firstRow (λ j. placeOf (row j)) place k n ≡ r → k + n ≤ r → firstWith placeOf place found otherwise (listed row k n) ≡ otherwise
+  row-missing : (k n r : ℕ) → firstRow (λ j. placeOf (row j)) place k n ≡ r → k + n ≤ r → firstWith placeOf place found otherwise (listed row k n) ≡ otherwise
   unfolding firstRow listed firstWith
   row-missing k zero r e h = refl
   row-missing k (suc n) r e h =
       missing-by (eqb (placeOf (row k)) place) k (firstRow (λ j. placeOf (row j)) place (suc k) n) r (firstWith placeOf place found otherwise (listed row (suc k) n)) (omega arith)
       (λ e′. row-missing (suc k) n r e′ (omega arith)) e
+
+  -- what stands in the list, by its first row
+  pub first-found : (n r : ℕ) → firstRow (λ j. placeOf (row j)) place 0 n ≡ r → firstWith placeOf place found otherwise (listed row 0 n) ≡ cond (ltb r n) (found (row r)) otherwise
+  first-found n r e = by (ltb r n) refl
+    where
+      by : (t : Bool) → ltb r n ≡ t → firstWith placeOf place found otherwise (listed row 0 n) ≡ cond t (found (row r)) otherwise
+      by true l = row-found 0 n r e (omega (arith, ltb-true r n l))
+      by false l = row-missing 0 n r e (omega (arith, ltb-false r n l))

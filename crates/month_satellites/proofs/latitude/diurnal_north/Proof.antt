@@ -11,7 +11,7 @@ use Rattle.angles.proofs.Machine.{held}
 use Rattle.angles.proofs.Known.{Known, plainly, cast, bounded, fits, kept, says, minus, times}
 use Rattle.month_satellites.specs.Latitude.{diurnalNorth}
 use Rattle.month_satellites.specs.inner.Factors.{IsS20}
-use Rattle.month_satellites.proofs.latitude.Sizes.{floored, apart-size, square}
+use Rattle.month_satellites.proofs.latitude.Sizes.{floored, apart-size}
 use Rattle.month_satellites.proofs.latitude.diurnal_north.Statement.{statement}
 use Rattle.month_satellites.proofs.latitude.diurnal_north.Tie as tie
 
@@ -58,7 +58,7 @@ returns c =
     let s = c .before .args .s in
     let h = c .before .pre in
     let g = floored (2 ^ 23) (100000 * s) (c .floor-div .ensures) (kept (above s h) (omega (arith, h .high))) (omega (arith, h .low)) (omega arith) in
-    rw (square s) (says (kept g (lit< tt)))
+    says (kept g (lit< tt))
 
 pub diurnal-north-spec : {M : Type 1} → statement M
 diurnal-north-spec =

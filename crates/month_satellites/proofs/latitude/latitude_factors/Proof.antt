@@ -2,7 +2,7 @@
 use mathlib.Core.Path.{_≡_, _∙_, ap, ap₂}
 use Prim.Native.Nat.{ℕ, _^_, _≤_}
 use borrow.Author.Needs.{needs}
-use lib.IntN.{ℤ, natAbs}
+use lib.IntN.{ℤ, pos, natAbs}
 use lib.Dec.{lit<}
 use mir.Syntax.{w32}
 use mir.Val.{SFits, toZ, ofZ}
@@ -15,7 +15,7 @@ use Rattle.month_satellites.proofs.latitude.latitude_factors.Statement.
 use Rattle.month_satellites.proofs.latitude.latitude_factors.Tie as tie
 
 -- the factor of a side, from the factor in the north at S20
-sided : (north : ℕ → ℤ) (l r g : ℤ) (s : ℕ) → SFits w32 l → s ≡ s20 (toZ w32 (ofZ w32 l)) → (g ≡ north s) × (natAbs g ≤ 2 ^ 23)
+sided : (north : ℤ → ℤ) (l r g : ℤ) (s : ℕ) → SFits w32 l → pos s ≡ s20 (toZ w32 (ofZ w32 l)) → (g ≡ north (pos s)) × (natAbs g ≤ 2 ^ 23)
     → (r ≡ bySide (toZ w32 (ofZ w32 l)) (held g)) × (natAbs r ≤ 2 ^ 23) → (held r ≡ bySide l (north (s20 l))) × (natAbs (held r) ≤ 2 ^ 23)
 sided north l r g s f es eg er =
     let here : toZ w32 (ofZ w32 l) ≡ l = toZ-ofZ w32 l f in

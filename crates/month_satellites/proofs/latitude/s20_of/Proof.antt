@@ -1,10 +1,10 @@
 -- `month_satellites::latitude::s20_of` meets its contract. From 5 to 90 degrees the fixed sine is from 2^26 to 2^30 (`Sine`).
-use mathlib.Core.Path.{_≡_, _∙_, ap}
+use mathlib.Core.Path.{_≡_, sym, _∙_, ap}
 use Prim.Native.Nat.{ℕ, _-_, _*_, _/_, _^_, _≤_}
 use native.Mathlib.Omega.{arith}
 use native.Mathlib.Nat.{le-refl}
 use borrow.Author.Needs.{needs}
-use lib.IntN.{ℤ, natAbs}
+use lib.IntN.{ℤ, pos, natAbs}
 use lib.Dec.{lit<}
 use mir.Syntax.{w32}
 use mir.Val.{toZ, ofZ}
@@ -14,7 +14,8 @@ use Rattle.angles.specs.Floor.{floorDiv}
 use Rattle.angles.proofs.Machine.{held}
 use Rattle.angles.proofs.Known.{Known, read, fits, kept, says}
 use Rattle.cosine.specs.Fraction.{quarter}
-use Rattle.cosine.specs.Fixed.{step, fixedBase, fixedSine}
+use Rattle.cosine.specs.Fixed.{step, fixedSine}
+use Rattle.cosine.proofs.Natural.{fixedBaseℕ}
 use Rattle.month_satellites.specs.Latitude.{latitudeSize, s20}
 use Rattle.month_satellites.specs.inner.Factors.{IsS20}
 use Rattle.month_satellites.proofs.latitude.Sine.{sine-first, sine-above}
@@ -32,17 +33,23 @@ over sine q h e = kept (floored (2 ^ 20) 1024 e (read sine h (lit< tt)) (lit< tt
 
 module _ (l : ℤ) (sine q : ℤ) (m r : ℕ) (em : m ≡ latitudeSize l) (es : sine ≡ fixedSine (m * arcMinute)) (hs : natAbs sine ≤ 2 ^ 30)
     (eq : q ≡ floorDiv (held sine) 1024) (er : r ≡ natAbs (held q)) where
-  result-is : r ≡ s20 l
-  unfolding s20
-  result-is = er ∙ ap natAbs (over sine q hs eq .is ∙ ap (λ (z : ℤ). floorDiv z 1024) (es ∙ ap (λ (k : ℕ). fixedSine (k * arcMinute)) em))
+  m-range : (300 ≤ m) × (m ≤ 5400)
+  m-range = rw em (size-range l)
 
-  in-table : r ≡ fixedBase step (quarter - m * arcMinute) / 1024
-  in-table = er ∙ ap natAbs (over sine q hs eq .is ∙ ap (λ (z : ℤ). floorDiv z 1024) (es ∙ sine-first (m * arcMinute) (omega (arith, em, size-range l))))
+  sine-is : fixedSine (m * arcMinute) ≡ pos (fixedBaseℕ step (quarter - m * arcMinute))
+  sine-is = sine-first (m * arcMinute) (omega (arith, m-range)) (omega (arith, m-range))
+
+  in-table : r ≡ fixedBaseℕ step (quarter - m * arcMinute) / 1024
+  in-table = er ∙ ap natAbs (over sine q hs eq .is ∙ ap (λ (z : ℤ). floorDiv z 1024) (es ∙ sine-is))
+
+  result-is : pos r ≡ s20 l
+  unfolding s20
+  result-is = ap pos in-table ∙ ap (λ (z : ℤ). floorDiv z 1024) (sym sine-is ∙ ap (λ (k : ℕ). fixedSine (k * arcMinute)) em)
 
   in-range : IsS20 r
   in-range =
       record {
-        low = omega (arith, in-table, sine-above (m * arcMinute) (omega (arith, em, size-range l)) (omega (arith, em, size-range l)));
+        low = omega (arith, in-table, sine-above (m * arcMinute) (omega (arith, m-range)) (omega (arith, m-range)));
         high = omega (arith, er, says (over sine q hs eq) .1);
       }
 

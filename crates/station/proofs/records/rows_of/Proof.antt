@@ -48,15 +48,16 @@ use denote.Triple.Table.{entered, cited}
 use denote.Triple.Walked.{says, Stays, stay-none-slice, walkOf, Walks, ends-at, walked, goes-none-slice, walk-meets}
 use Rattle.station.specs.declared.records.Record.{Record}
 use Rattle.station.specs.declared.records.Rows.{Rows}
-use Rattle.station.specs.inner.Rows.{blank, lentAt, putRow, putLent, noRows, rowsUpto}
+use Rattle.station.specs.inner.Rows.{putRow, noRows, rowsOf}
+use Rattle.station.proofs.records.Copies.{blank, lentAt, putLent, rowsUpto, rows-are}
 use Rattle.station.proofs.records.Record as T
 use Rattle.station.proofs.records.Record.Laws as T′
 use Rattle.station.proofs.records.Rows as R
 use Rattle.station.proofs.records.Rows.Laws as R′
-use Rattle.station.proofs.records.none as none
-use Rattle.station.proofs.records.none.Symbol as none-def
-use Rattle.station.proofs.records.none.Symbol.{name as #records·none}
-use Rattle.station.proofs.records.none.Met as none-thm
+use Rattle.station.proofs.records.no_rows as none
+use Rattle.station.proofs.records.no_rows.Symbol as none-def
+use Rattle.station.proofs.records.no_rows.Symbol.{name as #records·no-rows}
+use Rattle.station.proofs.records.no_rows.Met as none-thm
 use Rattle.station.proofs.records.at_most as most
 use Rattle.station.proofs.records.at_most.Symbol as most-def
 use Rattle.station.proofs.records.at_most.Symbol.{name as #records·at-most}
@@ -158,10 +159,10 @@ module _ {M : Type 1} (𝓤 : URA M) (H : Heap 𝓤) (A : Atoms 𝓤) (W : Given
   abbrev mach : ℕ → Val
   mach i = LL.tuple-val T.the-type T′.the-laws (T.the-type .to (elem i))
 
-  exits : (v : Val) → ent 𝓤 (⋆ 𝓤 H A (‵ (flft κ q) ∷ ‵ Own ∷ ‵ (R.the-row .own (rowsUpto ys (min n 146)) (v ∷ [])) ∷ [])) (Post v)
+  exits : (v : Val) → ent 𝓤 (⋆ 𝓤 H A (‵ (flft κ q) ∷ ‵ Own ∷ ‵ (R.the-row .own (rowsOf ys) (v ∷ [])) ∷ [])) (Post v)
   exits v =
-      qed W (‵ (flft κ q) ∷ ‵ Own ∷ ‵ (R.the-row .own (rowsUpto ys (min n 146)) (v ∷ [])) ∷ []) ∵
-      suffices ! _ (ends-at 𝓤 H A it.ended stayed (it.clauses 𝓤 H A mem run) W (((κ, tt), (q, tt), tt, x, at), tt) v (rowsUpto ys (min n 146)) (tt, tt) (tt, tt)) $ says ! refl $
+      qed W (‵ (flft κ q) ∷ ‵ Own ∷ ‵ (R.the-row .own (rowsOf ys) (v ∷ [])) ∷ []) ∵
+      suffices ! _ (ends-at 𝓤 H A it.ended stayed (it.clauses 𝓤 H A mem run) W (((κ, tt), (q, tt), tt, x, at), tt) v (rowsOf ys) (tt, tt) (tt, tt)) $ says ! refl $
       nothing ! $ move ! (1 ∷ 0 ∷ []) $ join ! $ nothing ! $ move ! (2 ∷ 0 ∷ []) $ fjoin ! $ move ! (1 ∷ 0 ∷ []) $ frame ! $ frame ! $ done !
 
   -- what each call asks
@@ -196,7 +197,7 @@ module _ {M : Type 1} (𝓤 : URA M) (H : Heap 𝓤) (A : Atoms 𝓤) (W : Given
   abbrev En : ℕ → ℕ → ℕ → ℕ → ℕ → ℕ → ℕ → ℕ → ℕ → ℕ → ℕ → Env 𝓤 H
   En l₀ l₁ l₂ l₃ l₄ l₅ l₆ l₇ l₈ l₉ lₐ = (R′.mir, l₀) ∷ (slice, l₁) ∷ (tyInt w64, l₂) ∷ (R′.mir, l₃) ∷ (tyInt w64, l₄) ∷ (T′.mir, l₅) ∷ (tyInt w64, l₆) ∷ (tyBool, l₇) ∷ (tyInt w64, l₈) ∷ (tyPtr, l₉) ∷ (T′.mir, lₐ) ∷ []
 
-  walk : (𝓣 : Tables 𝓤 H) → FmC 𝓤 H (W .laws) (𝓣 .C) → Triple 𝓤 (𝓣 .C #records·at-most) (Most 𝓤 H A mem run) → Triple 𝓤 (𝓣 .C #records·none) (None 𝓤 H A mem run) → Triple 𝓤 (𝓣 .C #records·put) (Put 𝓤 H A mem run)
+  walk : (𝓣 : Tables 𝓤 H) → FmC 𝓤 H (W .laws) (𝓣 .C) → Triple 𝓤 (𝓣 .C #records·at-most) (Most 𝓤 H A mem run) → Triple 𝓤 (𝓣 .C #records·no-rows) (None 𝓤 H A mem run) → Triple 𝓤 (𝓣 .C #records·put) (Put 𝓤 H A mem run)
       → Room T.the-row n → ent 𝓤 (onEntry 𝓤 H A it.signature (κ, tt) (q, tt) x at) (WpFn 𝓤 H (𝓣 .C) (𝓣 .Λ) code.function (sliceVal (b, o) n ∷ []) Post)
   unfolding afterTurn
   walk 𝓣 fm known-most known-none known-put gn =
@@ -212,7 +213,7 @@ module _ {M : Type 1} (𝓤 : URA M) (H : Heap 𝓤) (A : Atoms 𝓤) (W : Given
       peeks ! usize (Is usize) (shows 𝓤 H A usize) m (vm ∷ []) (λ ism. drop ! $
       land ! (from ! (stop !)) (init ! 16 refl (uint-lawful 𝓤 H A W w64 .typed m _ ism .0)) $
       rewrite ! 16 (λ (u : Val). ‵ (fat fullShare (tyInt w64) l₂ 0 u)) (ap only (uint-tells w64 m (vm ∷ []) ism)) refl $
-      -- rows = none(), at 14
+      -- rows = no_rows(), at 14
       use0 W (raw (None 𝓤 H A mem run .pre ((tt, tt, tt, tt, tt), tt))) goes-none′ $
       calls-at ! fm (None 𝓤 H A mem run) known-none ((tt, tt, tt, tt, tt), tt) (no-more !) (λ v.
       use1 W (later (some (λ (r : Rows). (‵ ftrue ⊛ ‵ (R.the-row .own r (v ∷ []))) ⊛ raw (ensured 𝓤 H A none.ended (none.clauses 𝓤 H A mem run) tt tt tt r)))) (id⊢ 𝓤 _) $ await ! tt $ pick ! (λ r.
@@ -262,14 +263,14 @@ module _ {M : Type 1} (𝓤 : URA M) (H : Heap 𝓤) (A : Atoms 𝓤) (W : Given
       (λ y. rewrite ! 4 (λ (z : Bool). ‵ (fat fullShare tyBool l₇ 0 (vbool z))) y refl $ leaves-loop ! (load ! (from ! (stop !)) (look ! 4 refl)) $
       exec ! (𝓣 .C) (𝓣 .Λ) (En l₀ l₁ l₂ l₃ l₄ l₅ l₆ l₇ l₈ l₉ lₐ) rest (atRet (En l₀ l₁ l₂ l₃ l₄ l₅ l₆ l₇ l₈ l₉ lₐ) Post) $
       let all : t .i ≡ min n 146 = omega (arith, em, t .small, ltb-false (t .i) m y) in
-      move ! (11 ∷ []) $ rewrite ! 0 (λ (k : ℕ). ‵ (R.the-row .own (rowsUpto ys k) (t .v ∷ []))) all refl $
-      peeks ! R.the-row (Is R.the-row) (shows 𝓤 H A R.the-row) (rowsUpto ys (min n 146)) (t .v ∷ []) (λ is′.
-      assigns ! (of-opd ! (load ! (from ! (stop !)) (look ! 1 refl))) (from ! (stop !)) (init ! 9 refl (LL.lawful R.the-type R′.the-laws 𝓤 H A W .typed (rowsUpto ys (min n 146)) _ is′ .0)) $
+      move ! (11 ∷ []) $ rewrite ! 0 (λ (r′ : Rows). ‵ (R.the-row .own r′ (t .v ∷ []))) (ap (rowsUpto ys) all ∙ rows-are ys) refl $
+      peeks ! R.the-row (Is R.the-row) (shows 𝓤 H A R.the-row) (rowsOf ys) (t .v ∷ []) (λ is′.
+      assigns ! (of-opd ! (load ! (from ! (stop !)) (look ! 1 refl))) (from ! (stop !)) (init ! 9 refl (LL.lawful R.the-type R′.the-laws 𝓤 H A W .typed (rowsOf ys) _ is′ .0)) $
       returns ! (look ! 9 refl) $ forget ! 1 refl $ forget ! 2 refl $ forget ! 5 refl $ forget ! 8 refl $ forget ! 9 refl $ forget ! 12 refl $ forget ! 13 refl $
       move ! (9 ∷ 14 ∷ []) $ free1 ! $ move ! (8 ∷ 13 ∷ []) $ free1 ! $ move ! (10 ∷ 12 ∷ []) $ free1 ! $ move ! (1 ∷ 11 ∷ []) $ free1 ! $ move ! (1 ∷ 10 ∷ []) $ free1 ! $ move ! (5 ∷ 9 ∷ []) $ free1 ! $ move ! (7 ∷ 8 ∷ []) $ free1 ! $ move ! (3 ∷ 7 ∷ []) $ free1 ! $ move ! (3 ∷ 6 ∷ []) $ free1 ! $ move ! (2 ∷ 5 ∷ []) $ free1 ! $ move ! (1 ∷ 4 ∷ []) $ free1 ! $ free0 ! $ keep ! (1 ∷ 2 ∷ 0 ∷ []) $ by ! (exits (t .v)))))
       (record { i = 0; v = v; small = omega arith }))))))))))))))))))))
 
-module _ {M : Type 1} (𝓤 : URA M) (H : Heap 𝓤) (A : Atoms 𝓤) (W : Given 𝓤 H A) (mem : Memory → SProp 𝓤) (run : Routine → Fun 𝓤) (𝓣 : Tables 𝓤 H) (known-most : Triple 𝓤 (𝓣 .C #records·at-most) (Most 𝓤 H A mem run)) (known-none : Triple 𝓤 (𝓣 .C #records·none) (None 𝓤 H A mem run)) (known-put : Triple 𝓤 (𝓣 .C #records·put) (Put 𝓤 H A mem run)) where
+module _ {M : Type 1} (𝓤 : URA M) (H : Heap 𝓤) (A : Atoms 𝓤) (W : Given 𝓤 H A) (mem : Memory → SProp 𝓤) (run : Routine → Fun 𝓤) (𝓣 : Tables 𝓤 H) (known-most : Triple 𝓤 (𝓣 .C #records·at-most) (Most 𝓤 H A mem run)) (known-none : Triple 𝓤 (𝓣 .C #records·no-rows) (None 𝓤 H A mem run)) (known-put : Triple 𝓤 (𝓣 .C #records·put) (Put 𝓤 H A mem run)) where
   it-walks : Walks 𝓤 H A it.ended stayed (WpFn 𝓤 H (𝓣 .C) (𝓣 .Λ) code.function) (it.clauses 𝓤 H A mem run)
   it-walks = walked 𝓤 H A it.ended stayed (it.clauses 𝓤 H A mem run) (WpFn 𝓤 H (𝓣 .C) (𝓣 .Λ) code.function) (λ κs. (slice-vals, tt)) (λ κs. (shr-slice-tells (named 0) (κs .0) T.the-row, tt))
       (λ κs qs bounds a g are. via 𝓤 _ (fst∗ 𝓤 _ (emp 𝓤))
@@ -285,5 +286,5 @@ rows-of-spec 𝓤 H 𝓜 𝓖 𝓡 =
     (tables 𝓤 H 𝓜 𝓡 code.env .C) (tables 𝓤 H 𝓜 𝓡 code.env .Λ) #records·rows-of code.function (code.unfolded 𝓤 H 𝓜 𝓡)
     (it-meets 𝓤 H (𝓖 .A) (givenOf 𝓤 H 𝓜 𝓖) (𝓜 .mem) (𝓡 .run) (tablesOf 𝓤 H 𝓜 (tables 𝓤 H 𝓜 𝓡 code.env))
     (cited 𝓤 H (Most 𝓤 H (𝓖 .A) (𝓜 .mem) (𝓡 .run)) 𝓜 𝓡 code.env #records·at-most most-def.routine code.calls-station·records·at-most (most-thm.met 𝓤 H 𝓜 𝓖 𝓡))
-    (cited 𝓤 H (None 𝓤 H (𝓖 .A) (𝓜 .mem) (𝓡 .run)) 𝓜 𝓡 code.env #records·none none-def.routine code.calls-station·records·none (none-thm.met 𝓤 H 𝓜 𝓖 𝓡))
+    (cited 𝓤 H (None 𝓤 H (𝓖 .A) (𝓜 .mem) (𝓡 .run)) 𝓜 𝓡 code.env #records·no-rows none-def.routine code.calls-station·records·no-rows (none-thm.met 𝓤 H 𝓜 𝓖 𝓡))
     (cited 𝓤 H (Put 𝓤 H (𝓖 .A) (𝓜 .mem) (𝓡 .run)) 𝓜 𝓡 code.env #records·put put-def.routine code.calls-station·records·put (put-thm.met 𝓤 H 𝓜 𝓖 𝓡)))

@@ -67,10 +67,10 @@ loop-again-2 c =
     )
 
 returns : tie.Need-returns Inv-loop μ-loop
-returns c place h =
+returns c =
     let s = c .before .loop in
     let none : s .row ≡ 0 = omega (arith, c .loop-test .left) in
-    rw (none, sub-zero) at (s .inv .2 place h)
+    record { each = λ place h. rw (none, sub-zero) at (s .inv .2 place h) }
 
 pub first-rows-spec : {M : Type 1} → statement M
 first-rows-spec =
