@@ -30,7 +30,7 @@ northLetter byte = eqb byte 78 || eqb byte 110
 -- "The two skipped columns behind the minutes [..] take blanks and at most one letter, N, S, n or s"
 abbrev pub markGood : ℕ → ℕ → Bool
 markGood first second =
-    (blank second && (blank first || southLetter first || northLetter first)) || (blank first && (southLetter second || northLetter second))
+    cond (blank second) (blank first || southLetter first || northLetter first) (blank first && (southLetter second || northLetter second))
 
 -- "a minus before the degrees" (byte 45): in the column before them, or in their first
 abbrev pub minusBefore : List ℕ → Bool

@@ -1,6 +1,8 @@
 // The two cards of the station file (001, section 3.3): the station card's latitude, and the record of a constituent card.
 ghost use mathlib.Core.Path.{_≡_};
 ghost use Prim.Native.Nat.{_≤_, min};
+ghost use mathlib.Core.Bool.{_||_};
+ghost use lib.Dec.{eqb};
 ghost use lib.IntN.{natAbs};
 ghost use Rattle.limits.specs.Limits.{mostFrequencies};
 ghost use Rattle.columns.specs.Bytes.{blank};
@@ -50,24 +52,28 @@ fn is_blank(byte: u8) -> bool
     byte == b' '
 }
 
+// Whether it is one of two.
+fn is_either(byte: u8, one: u8, other: u8) -> bool
+    ensures { λ r. ⌜ r ≡ (eqb byte one || eqb byte other) ⌝ }
+{
+    if byte == one {
+        return true;
+    }
+    byte == other
+}
+
 // Whether it is an S or an s.
 fn is_south_letter(byte: u8) -> bool
     ensures { λ r. ⌜ r ≡ southLetter byte ⌝ }
 {
-    if byte == b'S' {
-        return true;
-    }
-    byte == b's'
+    is_either(byte, b'S', b's')
 }
 
 // Whether it is an N or an n.
 fn is_north_letter(byte: u8) -> bool
     ensures { λ r. ⌜ r ≡ northLetter byte ⌝ }
 {
-    if byte == b'N' {
-        return true;
-    }
-    byte == b'n'
+    is_either(byte, b'N', b'n')
 }
 
 // Whether two columns hold blanks and at most one letter.
@@ -126,7 +132,7 @@ fn side_of(minus: bool, letter: bool) -> Side
 }
 
 // Whether the latitude on a station card is south.
-fn side(line: &[u8]) -> Side
+fn side_on(line: &[u8]) -> Side
     ensures { λ r. ⌜ sideGives r ≡ isSouth (now (line .entry)) ⌝ }
 {
     let first = columns::column(line, formats::MARK);
@@ -137,12 +143,20 @@ fn side(line: &[u8]) -> Side
     Side::Bad(faults::only(What::Mark, Trouble::BadMark))
 }
 
-// Degrees and minutes as minutes, with their sign.
-fn minutes_of(south: bool, degrees: i8, minutes: u64) -> i32
-    requires { ⌜ minutes ≤ 59 ⌝ }
-    ensures { λ r. ⌜ r ≡ signed south (latitudeSize (natAbs degrees) minutes) ⌝ }
+// The size of the degrees.
+fn size_of(degrees: i8) -> u64
+    ensures { λ r. ⌜ r ≡ natAbs degrees ⌝ }
+    ensures { λ r. ⌜ r ≤ 128 ⌝ }
 {
-    let size = (60 * angles::size(degrees as i64) + minutes) as i32;
+    angles::size(degrees as i64)
+}
+
+// Degrees and minutes as minutes, with their sign.
+fn minutes_of(south: bool, degrees: u64, minutes: u64) -> i32
+    requires { ⌜ (degrees ≤ 128) × (minutes ≤ 59) ⌝ }
+    ensures { λ r. ⌜ r ≡ signed south (latitudeSize degrees minutes) ⌝ }
+{
+    let size = (60 * degrees + minutes) as i32;
     if south {
         return 0 - size;
     }
@@ -155,8 +169,8 @@ fn latitude_fields(line: &[u8]) -> Latitude
 {
     match small_field(line, formats::degrees()) {
         Small::Value(d) => match natural_field(line, formats::minutes()) {
-            Natural::Value(m) => match side(line) {
-                Side::South(south) => Latitude::At(minutes_of(south, d, m)),
+            Natural::Value(m) => match side_on(line) {
+                Side::South(south) => Latitude::At(minutes_of(south, size_of(d), m)),
                 Side::Bad(fault) => Latitude::Bad(fault),
             },
             Natural::Bad(fault) => Latitude::Bad(fault),
