@@ -276,6 +276,7 @@ fn with_table<'a>(
     let asked = request.asked;
     let read = station_cards(clock, station);
     let answer = read.answer;
+    let fault = read.fault;
     match answer {
         Answer::Accepted => with_station(
             clock,
@@ -288,7 +289,7 @@ fn with_table<'a>(
             path,
             asked,
         ),
-        Answer::Refused(refusal, line) => messages::refused(path, line, read.fault, refusal),
+        Answer::Refused(refusal, line) => messages::refused(path, line, fault, refusal),
     }
 }
 
