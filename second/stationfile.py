@@ -46,17 +46,23 @@ def read_station_file(data, names):
 
 
 def read_station_card(card):
-    """The latitude. South is a minus right before or at the head of the degrees, or an S right behind the minutes."""
+    """The latitude. South is a minus right before or at the head of the degrees, or an S or s in one of the two columns behind the minutes."""
     card.skip(5 + 4 + 1 + 22 + 3)
     before = card.text(1)
     head = card.columns[card.at : card.at + 1]
     degrees = abs(card.whole(2, -99, 99))
     card.skip(1)
     minutes = card.whole(2, 0, 59)
-    behind = card.text(1)
-    south = before == b"-" or head == b"-" or behind == b"S"
+    # "take blanks and at most one letter, N, S, n or s; any other byte there is refused by 3"
+    letters = card.text(2).replace(b" ", b"")
+    if letters not in (b"", b"N", b"S", b"n", b"s"):
+        card.refuse(3)
+    minus, marked = b"-" in (before, head), letters.upper() == b"S"
+    # "and so is an S beside a minus before the degrees"
+    if minus and marked:
+        card.refuse(3)
     size = 60 * degrees + minutes
-    return -size if south else size
+    return -size if minus or marked else size
 
 
 def read_constituent_card(card, places):

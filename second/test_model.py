@@ -255,9 +255,13 @@ def check_station_files():
 
     for text, latitude in (
         (b"-48 25", -2_905), (b" 48 25S", -2_905), (b" -8 25", -505), (b" -0 30", -30), (b" 00 30S", -30), (b"- 0 30", -30),
-        (b" 00 30 ", 30), (b" 48 25s", 2_905), (b" 48 25N", 2_905), (b" 99 59", 5_999), (b" 5  7 ", 307),
+        (b" 00 30 ", 30), (b" 48 25s", -2_905), (b" 48 25 S", -2_905), (b" 48 25 s", -2_905), (b" 48 25N", 2_905), (b" 48 25 n", 2_905),
+        (b"-48 25 N", -2_905), (b" 99 59", 5_999), (b" 5  7 ", 307),
     ):
         check("latitude %r" % text, read(edited(1, 36, text)).latitude, latitude)
+    for text in (b" 48 25x", b" 48 25 -", b" 48 25NS", b" 48 25SS", b" 48 25S0", b"-48 25S", b"-48 25 s", b" -8 25S"):
+        edit("mark %r" % text, 1, 36, text, (3, 1))
+    edit("minutes before the mark", 1, 36, b" 48 6x-", (2, 1))
     edit("minutes 60", 1, 36, b" 48 60", (3, 1))
     edit("minutes -1", 1, 36, b" 48 -1", (3, 1))
     edit("degrees malformed", 1, 36, b" 4x 60", (2, 1))

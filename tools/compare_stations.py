@@ -18,7 +18,9 @@ from cards import read_card_file  # noqa: E402
 from stationcheck import answer  # noqa: E402
 
 # Fields: first column from 1, width, and what may stand there.
-LATITUDES = [b"-48 25", b" -5 25", b" -0 30", b" 00 30S", b" 48 60", b" 48 59s", b" 99 59", b" 90 00N", b"- 7  7", b" 4a 25", b"       ", b" 48 -1", b"+12 34"]
+LATITUDES = [b"-48 25", b" -5 25", b" -0 30", b" 00 30S", b" 48 60", b" 48 59s", b" 99 59", b" 90 00N", b"- 7  7", b" 4a 25", b"       ", b" 48 -1", b"+12 34",
+             b" 48 25 S", b" 48 25 s", b" 48 25 n", b" 48 25NS", b"-48 25S", b" -5 25 s", b"-48 25 N", b" 48 25 x", b" 48 6x-"]
+MARKS = [bytes([a, b]) for a in b" NSns-x0" for b in b" NSns-x0"]
 AMPLITUDES = [b"  1.2345", b"   -.001", b"-0.00000", b"429496.7295", b"429496.7296", b"65536.0 ", b"        ", b" 1.23456", b"12345678", b"1 .2345 ", b"9999999."]
 PHASES = [b" 359.99", b" 360.00", b"-000.00", b"  -1.00", b"999999.", b"       ", b"  1.234", b"     .1", b"      ."]
 NAMES = [b"M2   ", b" M2  ", b"     ", b"M2  x", b"Q999 ", b"m2   ", b"Z0   "]
@@ -47,7 +49,7 @@ def damaged(rng, lines):
     if rng.random() < 0.3:
         k = 0
     line = lines[k]
-    kind = rng.randrange(8)
+    kind = rng.randrange(9)
     if kind == 0:
         at = rng.randint(1, 82)
         lines[k] = overwritten(line, at, bytes([rng.choice([31, 32, 45, 46, 48, 57, 65, 83, 126, 127, 0, 9, 13, 200])]))
@@ -62,6 +64,8 @@ def damaged(rng, lines):
     elif kind == 5:
         lines.insert(k, line)
     elif kind == 6:
+        lines[0] = overwritten(lines[0], 42, rng.choice(MARKS))
+    elif kind == 7:
         lines[k] = line.ljust(rng.choice([79, 80, 81]), rng.choice([b" ", b"x"]))
     else:
         del lines[k:]

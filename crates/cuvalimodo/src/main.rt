@@ -9,7 +9,6 @@ use clock::Clock;
 use commandline::Asked;
 use commandline::Request;
 use faults::cardfaults;
-use faults::stationfaults;
 use files::End;
 use files::checksum;
 use page::face;
@@ -18,7 +17,9 @@ use page::face::Ground;
 use page::shown::Date;
 use refusals::Answer;
 use refusals::Refusal;
+use station::records::Rows;
 use station_file::stationcards;
+use station_file::stationfaults;
 use station_file::stationfile;
 use station_file::stationfile::StationCards;
 
@@ -207,10 +208,10 @@ fn line_of(place: usize) -> usize {
     if place < 1_000_000 { place + 1 } else { place }
 }
 
-// Says the refusal of the station file at a line.
-fn say_station<'a>(path: &'a [u8], station: &'a [u8], line: usize, refusal: Refusal) {
-    let fault = stationfaults::station_fault(station, line, refusal);
-    messages::refused(path, line, fault, refusal)
+// Says the clock's refusal of a station that was read.
+fn say_station(path: &[u8], rows: Rows, refusal: Refusal, place: usize) {
+    let fault = stationfaults::station_fault(refusal, place, rows);
+    messages::refused(path, line_of(place), fault, refusal)
 }
 
 // What the sheets of a station stand on: what was read of it, and the two files' checksums.
@@ -234,30 +235,23 @@ fn face_of<'a>(ground: Ground, station: &'a [u8], unit: &'a [u8]) -> Face {
 }
 
 // What the clock says of a station, and then what is asked.
-fn with_clock<'a>(after: After, face: Face, path: &'a [u8], station: &'a [u8], asked: Asked)
+fn with_clock(after: After, rows: Rows, face: Face, path: &[u8], asked: Asked)
     requires { ⌜ Made (after .clock) ⌝ }
 {
     let answer = after.answer;
     match answer {
         Answer::Accepted => with_date(after.clock, face, path, asked),
-        Answer::Refused(refusal, place) => say_station(path, station, line_of(place), refusal),
+        Answer::Refused(refusal, place) => say_station(path, rows, refusal, place),
     }
 }
 
 // A station that was read, of a clock with a table.
-fn with_station<'a>(
-    clock: Clock,
-    read: StationCards,
-    face: Face,
-    path: &'a [u8],
-    station: &'a [u8],
-    asked: Asked,
-)
+fn with_station(clock: Clock, read: StationCards, face: Face, path: &[u8], asked: Asked)
     requires { ⌜ Made clock ⌝ }
 {
     let rows = read.rows;
     let after = clock::place_station(clock, read.latitude, read.count, rows);
-    with_clock(after, face, path, station, asked)
+    with_clock(after, rows, face, path, asked)
 }
 
 // The station file's cards, by the names of the clock's table.
@@ -282,6 +276,7 @@ fn with_table<'a>(
     let asked = request.asked;
     let read = station_cards(clock, station);
     let answer = read.answer;
+    let fault = read.fault;
     match answer {
         Answer::Accepted => with_station(
             clock,
@@ -292,10 +287,9 @@ fn with_table<'a>(
                 commandline::word(words, request.unit),
             ),
             path,
-            station,
             asked,
         ),
-        Answer::Refused(refusal, line) => say_station(path, station, line, refusal),
+        Answer::Refused(refusal, line) => messages::refused(path, line, fault, refusal),
     }
 }
 

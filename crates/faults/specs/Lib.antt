@@ -2,5 +2,4 @@ pub mod Faults
 pub mod Stands
 pub mod Fields
 pub mod Card
-pub mod Station
 pub mod inner

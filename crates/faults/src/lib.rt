@@ -1,4 +1,4 @@
-// What is wrong on a refused line of a card file or a station file: which field of its card, and what is wrong with it. The library has refused the line;
+// What is wrong on a refused line of a card file: which field of its card, and what is wrong with it. The library has refused the line;
 // a fault only says in which words, and where none is found, the general words of the refusal stand.
 ghost use mathlib.Core.Path.{_≡_};
 ghost use Rattle.faults.specs.Faults as spec;
@@ -11,7 +11,6 @@ ghost use Rattle.faults.specs.declared.Fault.the-variants as fault;
 mod cardlines; // which card is due on a line
 mod cardfields; // the number fields of each card
 pub mod cardfaults; // the card file's lines
-pub mod stationfaults; // the station file's lines
 
 use card::lines;
 use columns::names;

@@ -22,13 +22,20 @@ unfoldable pub placeRepeated : ℕ → List ℕ → Bool
 placeRepeated place [] = false
 placeRepeated place (earlier ∷ rest) = cond (eqb earlier place) true (placeRepeated place rest)
 
+-- "Amplitude is 0 to 65,535 tenths of a millimetre, phase lag 0 to 35,999 hundredths of a degree."
+abbrev pub amplitudeOutside : ℕ → Bool
+amplitudeOutside amplitude = ltb mostAmplitude amplitude
+
+abbrev pub phaseOutside : ℕ → Bool
+phaseOutside phase = ltb mostPhase phase
+
 -- "each record's place (5, 4), amplitude, phase": the record number k, from 1, after records with the places `earlier`,
--- in a table with so many frequencies. "Amplitude is 0 to 65,535 [..], phase lag 0 to 35,999."
+-- in a table with so many frequencies
 unfoldable pub recordOutcome : ℕ → List ℕ → ℕ → Record → Outcome Unit
 recordOutcome frequencies earlier k r =
     refuseIf (leb frequencies (r .place)) 5 k
     (refuseIf (placeRepeated (r .place) earlier) 4 k
-    (refuseIf (ltb mostAmplitude (r .amplitude)) 3 k (refuseIf (ltb mostPhase (r .phase)) 3 k (accepted tt))))
+    (refuseIf (amplitudeOutside (r .amplitude)) 3 k (refuseIf (phaseOutside (r .phase)) 3 k (accepted tt))))
 
 -- the records from number k on, each in its turn
 unfoldable pub recordsOutcome : ℕ → List ℕ → ℕ → List Record → Outcome Unit

@@ -3,7 +3,7 @@ ghost use mathlib.Core.Path.{_≡_};
 ghost use Prim.Native.Nat.{_+_, _%_, _<_, _≤_};
 ghost use Rattle.limits.specs.Limits.{mostRecords};
 ghost use Rattle.refusals.specs.Outcome.{outcomeOf};
-ghost use Rattle.station.specs.Station.{placeRepeated, recordOutcome};
+ghost use Rattle.station.specs.Station.{placeRepeated, amplitudeOutside, recordOutcome};
 ghost use Rattle.station.specs.inner.Station.{placesBefore, noStation, putRecord};
 ghost use Rattle.station.specs.inner.Posts.{RecordsPost, StationPost};
 ghost use Rattle.station.specs.Records.{recordAt};
@@ -62,6 +62,13 @@ fn is_repeated(places: &[u8; RECORDS], k: usize, place: u8) -> bool
     false
 }
 
+// Whether an amplitude is out of range.
+pub fn amplitude_outside(amplitude: u32) -> bool
+    ensures { λ r. ⌜ r ≡ amplitudeOutside amplitude ⌝ }
+{
+    AMPLITUDE < amplitude
+}
+
 // Record k, from 0: its place is in the table and new, its amplitude and its phase lag are in range.
 fn record_answer(frequencies: usize, rows: Rows, k: usize) -> Answer
     requires { ⌜ k < mostRecords ⌝ }
@@ -74,7 +81,7 @@ fn record_answer(frequencies: usize, rows: Rows, k: usize) -> Answer
     if is_repeated(&rows.places, k, place) {
         return Answer::Refused(Refusal::BadName, k + 1);
     }
-    if AMPLITUDE < rows.amplitudes[k] {
+    if amplitude_outside(rows.amplitudes[k]) {
         return Answer::Refused(Refusal::OutOfRange, k + 1);
     }
     if PHASE < rows.phases[k] {

@@ -1,4 +1,5 @@
 pub mod Formats
 pub mod Cards
 pub mod Station
+pub mod Faults
 pub mod inner

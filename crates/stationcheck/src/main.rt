@@ -1,7 +1,11 @@
 // Says what a station file comes to. Standard input, of up to 65,536 bytes, is a line with the size of a table's names in bytes, the names, five bytes
 // each, and the station file. It writes the checksums of both, the station's name and time zone, and the latitude and the records, or the refusal.
+ghost use Rattle.card.specs.inner.Fields.{IsNatural};
 use card::Natural;
+use card::faults::What;
+use card::formats::NumberField;
 use card::natural_field;
+use fields::Format;
 use files::checksum;
 use libc::STDOUT_FILENO;
 use limits::RECORDS;
@@ -95,17 +99,25 @@ fn put_face<'a>(names: &'a [u8], station: &'a [u8]) {
     put_text(b"zone ", stationcards::time_zone(station));
 }
 
+// The size of the names, on the first line.
+fn size_field() -> NumberField
+    ensures { λ r. ⌜ IsNatural r ⌝ }
+{
+    NumberField {
+        what: What::File,
+        which: 0,
+        from: 0,
+        width: 8,
+        format: Format::Whole,
+        low: 0,
+        high: 65_536,
+    }
+}
+
 // What the input comes to; nothing where it has no size.
 fn put_input(input: &[u8]) {
     let rest = columns::rest_lines(input);
-    match natural_field(
-        columns::first_line(input),
-        0,
-        8,
-        fields::Format::Whole,
-        0,
-        65_536,
-    ) {
+    match natural_field(columns::first_line(input), size_field()) {
         Natural::Value(bytes) => {
             let k = bytes as usize;
             let names = columns::part(rest, 0, k);

@@ -31,18 +31,21 @@ returns-2 : tie.Need-returns-2
 unfolding recordOutcome
 returns-2 c = simp (lt-leb _ _ (c .before .before .before .before .if1 .left), ← c .before .is-repeated .ensures, c .if2 .taken)
 
-mul-if3 : tie.Need-mul-if3
-mul-if3 c = search needs
+mul-amplitude-outside : tie.Need-mul-amplitude-outside
+mul-amplitude-outside c = search needs
 
-element-copy-out-if3 : tie.Need-element-copy-out-if3
-element-copy-out-if3 c = search needs
+element-copy-out-amplitude-outside : tie.Need-element-copy-out-amplitude-outside
+element-copy-out-amplitude-outside c = search needs
 
-add-t21 : tie.Need-add-t21
-add-t21 c = search needs
+amplitude-outside-requires : tie.Need-amplitude-outside-requires
+amplitude-outside-requires c κs = search needs
+
+add-t22 : tie.Need-add-t22
+add-t22 c = search needs
 
 returns-3 : tie.Need-returns-3
 unfolding recordOutcome
-returns-3 c = simp (lt-leb _ _ (c .before .before .before .before .before .before .if1 .left), ← c .before .before .before .is-repeated .ensures, c .before .before .if2 .left, lt-ltb _ _ (c .if3 .taken))
+returns-3 c = simp (lt-leb _ _ (c .before .before .before .before .before .before .before .if1 .left), ← c .before .before .before .before .is-repeated .ensures, c .before .before .before .if2 .left, ← c .before .amplitude-outside .ensures, c .if3 .taken)
 
 mul-if4 : tie.Need-mul-if4
 mul-if4 c = search needs
@@ -50,16 +53,16 @@ mul-if4 c = search needs
 element-copy-out-if4 : tie.Need-element-copy-out-if4
 element-copy-out-if4 c = search needs
 
-add-t25 : tie.Need-add-t25
-add-t25 c = search needs
+add-t26 : tie.Need-add-t26
+add-t26 c = search needs
 
 returns-4 : tie.Need-returns-4
 unfolding recordOutcome
-returns-4 c = simp (lt-leb _ _ (c .before .before .before .before .before .before .before .before .if1 .left), ← c .before .before .before .before .before .is-repeated .ensures, c .before .before .before .before .if2 .left, le-ltb _ _ (c .before .before .if3 .left), lt-ltb _ _ (c .if4 .taken))
+returns-4 c = simp (lt-leb _ _ (c .before .before .before .before .before .before .before .before .before .if1 .left), ← c .before .before .before .before .before .before .is-repeated .ensures, c .before .before .before .before .before .if2 .left, ← c .before .before .before .amplitude-outside .ensures, c .before .before .if3 .left, lt-ltb _ _ (c .if4 .taken))
 
 returns-5 : tie.Need-returns-5
 unfolding recordOutcome
-returns-5 c = simp (lt-leb _ _ (c .before .before .before .before .before .before .before .before .if1 .left), ← c .before .before .before .before .before .is-repeated .ensures, c .before .before .before .before .if2 .left, le-ltb _ _ (c .before .before .if3 .left), le-ltb _ _ (c .if4 .left))
+returns-5 c = simp (lt-leb _ _ (c .before .before .before .before .before .before .before .before .before .if1 .left), ← c .before .before .before .before .before .before .is-repeated .ensures, c .before .before .before .before .before .if2 .left, ← c .before .before .before .amplitude-outside .ensures, c .before .before .if3 .left, le-ltb _ _ (c .if4 .left))
 
 pub record-answer-spec : {M : Type 1} → statement M
 record-answer-spec =
@@ -72,12 +75,13 @@ record-answer-spec =
     is-repeated-requires
     add-t16
     returns-2
-    mul-if3
-    element-copy-out-if3
-    add-t21
+    mul-amplitude-outside
+    element-copy-out-amplitude-outside
+    amplitude-outside-requires
+    add-t22
     returns-3
     mul-if4
     element-copy-out-if4
-    add-t25
+    add-t26
     returns-4
     returns-5)

@@ -13,6 +13,9 @@ use Rattle.columns.specs.Lines.{linesOf, firstLine, restLines}
 use Rattle.columns.proofs.Lines.{lines-next, lines-none}
 use Rattle.table.specs.inner.View.{listed}
 use Rattle.table.proofs.Rows.{listed-same, listed-one-more}
+use Rattle.card.specs.declared.faults.What.the-variants.{File}
+use Rattle.card.specs.declared.faults.Trouble.the-variants.{TooManyRecords, NoStationCard}
+use Rattle.card.specs.Faults.{only}
 use Rattle.card.specs.Card.{gives}
 use Rattle.card.proofs.lines.Openings.{had-room}
 use Rattle.card.proofs.lines.Walk.{lines-end}
@@ -25,25 +28,25 @@ use Rattle.station.proofs.records.Copies.{records-length}
 use Rattle.station_file.specs.Cards.{stationCard, recordFields, nextRecord}
 use Rattle.station_file.specs.inner.Cards.{recordGives}
 use Rattle.station_file.specs.declared.stationfields.RecordStep.{RecordStep}
-use Rattle.station_file.specs.Station.{refusedAt, acceptedWith, onward, recordsOn, behindCard, stationLines, stationFile}
+use Rattle.station_file.specs.Station.{given, refused, onward, recordsOn, behindCard, stationLines, stationFile}
 
 -- a card that gives a record had room
 pub record-room : (names : List (List ℕ)) (count : ℕ) (line : List ℕ) (r : Record) → gives r ≡ nextRecord names count line → count < 146
 unfolding nextRecord
-record-room names count line r e = had-room 146 count line (recordFields names line) r (rw e)
+record-room names count line r e = had-room 146 TooManyRecords count line (recordFields names line) r (rw e)
 
 -- the cards from byte `at` on, after the first `count` records of the rows: the card there, or none left
 module _ (latitude : ℤ) (names : List (List ℕ)) (file : List ℕ) (at : ℕ) (rows : Rows) (count : ℕ) where
   pub records-here : (line : List ℕ) (r : RecordStep) → at < length file → line ≡ firstLine (drop at file) → recordGives r ≡ nextRecord names count line
       → recordsOn latitude names (linesOf (drop at file)) (count + 2) (recordsOf rows count)
-      ≡ onward (recordGives r) (count + 2) (acceptedWith latitude (recordsOf rows count))
+      ≡ onward (recordGives r) (count + 2) (given latitude (recordsOf rows count))
       (λ r. recordsOn latitude names (linesOf (restLines (drop at file))) (count + 1 + 2) (recordsOf rows count ++ (r ∷ [])))
   unfolding recordsOn
   records-here line r h first card =
       let next : count + 1 + 2 ≡ count + 2 + 1 = omega arith in
       rw (lines-next (drop at file) (omega (arith, length-drop at file)), records-length (rows .places) (rows .amplitudes) (rows .phases) 0 count, card, first, next)
 
-  pub records-end : length file ≤ at → recordsOn latitude names (linesOf (drop at file)) (count + 2) (recordsOf rows count) ≡ acceptedWith latitude (recordsOf rows count)
+  pub records-end : length file ≤ at → recordsOn latitude names (linesOf (drop at file)) (count + 2) (recordsOf rows count) ≡ given latitude (recordsOf rows count)
   unfolding recordsOn
   records-end h = rw (lines-end file at h)
 
@@ -53,7 +56,7 @@ module _ (names : List (List ℕ)) (file : List ℕ) where
   unfolding stationFile stationLines
   file-here h = rw (lines-next file h)
 
-  pub file-empty : length file ≡ 0 → stationFile names file ≡ refusedAt 7 1
+  pub file-empty : length file ≡ 0 → stationFile names file ≡ refused (only File NoStationCard) 1
   unfolding stationFile stationLines
   file-empty h = rw (lines-none file h)
 

@@ -1,17 +1,20 @@
--- Only inner contracts cite this: what the code's answers stand for.
+-- Only inner contracts cite this: what the code's answer stands for.
 -- Assumes nothing.
-use Prim.Native.Nat.{ℕ}
+use Prim.Native.Nat.{_≤_}
+use mathlib.Core.Path.{_≡_}
+use lib.IntN.{pos}
+use Rattle.limits.specs.Limits.{mostRecords}
 use Rattle.refusals.specs.Outcome.{outcomeOf}
-use Rattle.card.specs.inner.Answers as parts
-use Rattle.card.specs.declared.Refusal.{Refusal}
 use Rattle.station.specs.Records.{recordsOf}
-use Rattle.station_file.specs.Station.{StationFile, refusedAt}
+use Rattle.station_file.specs.Station.{StationFile, given, refused, fileOutcome}
 use Rattle.station_file.specs.declared.stationfile.StationCards.{StationCards}
 
--- the station file: the first `count` records of the rows are its own
-abbrev pub fileOf : StationCards → StationFile
-fileOf s = record { outcome = outcomeOf (s .answer); latitude = s .latitude; records = recordsOf (s .rows) (s .count) }
+-- what a file gives is told: the first `count` records of the rows are its own; what is wrong with a refused one is told, and it leaves latitude 0
+-- and no records
+abbrev pub Holds : StationFile → StationCards → Type 0
+Holds (given latitude records) s = (s .latitude ≡ latitude) × (recordsOf (s .rows) (s .count) ≡ records)
+Holds (refused fault line) s = (s .fault ≡ fault) × (s .latitude ≡ pos 0) × (s .count ≡ 0)
 
--- a reader's refusal, by its own number
-abbrev pub refusedAs : Refusal → ℕ → StationFile
-refusedAs r line = refusedAt (parts.numberOf r) line
+-- and 01's answer with it
+abbrev pub Told : StationFile → StationCards → Type 0
+Told file s = (outcomeOf (s .answer) ≡ fileOutcome file) × Holds file s × (s .count ≤ mostRecords)

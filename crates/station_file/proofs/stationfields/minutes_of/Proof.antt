@@ -1,4 +1,4 @@
--- `station_file::stationfields::minutes_of` meets its contract: a size under 100 degrees stands in 32 bits with either sign.
+-- `station_file::stationfields::minutes_of` meets its contract: a size of up to 128 degrees stands in 32 bits with either sign.
 use borrow.Author.Needs.{needs}
 use Rattle.station_file.proofs.stationfields.minutes_of.Statement.{statement}
 use Rattle.station_file.proofs.stationfields.minutes_of.Tie as tie

@@ -20,8 +20,8 @@ at-most-requires c κs = search needs
 record-fields-requires : tie.Need-record-fields-requires
 record-fields-requires c κs = omega (arith, c .at-most .ensures)
 
-enum-known-r : tie.Need-enum-known-r
-enum-known-r c = search needs
+enum-known-fault : tie.Need-enum-known-fault
+enum-known-fault c = search needs
 
 returns : tie.Need-returns
 unfolding nextRecord
@@ -33,7 +33,7 @@ returns-2 c = rw (← c .before .before .before .before .begins .ensures, c .bef
 
 returns-3 : tie.Need-returns-3
 unfolding nextRecord
-returns-3 c = rw (← c .before .before .before .begins .ensures, c .before .r .given .1)
+returns-3 c = rw (← c .before .before .before .begins .ensures, c .before .fault .given .1)
 
 pub record-card-spec : {M : Type 1} → statement M
 record-card-spec =
@@ -44,7 +44,7 @@ record-card-spec =
     enum-told-2
     at-most-requires
     record-fields-requires
-    enum-known-r
+    enum-known-fault
     returns
     returns-2
     returns-3)

@@ -15,9 +15,12 @@ returns : tie.Need-returns
 unfolding stationCard dueCard
 returns c = rw (← c .before .before .line-good .ensures, c .before .if1 .taken) (c .latitude-fields .ensures)
 
+bad-line-requires : tie.Need-bad-line-requires
+bad-line-requires c κs = search needs
+
 returns-2 : tie.Need-returns-2
 unfolding stationCard dueCard
-returns-2 c = rw (← c .before .line-good .ensures, c .if1 .left)
+returns-2 c = rw (c .bad-line .ensures, ← c .before .before .line-good .ensures, c .before .if1 .left)
 
 pub station-card-spec : {M : Type 1} → statement M
 station-card-spec =
@@ -26,4 +29,5 @@ station-card-spec =
     line-good-requires
     latitude-fields-requires
     returns
+    bad-line-requires
     returns-2)

@@ -49,12 +49,16 @@ record-card-requires c κs = search needs
 enum-told : tie.Need-enum-told Inv-loop μ-loop
 enum-told c = search needs
 
+accepted-requires : tie.Need-accepted-requires Inv-loop μ-loop
+accepted-requires c κs = c .before .before .before .before .before .loop .inv .1
+
 returns : tie.Need-returns Inv-loop μ-loop
 returns c =
-    let s = c .before .before .before .before .before in
+    let s = c .before .before .before .before .before .before in
     let a = s .before .before .before .before .args in
     let fits : SFits w32 (a .latitude) = search needs in
-    (rw (toZ-ofZ w32 (a .latitude) fits) (rw (toZ-ofZ w32 (a .latitude) fits, records-here (a .latitude) (namesFrom (a .names .now) 0 (min (a .frequencies) 160)) (a .file .now) (s .loop .at) (s .loop .rows) (s .loop .count) (c .before .before .before .line-at .result .now) (c .before .before .record-card .result) (c .before .before .before .before .loop-test .taken) (c .before .before .before .line-at .ensures) (c .before .before .record-card .ensures), c .enum-told .given .1) at (s .loop .inv .5)), s .loop .inv .1)
+    let e = rw (toZ-ofZ w32 (a .latitude) fits, records-here (a .latitude) (namesFrom (a .names .now) 0 (min (a .frequencies) 160)) (a .file .now) (s .loop .at) (s .loop .rows) (s .loop .count) (c .before .before .before .before .line-at .result .now) (c .before .before .before .record-card .result) (c .before .before .before .before .before .loop-test .taken) (c .before .before .before .before .line-at .ensures) (c .before .before .before .record-card .ensures), c .before .enum-told .given .1) at (s .loop .inv .5) in
+    rw (← e) (rw (toZ-ofZ w32 (a .latitude) fits) at (c .accepted .ensures))
 
 enum-known-place : tie.Need-enum-known-place Inv-loop μ-loop
 enum-known-place c = search needs
@@ -65,8 +69,8 @@ put-requires c κs =
     let a = s .before .before .before .before .args in
     record-room (namesFrom (a .names .now) 0 (min (a .frequencies) 160)) (s .loop .count) (c .before .before .before .before .line-at .result .now) _ (rw (c .before .place .given .1) at (c .before .before .before .record-card .ensures))
 
-enum-known-r : tie.Need-enum-known-r Inv-loop μ-loop
-enum-known-r c = search needs
+enum-known-fault : tie.Need-enum-known-fault Inv-loop μ-loop
+enum-known-fault c = search needs
 
 add-refused : tie.Need-add-refused Inv-loop μ-loop
 add-refused c = search needs
@@ -79,7 +83,8 @@ returns-2 c =
     let s = c .before .before .before .before .before .before .before in
     let a = s .before .before .before .before .args in
     let fits : SFits w32 (a .latitude) = search needs in
-    (c .refused .ensures .0 ∙ (rw (toZ-ofZ w32 (a .latitude) fits, records-here (a .latitude) (namesFrom (a .names .now) 0 (min (a .frequencies) 160)) (a .file .now) (s .loop .at) (s .loop .rows) (s .loop .count) (c .before .before .before .before .before .line-at .result .now) (c .before .before .before .before .record-card .result) (c .before .before .before .before .before .before .loop-test .taken) (c .before .before .before .before .before .line-at .ensures) (c .before .before .before .before .record-card .ensures), c .before .before .r .given .1) at (s .loop .inv .5)), c .refused .ensures .1)
+    let e = rw (toZ-ofZ w32 (a .latitude) fits, records-here (a .latitude) (namesFrom (a .names .now) 0 (min (a .frequencies) 160)) (a .file .now) (s .loop .at) (s .loop .rows) (s .loop .count) (c .before .before .before .before .before .line-at .result .now) (c .before .before .before .before .record-card .result) (c .before .before .before .before .before .before .loop-test .taken) (c .before .before .before .before .before .line-at .ensures) (c .before .before .before .before .record-card .ensures), c .before .before .fault .given .1) at (s .loop .inv .5) in
+    rw (← e) (c .refused .ensures)
 
 next-line-requires : tie.Need-next-line-requires Inv-loop μ-loop
 next-line-requires c κs = search needs
@@ -107,12 +112,16 @@ loop-again c =
           (rw (records-here (toZ w32 (ofZ w32 (a .latitude))) (namesFrom (a .names .now) 0 (min (a .frequencies) 160)) (a .file .now) (s .loop .at) (s .loop .rows) (s .loop .count) (c .before .before .before .before .before .before .line-at .result .now) (c .before .before .before .before .before .record-card .result) (c .before .before .before .before .before .before .before .loop-test .taken) (c .before .before .before .before .before .before .line-at .ensures) (c .before .before .before .before .before .record-card .ensures), g .1) at (s .loop .inv .5)),
     )
 
+accepted-requires-2 : tie.Need-accepted-requires-2 Inv-loop μ-loop
+accepted-requires-2 c κs = c .before .loop .inv .1
+
 returns-3 : tie.Need-returns-3 Inv-loop μ-loop
 returns-3 c =
-    let s = c .before in
+    let s = c .before .before in
     let a = s .before .before .before .before .args in
     let fits : SFits w32 (a .latitude) = search needs in
-    (rw (toZ-ofZ w32 (a .latitude) fits) (rw (toZ-ofZ w32 (a .latitude) fits, records-end (a .latitude) (namesFrom (a .names .now) 0 (min (a .frequencies) 160)) (a .file .now) (s .loop .at) (s .loop .rows) (s .loop .count) (c .loop-test .left)) at (s .loop .inv .5)), s .loop .inv .1)
+    let e = rw (toZ-ofZ w32 (a .latitude) fits, records-end (a .latitude) (namesFrom (a .names .now) 0 (min (a .frequencies) 160)) (a .file .now) (s .loop .at) (s .loop .rows) (s .loop .count) (c .before .loop-test .left)) at (s .loop .inv .5) in
+    rw (← e) (rw (toZ-ofZ w32 (a .latitude) fits) at (c .accepted2 .ensures))
 
 pub read-records-spec : {M : Type 1} → statement M
 read-records-spec =
@@ -125,10 +134,11 @@ read-records-spec =
     line-at-requires
     record-card-requires
     enum-told
+    accepted-requires
     returns
     enum-known-place
     put-requires
-    enum-known-r
+    enum-known-fault
     add-refused
     refused-requires
     returns-2
@@ -136,4 +146,5 @@ read-records-spec =
     add-count
     loop-less
     loop-again
+    accepted-requires-2
     returns-3)
