@@ -1,5 +1,5 @@
 -- Only inner contracts cite this: what the code's rows of satellites stand for in 01's terms.
-use Prim.Native.Nat.{ℕ, _*_, _<_}
+use Prim.Native.Nat.{ℕ, _<_, _*_}
 use mathlib.Core.Path.{_≡_}
 use mathlib.Core.List.{List}
 use lib.ListN.{length}
