@@ -4,11 +4,12 @@
 mod help; // one screen
 
 ghost use Rattle.clock.specs.View.{Made};
+use card::Check;
+use card_file::reader;
 use clock::After;
 use clock::Clock;
 use commandline::Asked;
 use commandline::Request;
-use faults::cardfaults;
 use files::End;
 use files::checksum;
 use page::face;
@@ -180,7 +181,7 @@ fn show(clock: Clock, face: Face, date: Date, asked: Asked)
 // Says the refusal of a date: at a record of the station file, or by the year or the month.
 fn say_date(path: &[u8], date: Date, refusal: Refusal, place: usize) {
     if 0 < place {
-        messages::refused(path, line_of(place), faults::no_words(), refusal);
+        messages::refused_plainly(path, line_of(place), refusal);
         return;
     }
     if calendar::in_range(1976, date.month) {
@@ -295,8 +296,11 @@ fn with_table<'a>(
 
 // Says the refusal of the card file at a line.
 fn say_cards<'a>(path: &'a [u8], cards: &'a [u8], line: usize, refusal: Refusal) {
-    let fault = cardfaults::card_fault(cards, line, refusal);
-    messages::refused(path, line, fault, refusal)
+    let check = reader::check_of(cards);
+    match check {
+        Check::Clear => messages::refused_plainly(path, line, refusal),
+        Check::Bad(fault) => messages::refused(path, line, fault, refusal),
+    }
 }
 
 // What the clock says of the card file, and then the station file.

@@ -1,9 +1,9 @@
 -- The row of a text that has the words of each thing, in the order in which they are declared. Assumes nothing.
 use Prim.Native.Nat.{ℕ}
-use Rattle.faults.specs.declared.What.{What}
-use Rattle.faults.specs.declared.What.the-variants as what
-use Rattle.faults.specs.declared.Trouble.{Trouble}
-use Rattle.faults.specs.declared.Trouble.the-variants as trouble
+use Rattle.card.specs.declared.faults.What.{What}
+use Rattle.card.specs.declared.faults.What.the-variants as what
+use Rattle.card.specs.declared.faults.Trouble.{Trouble}
+use Rattle.card.specs.declared.faults.Trouble.the-variants as trouble
 use Rattle.refusals.specs.declared.Refusal.{Refusal}
 use Rattle.refusals.specs.declared.Refusal.the-variants as refusal
 use Rattle.commandline.specs.declared.Wrong.{Wrong}
@@ -28,9 +28,10 @@ whatRow what.Coefficient = 13
 whatRow what.PartName = 14
 whatRow what.Degrees = 15
 whatRow what.Minutes = 16
-whatRow what.Latitude = 17
-whatRow what.Amplitude = 18
-whatRow what.PhaseLag = 19
+whatRow what.Mark = 17
+whatRow what.Latitude = 18
+whatRow what.Amplitude = 19
+whatRow what.PhaseLag = 20
 
 -- what is wrong with it
 abbrev pub troubleRow : Trouble → ℕ
@@ -40,21 +41,23 @@ troubleRow trouble.Malformed = 2
 troubleRow trouble.OutOfRange = 3
 troubleRow trouble.NotWhole = 4
 troubleRow trouble.PastTwelve = 5
-troubleRow trouble.Blank = 6
-troubleRow trouble.Twice = 7
-troubleRow trouble.NoFrequency = 8
-troubleRow trouble.NoDefinition = 9
-troubleRow trouble.NotMain = 10
-troubleRow trouble.TooManyFrequencies = 11
-troubleRow trouble.TooManyMains = 12
-troubleRow trouble.TooManySatellites = 13
-troubleRow trouble.TooManyShallows = 14
-troubleRow trouble.TooManyRecords = 15
-troubleRow trouble.EndedInFrequencies = 16
-troubleRow trouble.EndedInLongitudes = 17
-troubleRow trouble.EndedInMains = 18
-troubleRow trouble.EndedInShallows = 19
-troubleRow trouble.NoStationCard = 20
+troubleRow trouble.BadMark = 6
+troubleRow trouble.SouthTwice = 7
+troubleRow trouble.Blank = 8
+troubleRow trouble.Twice = 9
+troubleRow trouble.NoFrequency = 10
+troubleRow trouble.NoDefinition = 11
+troubleRow trouble.NotMain = 12
+troubleRow trouble.TooManyFrequencies = 13
+troubleRow trouble.TooManyMains = 14
+troubleRow trouble.TooManySatellites = 15
+troubleRow trouble.TooManyShallows = 16
+troubleRow trouble.TooManyRecords = 17
+troubleRow trouble.EndedInFrequencies = 18
+troubleRow trouble.EndedInLongitudes = 19
+troubleRow trouble.EndedInMains = 20
+troubleRow trouble.EndedInShallows = 21
+troubleRow trouble.NoStationCard = 22
 
 -- 01's refusals, in the order of its tables
 abbrev pub refusalRow : Refusal → ℕ

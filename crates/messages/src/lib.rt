@@ -1,12 +1,13 @@
 // What the program says of a refusal or of a command line that it cannot follow: one line on standard error each.
 mod pieces; // pieces of a line
 mod phrases; // which words say what
+mod textlines; // a line of a text
 pub mod matters; // what a refusal of minutes is about
 
+use card::faults::Fault;
 use commandline::Wrong;
 use digits::dates;
 use digits::texts;
-use faults::Fault;
 use libc::STDERR_FILENO;
 use libc::STDOUT_FILENO;
 use limits::STEP;
@@ -38,34 +39,35 @@ fn say_which(which: usize) {
 }
 
 // Says what is wrong on a line.
-fn say_fault(fault: Fault, refusal: Refusal) {
-    match fault {
-        Fault::Unsaid => pieces::write_general(STDERR_FILENO, refusal),
-        Fault::Of(what, which, trouble) => {
-            pieces::write_what(STDERR_FILENO, what);
-            say_which(which);
-            say(b" ");
-            pieces::write_trouble(STDERR_FILENO, trouble)
-        }
-    }
+fn say_fault(fault: Fault) {
+    let what = fault.what;
+    let trouble = fault.trouble;
+    pieces::write_what(STDERR_FILENO, what);
+    say_which(fault.which);
+    say(b" ");
+    pieces::write_trouble(STDERR_FILENO, trouble)
 }
 
-// FILE line N: words (refusal n)
-pub fn refused(file: &[u8], line: usize, fault: Fault, refusal: Refusal) {
+// FILE line N:
+fn say_line(file: &[u8], line: usize) {
     say(file);
     say(b" line ");
     say_number(line as u64);
     say(b": ");
-    say_fault(fault, refusal);
+}
+
+// FILE line N: what is wrong (refusal n)
+pub fn refused(file: &[u8], line: usize, fault: Fault, refusal: Refusal) {
+    say_line(file, line);
+    say_fault(fault);
     say_refusal(refusal);
 }
 
-// Says the start of a line on what was asked with a number.
-fn say_subject(subject: &[u8], number: u64) {
-    say(subject);
-    say(b" ");
-    say_number(number);
-    say(b": ");
+// FILE line N: the refusal's own words (refusal n)
+pub fn refused_plainly(file: &[u8], line: usize, refusal: Refusal) {
+    say_line(file, line);
+    pieces::write_general(STDERR_FILENO, refusal);
+    say_refusal(refusal);
 }
 
 // SUBJECT NUMBER: words (refusal n), for what was asked with a number.

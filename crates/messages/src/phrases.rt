@@ -1,11 +1,12 @@
 // Which words say what: a text has a row of words for each thing, trouble, refusal or wrong word, in the order in which they are declared.
 ghost use mathlib.Core.Path.{_≡_};
 ghost use Rattle.columns.specs.Lines.{linesOf};
-ghost use Rattle.faults.specs.Faults.{lineAt};
+ghost use Rattle.messages.specs.Lines.{lineAt};
 ghost use Rattle.messages.specs.Rows.{whatRow, troubleRow, refusalRow, wrongRow};
+use crate::textlines::line_of;
+use card::faults::Trouble;
+use card::faults::What;
 use commandline::Wrong;
-use faults::Trouble;
-use faults::What;
 use refusals::Refusal;
 
 // The row of what is at fault.
@@ -30,9 +31,10 @@ fn what_row(what: What) -> usize
         What::PartName => 14,
         What::Degrees => 15,
         What::Minutes => 16,
-        What::Latitude => 17,
-        What::Amplitude => 18,
-        What::PhaseLag => 19,
+        What::Mark => 17,
+        What::Latitude => 18,
+        What::Amplitude => 19,
+        What::PhaseLag => 20,
     }
 }
 
@@ -40,7 +42,7 @@ fn what_row(what: What) -> usize
 pub fn what_words(text: &[u8], what: What) -> &[u8]
     ensures { λ r. ⌜ now r ≡ lineAt (linesOf (now (text .entry))) (whatRow what) ⌝ }
 {
-    faults::line_of(text, what_row(what))
+    line_of(text, what_row(what))
 }
 
 // The row of what is wrong with it.
@@ -54,21 +56,23 @@ fn trouble_row(trouble: Trouble) -> usize
         Trouble::OutOfRange => 3,
         Trouble::NotWhole => 4,
         Trouble::PastTwelve => 5,
-        Trouble::Blank => 6,
-        Trouble::Twice => 7,
-        Trouble::NoFrequency => 8,
-        Trouble::NoDefinition => 9,
-        Trouble::NotMain => 10,
-        Trouble::TooManyFrequencies => 11,
-        Trouble::TooManyMains => 12,
-        Trouble::TooManySatellites => 13,
-        Trouble::TooManyShallows => 14,
-        Trouble::TooManyRecords => 15,
-        Trouble::EndedInFrequencies => 16,
-        Trouble::EndedInLongitudes => 17,
-        Trouble::EndedInMains => 18,
-        Trouble::EndedInShallows => 19,
-        Trouble::NoStationCard => 20,
+        Trouble::BadMark => 6,
+        Trouble::SouthTwice => 7,
+        Trouble::Blank => 8,
+        Trouble::Twice => 9,
+        Trouble::NoFrequency => 10,
+        Trouble::NoDefinition => 11,
+        Trouble::NotMain => 12,
+        Trouble::TooManyFrequencies => 13,
+        Trouble::TooManyMains => 14,
+        Trouble::TooManySatellites => 15,
+        Trouble::TooManyShallows => 16,
+        Trouble::TooManyRecords => 17,
+        Trouble::EndedInFrequencies => 18,
+        Trouble::EndedInLongitudes => 19,
+        Trouble::EndedInMains => 20,
+        Trouble::EndedInShallows => 21,
+        Trouble::NoStationCard => 22,
     }
 }
 
@@ -76,7 +80,7 @@ fn trouble_row(trouble: Trouble) -> usize
 pub fn trouble_words(text: &[u8], trouble: Trouble) -> &[u8]
     ensures { λ r. ⌜ now r ≡ lineAt (linesOf (now (text .entry))) (troubleRow trouble) ⌝ }
 {
-    faults::line_of(text, trouble_row(trouble))
+    line_of(text, trouble_row(trouble))
 }
 
 // The row of a refusal.
@@ -105,7 +109,7 @@ fn refusal_row(refusal: Refusal) -> usize
 pub fn refusal_words(text: &[u8], refusal: Refusal) -> &[u8]
     ensures { λ r. ⌜ now r ≡ lineAt (linesOf (now (text .entry))) (refusalRow refusal) ⌝ }
 {
-    faults::line_of(text, refusal_row(refusal))
+    line_of(text, refusal_row(refusal))
 }
 
 // The row of a word of the command line that cannot be followed.
@@ -128,5 +132,5 @@ fn wrong_row(wrong: Wrong) -> usize
 pub fn wrong_words(text: &[u8], wrong: Wrong) -> &[u8]
     ensures { λ r. ⌜ now r ≡ lineAt (linesOf (now (text .entry))) (wrongRow wrong) ⌝ }
 {
-    faults::line_of(text, wrong_row(wrong))
+    line_of(text, wrong_row(wrong))
 }

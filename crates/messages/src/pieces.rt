@@ -1,12 +1,12 @@
 // The words, a row each, in the order that `phrases` has.
 use crate::phrases;
+use card::faults::Trouble;
+use card::faults::What;
 use commandline::Wrong;
-use faults::Trouble;
-use faults::What;
 use refusals::Refusal;
 
 // The rows of what is at fault.
-fn what_text() -> [u8; 267] {
+fn what_text() -> [u8; 284] {
     *b"the file\n\
        the line\n\
        name\n\
@@ -24,6 +24,7 @@ fn what_text() -> [u8; 267] {
        part\n\
        degrees of latitude\n\
        minutes of latitude\n\
+       mark of latitude\n\
        latitude\n\
        amplitude\n\
        phase lag"
@@ -36,13 +37,15 @@ pub fn write_what(fd: i32, what: What) {
 }
 
 // The rows of what is wrong with it.
-fn trouble_text() -> [u8; 518] {
+fn trouble_text() -> [u8; 566] {
     *b"is over 80 columns long\n\
        has a byte outside 32 to 126\n\
        is a malformed number\n\
        is out of range\n\
        is not a whole number\n\
        takes the sizes past 12\n\
+       is not one letter N or S\n\
+       is an S beside a minus\n\
        is blank\n\
        stands twice\n\
        has no frequency\n\

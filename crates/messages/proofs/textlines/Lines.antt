@@ -6,7 +6,7 @@ use native.Mathlib.Omega.{arith}
 use lib.ListN.{length}
 use Rattle.columns.specs.Lines.{linesOf, firstLine, restLines}
 use Rattle.columns.proofs.Lines.{lines-next, lines-none}
-use Rattle.faults.specs.Faults.{lineAt}
+use Rattle.messages.specs.Lines.{lineAt}
 
 -- the next line is one nearer
 pub line-next : (s : List ℕ) (n : ℕ) → 0 < length s → 0 < n → lineAt (linesOf s) n ≡ lineAt (linesOf (restLines s)) (n - 1)

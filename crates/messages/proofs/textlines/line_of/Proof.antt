@@ -1,14 +1,14 @@
--- `faults::line_of` meets its contract: what is left of the text has the line that is left to reach. Assumes nothing.
+-- `messages::textlines::line_of` meets its contract: what is left of the text has the line that is left to reach. Assumes nothing.
 use borrow.Author.Needs.{needs}
-use Rattle.faults.proofs.line_of.Statement.{statement}
+use Rattle.messages.proofs.textlines.line_of.Statement.{statement}
 use mathlib.Core.Path.{_≡_, sym, _∙_}
 use Prim.Native.Nat.{_≤_, _<_, _-_}
 use native.Mathlib.Omega.{arith}
 use lib.ListN.{length, drop, length-drop}
 use Rattle.columns.specs.Lines.{linesOf}
-use Rattle.faults.specs.Faults.{lineAt}
-use Rattle.faults.proofs.Lines.{line-next, line-first, line-none}
-use Rattle.faults.proofs.line_of.Tie as tie
+use Rattle.messages.specs.Lines.{lineAt}
+use Rattle.messages.proofs.textlines.Lines.{line-next, line-first, line-none}
+use Rattle.messages.proofs.textlines.line_of.Tie as tie
 
 abbrev Inv-loop : tie.InvT-loop
 Inv-loop text n at₀ left₀ at left = (at ≤ length text) × (lineAt (linesOf (drop at text)) left ≡ lineAt (linesOf text) n)
