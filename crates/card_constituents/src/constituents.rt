@@ -11,7 +11,7 @@ ghost use Rattle.card.specs.Faults as spec;
 ghost use Rattle.card.specs.declared.faults.What.the-variants.{File};
 ghost use Rattle.card.specs.declared.faults.Trouble.the-variants.{EndedInMains};
 ghost use Rattle.card.specs.declared.lines.Progress.the-variants.{Reached, Refused};
-ghost use Rattle.card.specs.inner.Lines.{readingGives, Within};
+ghost use Rattle.card.specs.inner.Lines.{readingGives, WithinFile};
 ghost use Rattle.card_mains.specs.inner.Satellites.{SatelliteRoom};
 ghost use Rattle.card_constituents.specs.inner.Rows.{MainRoom, satellitesEnd, Stored, mainsIn, Counted};
 ghost use Rattle.card_constituents.specs.Constituents.{mainsFrom, satellitesFrom};
@@ -107,7 +107,7 @@ pub fn constituent_reader(
 ) -> MainsRead
     requires { ⌜ (here .at ≤ length (now file)) × (here .n ≤ here .at + 1) × (known ≤ mostFrequencies) × (here .mains ≤ mostMains) × (here .satellites ≤ mostSatellites) × Stored (now cards) (here .mains) (here .satellites) × MainRoom (now cards) (now angles) × SatelliteRoom (now sat) (now ratios) × Counted (now cards) (now angles) (now sat) (now ratios) (here .mains) (here .satellites) ⌝ }
     ensures { λ r. ⌜ readingGives (now (file .entry)) (r .progress) (mainsIn (now (cards .exit)) (now (angles .exit)) (now (sat .exit)) (now (ratios .exit)) (r .mains)) ≡ mainsFrom (namesFrom (now (names .entry)) 0 known) (linesOf (drop (here .at) (now (file .entry)))) (here .n) (mainsIn (now (cards .entry)) (now (angles .entry)) (now (sat .entry)) (now (ratios .entry)) (here .mains)) ⌝ }
-    ensures { λ r. ⌜ Within (now (file .entry)) (r .progress) × (r .mains ≤ mostMains) ⌝ }
+    ensures { λ r. ⌜ WithinFile (now (file .entry)) (r .progress) × (r .mains ≤ mostMains) ⌝ }
 {
     let at = here.at;
     if file.len() <= at {
@@ -144,7 +144,7 @@ pub fn satellite_reader(
 ) -> MainsRead
     requires { ⌜ (here .at ≤ length (now file)) × (here .n ≤ here .at + 1) × (known ≤ mostFrequencies) × (here .mains < mostMains) × (here .satellites + due ≤ mostSatellites) × (satellitesEnd (now cards) (here .mains) ≡ here .satellites) × Stored (now cards) (here .mains) (here .satellites) × MainRoom (now cards) (now angles) × SatelliteRoom (now sat) (now ratios) × Counted (now cards) (now angles) (now sat) (now ratios) (here .mains + 1) (here .satellites) ⌝ }
     ensures { λ r. ⌜ readingGives (now (file .entry)) (r .progress) (mainsIn (now (cards .exit)) (now (angles .exit)) (now (sat .exit)) (now (ratios .exit)) (r .mains)) ≡ satellitesFrom (namesFrom (now (names .entry)) 0 known) (linesOf (drop (here .at) (now (file .entry)))) (here .n) (mainsIn (now (cards .entry)) (now (angles .entry)) (now (sat .entry)) (now (ratios .entry)) (here .mains)) (mainOf (now (cards .entry)) (now (angles .entry)) (now (sat .entry)) (now (ratios .entry)) (here .mains)) due ⌝ }
-    ensures { λ r. ⌜ Within (now (file .entry)) (r .progress) × (r .mains ≤ mostMains) ⌝ }
+    ensures { λ r. ⌜ WithinFile (now (file .entry)) (r .progress) × (r .mains ≤ mostMains) ⌝ }
 {
     let at = here.at;
     if file.len() <= at {

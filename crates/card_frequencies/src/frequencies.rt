@@ -10,7 +10,7 @@ ghost use Rattle.columns.specs.Names.{namesFrom};
 ghost use Rattle.table.specs.inner.View.{listed, frequencyOf};
 ghost use Rattle.card_frequencies.specs.Frequencies.{frequencyCard, nextFrequency, frequenciesFrom};
 ghost use Rattle.card_frequencies.specs.inner.Answers.{frequencyRead, frequencyGives};
-ghost use Rattle.card.specs.inner.Lines.{readingGives, Within};
+ghost use Rattle.card.specs.inner.Lines.{readingGives, WithinFile};
 use card::Natural;
 use card::faults;
 use card::faults::Fault;
@@ -86,7 +86,7 @@ pub struct Frequencies {
 // Part 1, from the file's first line on.
 pub fn read_frequencies(file: &[u8]) -> Frequencies
     ensures { λ r. ⌜ readingGives (now (file .entry)) (r .progress) (listed (frequencyOf (r .names) (r .speeds)) 0 (r .count)) ≡ frequenciesFrom (linesOf (now (file .entry))) 1 [] ⌝ }
-    ensures { λ r. ⌜ Within (now (file .entry)) (r .progress) × (r .count ≤ mostFrequencies) ⌝ }
+    ensures { λ r. ⌜ WithinFile (now (file .entry)) (r .progress) × (r .count ≤ mostFrequencies) ⌝ }
 {
     let mut names = [0u8; NAMES];
     let mut speeds = [0u64; FREQUENCIES];

@@ -6,7 +6,7 @@ ghost use Rattle.card.specs.Formats.{fiveField};
 ghost use Rattle.card_frequencies.specs.Longitudes.{fiveCard, fiveFrom};
 ghost use Rattle.card.specs.inner.Answers.{checkGives};
 ghost use Rattle.columns.specs.Lines.{linesOf};
-ghost use Rattle.card.specs.inner.Lines.{readingGives, Within};
+ghost use Rattle.card.specs.inner.Lines.{readingGives, WithinFile};
 use card::Check;
 use card::Natural;
 use card::faults;
@@ -61,7 +61,7 @@ pub struct FiveRead {
 pub fn read_five(file: &[u8], at: usize, n: usize, card: FiveCard) -> FiveRead
     requires { ⌜ (at ≤ length (now file)) × (n ≤ at + 1) ⌝ }
     ensures { λ r. ⌜ readingGives (now (file .entry)) (r .progress) (r .values) ≡ fiveFrom (fiveField card) (linesOf (drop at (now (file .entry)))) n ⌝ }
-    ensures { λ r. ⌜ Within (now (file .entry)) (r .progress) ⌝ }
+    ensures { λ r. ⌜ WithinFile (now (file .entry)) (r .progress) ⌝ }
 {
     if file.len() <= at {
         return FiveRead {

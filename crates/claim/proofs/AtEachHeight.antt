@@ -12,7 +12,7 @@ use Rattle.month_prepared.specs.Prepared.{Constituent}
 use Rattle.heights.specs.Exact.{Near}
 use Rattle.heights.specs.Height.{heightAt}
 use Rattle.turns.specs.Search.{minutesOf}
-use Rattle.turns.specs.Written.{TurnsFound, TurnsGiven, inFront}
+use Rattle.turns.specs.Written.{TurnsFound, TurnsGiven, fromFront}
 use Rattle.calls.specs.State as state
 use Rattle.calls.specs.State.{Maybe}
 use Rattle.refusals.specs.Outcome.{Outcome, accepted, refused}
@@ -65,7 +65,7 @@ Stand (refused number place) ms hs = Unit {0}
 abbrev AllStand : TurnsGiven → Type 0
 AllStand t = Stand (t .returned) (t .minutes) (t .heights)
 
-front-holds : {A : Type 0} (new old : List A) (n : ℕ) → length new ≡ n → n ≤ length (inFront new old)
+front-holds : {A : Type 0} (new old : List A) (n : ℕ) → length new ≡ n → n ≤ length (fromFront new old)
 front-holds new old n e = omega (arith, e, length-append new (drop (length new) old))
 
 turns-stand : (first last : ℕ) (ms : List ℕ) (hs : List ℤ) (t : Maybe Table) (s : Maybe station.Station) (m : Maybe state.Month)

@@ -18,7 +18,7 @@ use Rattle.heights.proofs.distance.Distance.{height-is-near}
 use Rattle.turns.specs.Slope.{slopeAt}
 use Rattle.turns.specs.Search.{Turn, turnsOf}
 use Rattle.turns.specs.Strides.{stationStride}
-use Rattle.turns.specs.Written.{TurnsGiven, unlessRefused, tooMany, inFront, given}
+use Rattle.turns.specs.Written.{TurnsGiven, unlessRefused, tooMany, fromFront, given}
 use Rattle.turns.specs.Search.{firstHigh, minutesOf}
 use Rattle.calls.specs.State as state
 use Rattle.calls.specs.State.{Maybe}
@@ -78,7 +78,7 @@ abbrev foundPoints : TurnsGiven → List Point
 foundPoints g = turnsPoints (g .returned) (g .minutes) (g .heights)
 
 -- what stands in front of a buffer is what was put there
-front-is : {A : Type 0} (new old : List A) (n : ℕ) → length new ≡ n → take n (inFront new old) ≡ new
+front-is : {A : Type 0} (new old : List A) (n : ℕ) → length new ≡ n → take n (fromFront new old) ≡ new
 front-is new old n e = take-at new (drop (length new) old) n e
 
 -- what a search for turns gives: a refusal, with both buffers as they were, or what was found, in front of both
@@ -86,8 +86,8 @@ pub turns-give : (P : Maybe state.Month → TurnsGiven → Type 0) (first last :
     → ((m : Maybe state.Month) (number : ℕ) → P m (record { returned = refused number 0; minutes = ms; heights = hs }))
     → ((m : state.Month) (ts : List Turn) → P (state.some m) (record {
       returned = accepted (record { count = length ts; high = firstHigh ts });
-      minutes = inFront (minutesOf ts) ms;
-      heights = inFront (map (heightAt (m .constituents)) (minutesOf ts)) hs;
+      minutes = fromFront (minutesOf ts) ms;
+      heights = fromFront (map (heightAt (m .constituents)) (minutesOf ts)) hs;
     }))
     → (t : Maybe Table) (s : Maybe station.Station) (m : Maybe state.Month) → P m (turnsGives (record { table = t; station = s; month = m }) first last ms hs)
 unfolding turnsGives given
@@ -97,7 +97,7 @@ turns-give P first last ms hs none-found all-found =
     (λ t s m. room m (turnsOf (slopeAt (m .constituents)) (stationStride t s) first last) (tooMany (turnsOf (slopeAt (m .constituents)) (stationStride t s) first last) (length ms) (length hs)))
   where
     room : (m : state.Month) (ts : List Turn) (short : Bool) → P (state.some m) (unlessRefused (refuseIf short 10 0 (accepted ts)) ms hs λ ts.
-        (record { returned = accepted (record { count = length ts; high = firstHigh ts }); minutes = inFront (minutesOf ts) ms; heights = inFront (map (heightAt (m .constituents)) (minutesOf ts)) hs }))
+        (record { returned = accepted (record { count = length ts; high = firstHigh ts }); minutes = fromFront (minutesOf ts) ms; heights = fromFront (map (heightAt (m .constituents)) (minutesOf ts)) hs }))
     room m ts true = none-found (state.some m) 10
     room m ts false = all-found m ts
 

@@ -8,14 +8,14 @@ use mathlib.Core.List.{List, [], _∷_}
 use lib.IntN.{pos}
 use Rattle.cosine.specs.Fraction.{factorial, arc, unit, term, added, taken, whole, base}
 use Rattle.cosine.specs.Fixed.{entry, fixedBase, fixedCosine}
-use Rattle.calendar.specs.Calendar.{isFourth, monthDays, monthMinutes, monthsDays, yearsDays, dayCount, between, inRange}
+use Rattle.calendar.specs.Calendar.{isFourth, monthDays, monthMinutes, monthsDays, yearsDays, dayCount, between, ranged}
 use Rattle.columns.specs.Bytes.{every, leading, behind}
 use Rattle.columns.specs.Lines.{linesOf}
 use Rattle.columns.specs.Columns.{padded}
 use Rattle.columns.specs.Names.{same, placeFrom}
 use Rattle.fields.specs.Numerals.{begins, numeral, wholeGood, wholeSize, fixedGood, fixedSize}
 use Rattle.fields.specs.Number as fields
-use Rattle.fields.specs.Number.{unsigned, unblanked, numberOf}
+use Rattle.fields.specs.Number.{unsigned, unblanked, writtenIn}
 use Rattle.table.specs.Table.{Main, Table}
 use Rattle.table.specs.Definitions.{firstWith, definitionAt}
 use Rattle.card.specs.Formats.{longitudeField, increaseField}
@@ -73,19 +73,19 @@ z0-main = record { place = 0; doodson = pos 0 ∷ pos 0 ∷ pos 0 ∷ pos 0 ∷ 
 -- each part leaves the lines behind it, whatever they are
 module _ (rest : List (List ℕ)) where
   frequencies-are : frequenciesFrom (frequencyLine ∷ [] ∷ rest) 1 [] ≡ given (record { name = z0; frequency = 0 } ∷ []) rest 3
-  unfolding frequenciesFrom nextFrequency frequencyCard newName placeFrom frequencyLine opening every padded number numberOf unblanked behind leading begins unsigned fixedGood fixedSize numeral fields.inRange
+  unfolding frequenciesFrom nextFrequency frequencyCard newName placeFrom frequencyLine opening every padded number writtenIn unblanked behind leading begins unsigned fixedGood fixedSize numeral fields.ranged
   frequencies-are = refl
 
   longitudes-are : fiveFrom longitudeField (fiveLine ∷ rest) 3 ≡ given noughts rest 4
-  unfolding fiveFrom fiveCard numbersFrom fiveLine dueCard every padded number numberOf unblanked behind leading begins unsigned fixedGood fixedSize numeral fields.inRange
+  unfolding fiveFrom fiveCard numbersFrom fiveLine dueCard every padded number writtenIn unblanked behind leading begins unsigned fixedGood fixedSize numeral fields.ranged
   longitudes-are = refl
 
   increases-are : fiveFrom increaseField (fiveLine ∷ rest) 4 ≡ given noughts rest 5
-  unfolding fiveFrom fiveCard numbersFrom fiveLine dueCard every padded number numberOf unblanked behind leading begins unsigned fixedGood fixedSize numeral fields.inRange
+  unfolding fiveFrom fiveCard numbersFrom fiveLine dueCard every padded number writtenIn unblanked behind leading begins unsigned fixedGood fixedSize numeral fields.ranged
   increases-are = refl
 
   mains-are : mainsFrom (z0 ∷ []) (mainLine ∷ [] ∷ rest) 5 [] 0 ≡ given (z0-main ∷ []) rest 7
-  unfolding mainsFrom nextMain mainCard newPlace placeNamed placeFrom same isAmong mainNumbers mainMade numbersFrom mainLine opening every padded number numberOf unblanked behind leading begins unsigned wholeGood wholeSize fixedGood fixedSize numeral fields.inRange
+  unfolding mainsFrom nextMain mainCard newPlace placeNamed placeFrom same isAmong mainNumbers mainMade numbersFrom mainLine opening every padded number writtenIn unblanked behind leading begins unsigned wholeGood wholeSize fixedGood fixedSize numeral fields.ranged
   mains-are = refl
 
   shallows-are : shallowsFrom (z0 ∷ []) (0 ∷ []) ([] ∷ rest) 7 [] ≡ given [] rest 8
@@ -150,7 +150,7 @@ unfolding workedOut
 table-worked s = rw cards-read
 
 month-worked : workedOut afterDate ≡ record { table = some table; station = some z0-station; month = some (record { last = 44_640; constituents = z0-month }) }
-unfolding workedOut dateGives inRange between monthMinutes monthDays
+unfolding workedOut dateGives ranged between monthMinutes monthDays
 month-worked = rw (cards-read, month-is)
 
 -- ---- each call
@@ -168,7 +168,7 @@ unfolding stationReturns stationOutcome recordsOutcome recordOutcome placeRepeat
 station-accepted = rw (table-worked (some (record { latitude = pos 0; records = [] })))
 
 date-accepted : dateReturns (workedOut afterStation) 1976 7 ≡ accepted tt
-unfolding dateGives dateReturns inRange between
+unfolding dateGives dateReturns ranged between
 date-accepted = rw (table-worked (some z0-station), month-is)
 
 height-given : heightReturns (workedOut afterDate) 0 ≡ accepted (pos 100)

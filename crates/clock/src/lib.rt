@@ -28,6 +28,7 @@ use station::Station;
 use station::records;
 use station::records::Record;
 use station::records::Rows;
+use table::NAMES;
 use table::Table;
 use turns::Searched;
 use turns::strides;
@@ -52,7 +53,7 @@ pub struct Clock {
 // The names of a table's frequencies, five bytes each by place, and how many there are.
 pub struct TableNames {
     pub count: usize,
-    pub bytes: [u8; 800],
+    pub bytes: [u8; NAMES],
 }
 
 // What a call says, and the clock as it leaves it.
@@ -384,6 +385,6 @@ pub fn names(clock: Clock) -> TableNames
     }
     TableNames {
         count: 0,
-        bytes: [0u8; 800],
+        bytes: [0u8; NAMES],
     }
 }

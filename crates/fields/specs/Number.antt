@@ -14,9 +14,9 @@ use Rattle.fields.specs.declared.Field.{Field}
 use Rattle.fields.specs.declared.Field.the-variants.{Value, Malformed, OutOfRange}
 
 -- what a field holds: an F field's number is in units of its format's last decimal
-pub data Number : Type 0 where
-  malformed : Number
-  number : ℤ → Number
+pub data Written : Type 0 where
+  malformed : Written
+  written : ℤ → Written
 
 -- "perhaps a minus"
 abbrev pub signed : Bool → ℕ → ℤ
@@ -24,19 +24,19 @@ signed true size = negℤ (pos size)
 signed false size = pos size
 
 -- what stands behind the sign
-unfoldable pub unsigned : Format → Bool → List ℕ → Number
-unsigned Whole negative bs = cond (wholeGood bs) (number (signed negative (wholeSize bs))) malformed
-unsigned (Fixed decimals) negative bs = cond (fixedGood decimals bs) (number (signed negative (fixedSize decimals bs))) malformed
+unfoldable pub unsigned : Format → Bool → List ℕ → Written
+unsigned Whole negative bs = cond (wholeGood bs) (written (signed negative (wholeSize bs))) malformed
+unsigned (Fixed decimals) negative bs = cond (fixedGood decimals bs) (written (signed negative (fixedSize decimals bs))) malformed
 
 -- what stands behind the blanks: a minus is byte 45
-unfoldable pub unblanked : Format → List ℕ → Number
+unfoldable pub unblanked : Format → List ℕ → Written
 unblanked format bs = cond (begins 45 bs) (unsigned format true (drop 1 bs)) (unsigned format false bs)
 
 -- a number field
-unfoldable pub numberOf : Format → List ℕ → Number
-numberOf format field = unblanked format (behind blank field)
+unfoldable pub writtenIn : Format → List ℕ → Written
+writtenIn format field = unblanked format (behind blank field)
 
 -- malformed is refused by 2, a number outside its stated range by 3
-unfoldable pub inRange : ℤ → ℤ → Number → Field
-inRange low high malformed = Malformed
-inRange low high (number z) = cond (leZ low z && leZ z high) (Value z) OutOfRange
+unfoldable pub ranged : ℤ → ℤ → Written → Field
+ranged low high malformed = Malformed
+ranged low high (written z) = cond (leZ low z && leZ z high) (Value z) OutOfRange

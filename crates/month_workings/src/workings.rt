@@ -45,7 +45,7 @@ const NOT_YET: i64 = TURN as i64;
 pub fn none_kept() -> [i64; KEPT]
     ensures { λ r. ⌜ r ≡ noneKept ⌝ }
 {
-    [NOT_YET; 192]
+    [NOT_YET; KEPT]
 }
 
 // The longitudes that satellites go by.

@@ -13,7 +13,8 @@ use mir.Syntax.{w32, w64}
 use mir.Val.{SFits, toZ, ofZ}
 use mir.ValLaws.{toZ-pos, toZ-ofZ}
 use native.Mathlib.Omega.{arith}
-use Rattle.script.specs.Words.{words, inFront}
+use Rattle.columns.specs.Lines.{inFront}
+use Rattle.script.specs.Words.{words}
 use Rattle.script.specs.Script.{hasMinus, behindMinus}
 use Rattle.script.specs.inner.Left.{wordsFrom}
 use Rattle.script.proofs.words.Words.{words-first}

@@ -3,15 +3,11 @@ use Prim.Native.Nat.{ℕ, _+_, _*_, _-_}
 use mathlib.Core.List.{List, [], _∷_}
 use mathlib.Core.Bool.{Bool, cond, _&&_}
 use lib.Dec.{leb, eqb}
+use Rattle.columns.specs.Lines.{inFront}
 use Rattle.script.specs.declared.words.Number.{Number}
 use Rattle.script.specs.declared.words.Number.the-variants.{Value, NoNumber}
 
 -- ---- words
-
--- a byte in front of the first of some words
-abbrev pub inFront : ℕ → List (List ℕ) → List (List ℕ)
-inFront b [] = (b ∷ []) ∷ []
-inFront b (w ∷ ws) = (b ∷ w) ∷ ws
 
 -- "one blank between them": what stands between the blanks of a line (32 is the blank). So two blanks have an empty word between them.
 unfoldable pub words : List ℕ → List (List ℕ)

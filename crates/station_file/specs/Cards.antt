@@ -54,8 +54,8 @@ isSouth line =
     (bad (only Mark BadMark))
 
 -- "LAD, LAM = station latitude in degrees and minutes", together in minutes
-abbrev pub latitudeSize : ℕ → ℕ → ℕ
-latitudeSize degrees minutes = 60 * degrees + minutes
+abbrev pub inMinutes : ℕ → ℕ → ℕ
+inMinutes degrees minutes = 60 * degrees + minutes
 
 -- the latitude on a station card, in minutes: degrees, minutes, the mark behind them
 unfoldable pub latitudeFields : List ℕ → Card ℤ
@@ -63,7 +63,7 @@ latitudeFields line = do
   d ← number line degreesField
   m ← number line minutesField
   south ← isSouth line
-  good (signed south (latitudeSize (natAbs d) (natAbs m)))
+  good (signed south (inMinutes (natAbs d) (natAbs m)))
 
 -- the station card
 unfoldable pub stationCard : List ℕ → Card ℤ

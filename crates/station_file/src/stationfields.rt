@@ -9,7 +9,7 @@ ghost use Rattle.columns.specs.Bytes.{blank};
 ghost use Rattle.columns.specs.Names.{namesFrom};
 ghost use Rattle.fields.specs.Number.{signed};
 ghost use Rattle.card.specs.Card.{opened, readFields};
-ghost use Rattle.station_file.specs.Cards.{southLetter, northLetter, markGood, minusBefore, southMark, sideOf, isSouth, latitudeSize, latitudeFields, stationCard, recordFields, nextRecord};
+ghost use Rattle.station_file.specs.Cards.{southLetter, northLetter, markGood, minusBefore, southMark, sideOf, isSouth, inMinutes, latitudeFields, stationCard, recordFields, nextRecord};
 ghost use Rattle.station_file.specs.inner.Cards.{sideGives, latitudeGives, recordGives};
 use crate::formats;
 use card::Natural;
@@ -154,7 +154,7 @@ fn size_of(degrees: i8) -> u64
 // Degrees and minutes as minutes, with their sign.
 fn minutes_of(south: bool, degrees: u64, minutes: u64) -> i32
     requires { ⌜ (degrees ≤ 128) × (minutes ≤ 59) ⌝ }
-    ensures { λ r. ⌜ r ≡ signed south (latitudeSize degrees minutes) ⌝ }
+    ensures { λ r. ⌜ r ≡ signed south (inMinutes degrees minutes) ⌝ }
 {
     let size = (60 * degrees + minutes) as i32;
     if south {

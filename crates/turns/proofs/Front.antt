@@ -15,7 +15,7 @@ use Rattle.turns.specs.inner.Search.{Minutes, FoundPost}
 use Rattle.turns.specs.declared.search.Summary.{Summary}
 use Rattle.turns.proofs.search.Stored.{stored-all}
 use Rattle.refusals.specs.Outcome.{accepted, refused}
-use Rattle.turns.specs.Written.{inFront, given}
+use Rattle.turns.specs.Written.{fromFront, given}
 
 -- a list, each by a rule
 module _ {A : Type 0} (f : ℕ → A) (ks : List ℕ) (l : List A) where
@@ -25,7 +25,7 @@ module _ {A : Type 0} (f : ℕ → A) (ks : List ℕ) (l : List A) where
   pub store-none : (i : ℕ) → length ks ≤ i → sets l i (map f (drop i ks)) ≡ l
   store-none i h = rw (drop-of-length-le ks {i = i} h)
 
-  pub stored : length ks ≤ length l → sets l 0 (map f ks) ≡ inFront (map f ks) l
+  pub stored : length ks ≤ length l → sets l 0 (map f ks) ≡ fromFront (map f ks) l
   stored h = let e = length-map ks f in stored-all (map f ks) l (omega arith)
 
 -- the part of the kept minutes that a search fills
@@ -48,9 +48,9 @@ module _ (height : ℕ → ℤ) (turns : List Turn) (minutes : List ℕ) (height
   unfolding given
   few-heights l h = simp (le-ltb _ _ l, lt-ltb _ _ h)
 
-  room-for-all : length turns ≤ length minutes → length turns ≤ length heights → record { returned = accepted (record { count = length turns; high = firstHigh turns }); minutes = inFront (minutesOf turns) minutes; heights = inFront (map height (minutesOf turns)) heights } ≡ given height turns minutes heights
+  room-for-all : length turns ≤ length minutes → length turns ≤ length heights → record { returned = accepted (record { count = length turns; high = firstHigh turns }); minutes = fromFront (minutesOf turns) minutes; heights = fromFront (map height (minutesOf turns)) heights } ≡ given height turns minutes heights
   unfolding given
   room-for-all l k = simp (le-ltb _ _ l, le-ltb _ _ k)
 
-  pub all-given : {n : ℕ} {high : Bool} {ks ms : List ℕ} {hs : List ℤ} → n ≡ length turns → high ≡ firstHigh turns → ks ≡ minutesOf turns → ms ≡ inFront ks minutes → hs ≡ inFront (map height ks) heights → length turns ≤ length minutes → length turns ≤ length heights → record { returned = accepted (record { count = n; high = high }); minutes = ms; heights = hs } ≡ given height turns minutes heights
+  pub all-given : {n : ℕ} {high : Bool} {ks ms : List ℕ} {hs : List ℤ} → n ≡ length turns → high ≡ firstHigh turns → ks ≡ minutesOf turns → ms ≡ fromFront ks minutes → hs ≡ fromFront (map height ks) heights → length turns ≤ length minutes → length turns ≤ length heights → record { returned = accepted (record { count = n; high = high }); minutes = ms; heights = hs } ≡ given height turns minutes heights
   all-given en eh ek em es l k = rw (en, eh, em, es, ek) (room-for-all l k)

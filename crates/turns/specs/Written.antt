@@ -21,8 +21,8 @@ pub record TurnsGiven : Type 0 where
   pub heights : List ℤ
 
 -- "from the front, the rest unchanged"
-abbrev pub inFront : {A : Type 0} → List A → List A → List A
-inFront new old = new ++ drop (length new) old
+abbrev pub fromFront : {A : Type 0} → List A → List A → List A
+fromFront new old = new ++ drop (length new) old
 
 -- "Heights, series, turns and every refused call leave [..]": where an outcome is refused, both buffers are as they were
 abbrev pub unlessRefused : {A : Type 0} → Outcome A → List ℕ → List ℤ → (A → TurnsGiven) → TurnsGiven
@@ -39,6 +39,6 @@ given height turns minutes heights =
     unlessRefused (refuseIf (tooMany turns (length minutes) (length heights)) 10 0 (accepted turns)) minutes heights λ turns.
     (record {
       returned = accepted (record { count = length turns; high = firstHigh turns });
-      minutes = inFront (minutesOf turns) minutes;
-      heights = inFront (map height (minutesOf turns)) heights;
+      minutes = fromFront (minutesOf turns) minutes;
+      heights = fromFront (map height (minutesOf turns)) heights;
     })

@@ -9,7 +9,7 @@ ghost use Rattle.cosine.specs.Fixed.{IsTable};
 ghost use Rattle.turns.specs.inner.Lists.{InRange, slopeOf};
 ghost use Rattle.turns.specs.Search.{turnsOf};
 ghost use Rattle.turns.specs.inner.Search.{Minutes};
-ghost use Rattle.turns.specs.Written.{inFront, given};
+ghost use Rattle.turns.specs.Written.{fromFront, given};
 ghost use Rattle.turns.specs.inner.Lists.{heightOf};
 ghost use Rattle.turns.specs.inner.Answers.{givenOf};
 
@@ -48,8 +48,8 @@ fn write_turns<'a>(
 )
     requires { ⌜ IsTable (now table) × (count ≤ mostRecords) ⌝ }
     requires { ⌜ Minutes (now kept) × ((length (now kept) ≤ length (now minutes)) × (length (now kept) ≤ length (now heights))) ⌝ }
-    ensures { λ r. ⌜ now (minutes .exit) ≡ inFront (now (kept .entry)) (now (minutes .entry)) ⌝ }
-    ensures { λ r. ⌜ now (heights .exit) ≡ inFront (map (heightOf (now (arguments .entry)) (now (lags .entry)) (now (frequencies .entry)) (now (ps .entry)) (now (qs .entry)) count) (now (kept .entry))) (now (heights .entry)) ⌝ }
+    ensures { λ r. ⌜ now (minutes .exit) ≡ fromFront (now (kept .entry)) (now (minutes .entry)) ⌝ }
+    ensures { λ r. ⌜ now (heights .exit) ≡ fromFront (map (heightOf (now (arguments .entry)) (now (lags .entry)) (now (frequencies .entry)) (now (ps .entry)) (now (qs .entry)) count) (now (kept .entry))) (now (heights .entry)) ⌝ }
 {
     let mut i: usize = 0;
     while i < kept.len() {

@@ -5,6 +5,7 @@ ghost use Rattle.clock.specs.View.{Made};
 use calls::reasons::Reason;
 use clock::Clock;
 use digits::dates;
+use limits::MINUTES;
 use messages::matters;
 use page::face::Face;
 use page::shown::Date;
@@ -103,7 +104,11 @@ fn month_count(date: Date, step: u32) -> u32 {
         return 1;
     }
     let steps = calendar::month_minutes(date.year, date.month) / step;
-    if steps < 44_641 { steps + 1 } else { 1 }
+    if (steps as usize) <= MINUTES {
+        steps + 1
+    } else {
+        1
+    }
 }
 
 // heights YEAR MONTH STEP: the heights of a whole month, a step apart.

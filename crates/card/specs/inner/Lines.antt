@@ -27,6 +27,6 @@ readingGives file (Reached at n) a = given a (linesOf (drop at file)) n
 readingGives file (Refused r n) a = refused r n
 
 -- a line takes a byte at least
-abbrev pub Within : List ℕ → Progress → Type 0
-Within file (Reached at n) = (at ≤ length file) × (n ≤ at + 1)
-Within file (Refused r n) = Unit
+abbrev pub WithinFile : List ℕ → Progress → Type 0
+WithinFile file (Reached at n) = (at ≤ length file) × (n ≤ at + 1)
+WithinFile file (Refused r n) = Unit

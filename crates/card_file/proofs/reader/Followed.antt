@@ -6,7 +6,7 @@ use lib.ListN.{length, drop}
 use Rattle.columns.specs.Lines.{linesOf}
 use Rattle.card.specs.Card.{Reading, refused}
 use Rattle.card_file.specs.Cards.{followed}
-use Rattle.card.specs.inner.Lines.{readingGives, Within}
+use Rattle.card.specs.inner.Lines.{readingGives, WithinFile}
 use Rattle.card.specs.declared.faults.Fault.{Fault}
 use Rattle.table.specs.inner.View.{tableOf}
 use Rattle.card_file.specs.inner.Read.{parsedGives}
@@ -22,8 +22,8 @@ module _ {A B : Type 0} (file : List ℕ) (p : Progress) (a : A) (whole : Readin
   part-reached at n e = ap (λ (w : Reading A). followed w next) (sym reads) ∙ ap (λ (q : Progress). followed (readingGives file q a) next) e
 
 -- where a part was reached, there is the byte, and a line has one byte at least
-pub reached-within : (file : List ℕ) (p : Progress) (at n : ℕ) → Within file p → p ≡ Reached at n → (at ≤ length file) × (n ≤ at + 1)
-reached-within file p at n w e = subst (λ (q : Progress). Within file q) e w
+pub reached-within : (file : List ℕ) (p : Progress) (at n : ℕ) → WithinFile file p → p ≡ Reached at n → (at ≤ length file) × (n ≤ at + 1)
+reached-within file p at n w e = subst (λ (q : Progress). WithinFile file q) e w
 
 -- a file that is refused, whatever its table
 pub refused-gives : (file : List ℕ) (p : Parsed) (fault : Fault) (line : ℕ) → p .progress ≡ Refused fault line → parsedGives file p ≡ refused fault line

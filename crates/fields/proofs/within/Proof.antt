@@ -3,7 +3,7 @@ use Rattle.fields.proofs.within.Statement.{statement}
 use Rattle.fields.proofs.within.Tie as tie
 use mathlib.Core.Path.{_≡_, ap}
 use mathlib.Core.Bool.{and-false}
-use Rattle.fields.specs.Number.{inRange}
+use Rattle.fields.specs.Number.{ranged}
 use Rattle.fields.proofs.Ranges.{leZ-ltZ}
 use lib.Signed.{ltZ, leZ}
 use mathlib.Core.Bool.{true, false}
@@ -12,21 +12,21 @@ use mir.ValLaws.{toZ-ofZ}
 use Rattle.fields.specs.declared.Field.the-variants.{Value}
 
 returns : tie.Need-returns
-unfolding inRange
+unfolding ranged
 returns c =
     let s = c .before in
     let t : ltZ (s .args .z) (s .args .low) ≡ true = rw (toZ-ofZ w64 (s .args .z) (s .fits .z), toZ-ofZ w64 (s .args .low) (s .fits .low)) at (c .if1 .taken) in
     rw (leZ-ltZ (s .args .low) (s .args .z), t)
 
 returns-2 : tie.Need-returns-2
-unfolding inRange
+unfolding ranged
 returns-2 c =
     let s = c .before .before in
     let t : ltZ (s .args .high) (s .args .z) ≡ true = rw (toZ-ofZ w64 (s .args .high) (s .fits .high), toZ-ofZ w64 (s .args .z) (s .fits .z)) at (c .if2 .taken) in
     rw (leZ-ltZ (s .args .z) (s .args .high), t, and-false (leZ (s .args .low) (s .args .z)))
 
 returns-3 : tie.Need-returns-3
-unfolding inRange
+unfolding ranged
 returns-3 c =
     let s = c .before .before in
     let t : ltZ (s .args .z) (s .args .low) ≡ false = rw (toZ-ofZ w64 (s .args .z) (s .fits .z), toZ-ofZ w64 (s .args .low) (s .fits .low)) at (c .before .if1 .left) in

@@ -11,9 +11,10 @@ use lib.Dec.{eqb, leb}
 use borrow.Author.Tests.{leb-true}
 use lib.ListN.{length, getD, take, drop}
 use lib.Seq.{drop-cons}
+use Rattle.columns.specs.Lines.{inFront}
 use Rattle.script.specs.declared.words.Number.{Number}
 use Rattle.script.specs.declared.words.Number.the-variants.{Value, NoNumber}
-use Rattle.script.specs.Words.{words, inFront, number, isDigit, withDigit, numberAfter, read, readingOf, reading, ended}
+use Rattle.script.specs.Words.{words, number, isDigit, withDigit, numberAfter, read, readingOf, reading, ended}
 use Rattle.script.specs.declared.words.Field.{Field}
 use Rattle.script.specs.declared.words.Field.the-variants.{Read}
 use Rattle.script.specs.inner.Left.{wordsFrom, wordLength, readingAt}
