@@ -6,7 +6,7 @@ use mathlib.Core.Bool.{true, false}
 use Rattle.refusals.specs.Outcome.{accepted, refused}
 use Rattle.table.specs.Table.{Table}
 use Rattle.station.specs.Station.{Station}
-use Rattle.card_file.specs.Outcome.{cardsOutcome}
+use Rattle.card_file.specs.Cards.{cardsOutcome}
 use Rattle.calls.specs.State.{Month, State}
 use Rattle.calls.specs.inner.Flags.{stateOf}
 use Rattle.calls.specs.Calls.{cardsReturns, cardsLeaves}

@@ -10,6 +10,7 @@ use lib.Dec.{ltb}
 use lib.IntN.{ℤ, pos, negsuc}
 use lib.Signed.{ltZ}
 use borrow.Author.Tests.{ltb-false}
+use Rattle.limits.specs.Limits.{mostRecords}
 use Rattle.refusals.specs.Outcome.{Outcome, refused, refuseIf, onAccepted, _>>=_}
 use Rattle.table.specs.Table.{Table}
 use Rattle.station.specs.Station.{stationOutcome}
@@ -33,7 +34,7 @@ turned-if false number place o h new old = h new old
 -- ---- more records than a station has
 
 abbrev Crowd : List Record → Type 0
-Crowd records = ltb 146 (length records) ≡ true
+Crowd records = ltb mostRecords (length records) ≡ true
 
 crowd-turned : (frequencies : ℕ) (latitude : ℤ) (records : List Record) → Crowd records → Turned (stationOutcome frequencies latitude records)
 unfolding stationOutcome
@@ -72,9 +73,9 @@ module _ (k : State) (latitude : ℤ) (records : List Record) where
   crowd-same rs many many′ =
       (returns-agree k latitude rs records many′ many, leaves-same k latitude rs many′ ∙ sym (leaves-same k latitude records many))
 
-  same-by : (b : Bool) → ltb 146 (length records) ≡ b → Same (recordsOf (rowsOf records) (length records))
-  same-by true e = crowd-same _ e (ap (ltb 146) (records-length _ _ _ 0 (length records)) ∙ e)
-  same-by false e = subst Same (sym (lent-is records (ltb-false 146 (length records) e))) (refl, refl)
+  same-by : (b : Bool) → ltb mostRecords (length records) ≡ b → Same (recordsOf (rowsOf records) (length records))
+  same-by true e = crowd-same _ e (ap (ltb mostRecords) (records-length _ _ _ 0 (length records)) ∙ e)
+  same-by false e = subst Same (sym (lent-is records (ltb-false mostRecords (length records) e))) (refl, refl)
 
   pub lent-same : (rows : Rows) → rows ≡ rowsOf records → Same (recordsOf rows (length records))
-  lent-same rows e = subst (λ (x : Rows). Same (recordsOf x (length records))) (sym e) (same-by (ltb 146 (length records)) refl)
+  lent-same rows e = subst (λ (x : Rows). Same (recordsOf x (length records))) (sym e) (same-by (ltb mostRecords (length records)) refl)

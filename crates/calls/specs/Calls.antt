@@ -8,7 +8,7 @@ use lib.ListN.{length}
 use lib.IntN.{ℤ}
 use Rattle.refusals.specs.Outcome.{Outcome, accepted, answered, onAccepted, _>>=_}
 use Rattle.table.specs.Table.{Table}
-use Rattle.card_file.specs.Outcome.{cardsOutcome}
+use Rattle.card_file.specs.Cards.{cardsOutcome}
 use Rattle.station.specs.declared.records.Record.{Record}
 use Rattle.station.specs.Station.{Station, stationOutcome}
 use Rattle.calendar.specs.Calendar.{monthMinutes}

@@ -1,8 +1,8 @@
 -- 01: one card. "Cards go line by line, 1 first, then fields left to right, each 2, 3, 4, 5".
 use Prim.Native.Nat.{ℕ, zero, suc, _+_}
 use mathlib.Core.List.{List, [], _∷_, _++_}
-use mathlib.Core.Bool.{Bool, false, cond, _||_}
-use lib.Dec.{leb, eqb}
+use mathlib.Core.Bool.{cond}
+use lib.Dec.{leb}
 use lib.IntN.{ℤ}
 use Rattle.columns.specs.Bytes.{blank, every}
 use Rattle.columns.specs.Lines.{lineGood, blankCard}
@@ -14,6 +14,7 @@ use Rattle.fields.specs.declared.Field.{Field}
 use Rattle.fields.specs.declared.Field.the-variants.{Value, Malformed, OutOfRange}
 use Rattle.fields.specs.Number.{writtenIn, ranged}
 use Rattle.refusals.specs.Checked.{Checked, good, bad, _>>=_}
+use Rattle.refusals.specs.Places.{isAmong}
 use Rattle.card.specs.declared.faults.What.the-variants as what
 use Rattle.card.specs.declared.faults.Trouble.the-variants as trouble
 use Rattle.card.specs.declared.faults.Trouble.{Trouble}
@@ -66,11 +67,6 @@ placeFound Nothing = bad (only what.Name trouble.NoFrequency)
 -- the place of the frequency with a main or shallow constituent's own name: "4 a constituent's own name blank", "5 definition without frequency"
 unfoldable pub placeNamed : List (List ℕ) → List ℕ → Card ℕ
 placeNamed names name = cond (every blank name) (bad (only what.Name trouble.Blank)) (placeFound (placeOf name names))
-
--- whether a place stands among others
-unfoldable pub isAmong : ℕ → List ℕ → Bool
-isAmong place [] = false
-isAmong place (p ∷ ps) = eqb place p || isAmong place ps
 
 -- that place, not defined so far: "4 twice in parts 3 and 4 together". Names stand once in part 1, so a name twice is a place twice,
 -- and a name without frequency stands for none: it is 5.

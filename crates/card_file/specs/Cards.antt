@@ -13,7 +13,8 @@ use Rattle.card.specs.declared.faults.What.the-variants.{Name}
 use Rattle.card.specs.declared.faults.Trouble.the-variants.{NoDefinition}
 use Rattle.card.specs.Faults.{only, faultNumber}
 use Rattle.card.specs.Formats.{longitudeField, increaseField}
-use Rattle.card.specs.Card.{Reading, given, refused, isAmong}
+use Rattle.refusals.specs.Places.{isAmong}
+use Rattle.card.specs.Card.{Reading, given, refused}
 use Rattle.card_frequencies.specs.Frequencies.{namesOf, frequenciesFrom}
 use Rattle.card_frequencies.specs.Longitudes.{fiveFrom}
 use Rattle.card_mains.specs.Mains.{mainPlaces}

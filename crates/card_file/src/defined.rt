@@ -5,7 +5,7 @@ ghost use Prim.Native.Nat.{_≤_, _<_};
 ghost use lib.ListN.{length};
 ghost use Rattle.limits.specs.Limits.{mostFrequencies, mostMains, mostShallows};
 ghost use Rattle.table.specs.Table.{Frequency, Table};
-ghost use Rattle.card.specs.Card.{isAmong};
+ghost use Rattle.refusals.specs.Places.{isAmong};
 ghost use Rattle.card_file.specs.Cards.{firstUndefined};
 ghost use Rattle.card.specs.inner.Places.{placesIn};
 use card::places::is_among;

@@ -18,8 +18,7 @@ use Rattle.refusals.specs.declared.Refusal.the-variants.{NoTable, Ended}
 use Rattle.columns.specs.Lines.{linesOf}
 use Rattle.columns.specs.Names.{namesFrom}
 use Rattle.card_frequencies.specs.Frequencies.{frequenciesFrom}
-use Rattle.card_file.specs.Cards.{readCards}
-use Rattle.card_file.specs.Outcome.{cardsOutcome}
+use Rattle.card_file.specs.Cards.{readCards, cardsOutcome}
 use Rattle.station.specs.declared.records.Record.{Record}
 use Rattle.station.specs.declared.records.Rows.{Rows}
 use Rattle.station.specs.Records.{recordsFrom, recordsOf}

@@ -13,7 +13,7 @@ use lib.IntN.{ℤ}
 use Rattle.refusals.specs.Outcome.{Outcome, accepted, refused, onAccepted, answered, outcomeOf}
 use Rattle.refusals.specs.declared.Answer.{Answer}
 use Rattle.table.specs.Table.{Table}
-use Rattle.card_file.specs.Outcome.{cardsOutcome}
+use Rattle.card_file.specs.Cards.{cardsOutcome}
 use Rattle.station.specs.declared.records.Record.{Record}
 use Rattle.station.specs.Records.{recordsOf}
 use Rattle.clock.specs.declared.Clock.{Clock}

@@ -8,7 +8,7 @@ use lib.ListN.{take}
 use lib.IntN.{ℤ}
 use Rattle.refusals.specs.Outcome.{Outcome, onAccepted}
 use Rattle.table.specs.Table.{Table}
-use Rattle.card_file.specs.Outcome.{cardsOutcome}
+use Rattle.card_file.specs.Cards.{cardsOutcome}
 use Rattle.station.specs.declared.records.Record.{Record}
 use Rattle.station.specs.Station as station
 use Rattle.month_prepared.specs.Prepared.{Constituent}

@@ -6,6 +6,7 @@ use mathlib.Core.Path.{_≡_, refl, subst}
 use mathlib.Core.Bool.{false}
 use mathlib.Core.List.{List, [], _∷_}
 use lib.IntN.{pos}
+use Rattle.limits.specs.Limits.{mostMinutes}
 use Rattle.cosine.specs.Fraction.{factorial, arc, unit, term, added, taken, whole, base}
 use Rattle.cosine.specs.Fixed.{entry, fixedBase, fixedCosine}
 use Rattle.calendar.specs.Calendar.{isFourth, monthDays, monthMinutes, monthsDays, yearsDays, dayCount, between, ranged}
@@ -19,17 +20,17 @@ use Rattle.fields.specs.Number.{unsigned, unblanked, writtenIn}
 use Rattle.table.specs.Table.{Main, Table}
 use Rattle.table.specs.Definitions.{firstWith, definitionAt}
 use Rattle.card.specs.Formats.{longitudeField, increaseField}
-use Rattle.card.specs.Card.{number, numbersFrom, newName, placeNamed, isAmong, newPlace, opening, dueCard, given}
+use Rattle.refusals.specs.Places.{isAmong}
+use Rattle.card.specs.Card.{number, numbersFrom, newName, placeNamed, newPlace, opening, dueCard, given}
 use Rattle.card_frequencies.specs.Frequencies.{frequencyCard, nextFrequency, frequenciesFrom}
 use Rattle.card_frequencies.specs.Longitudes.{fiveCard, fiveFrom}
-use Rattle.card_mains.specs.Mains.{mainMade, mainNumbers, mainCard, nextMain}
+use Rattle.card_mains.specs.Mains.{satellitesIn, mainMade, mainNumbers, mainCard, nextMain}
 use Rattle.card_constituents.specs.Constituents.{mainsFrom}
 use Rattle.card_shallows.specs.Shallow.{nextShallow}
 use Rattle.card_shallows.specs.Shallows.{shallowsFrom}
-use Rattle.card_file.specs.Cards.{allDefined, readCards}
-use Rattle.card_file.specs.Outcome.{cardsOutcome}
+use Rattle.card_file.specs.Cards.{firstUndefined, readCards, cardsOutcome}
 use Rattle.station.specs.declared.records.Record.{Record}
-use Rattle.station.specs.Station.{Station, placeRepeated, recordOutcome, recordsOutcome, stationOutcome}
+use Rattle.station.specs.Station.{Station, recordOutcome, recordsOutcome, stationOutcome}
 use Rattle.month_arguments.specs.Longitudes.{longitude, longitudesOn, times}
 use Rattle.month_arguments.specs.Arguments.{argument}
 use Rattle.month_satellites.specs.Satellites.{sumOver, mainPair}
@@ -84,8 +85,8 @@ module _ (rest : List (List ℕ)) where
   unfolding fiveFrom fiveCard numbersFrom fiveLine dueCard every padded number writtenIn unblanked behind leading begins unsigned fixedGood fixedSize numeral fields.ranged
   increases-are = refl
 
-  mains-are : mainsFrom (z0 ∷ []) (mainLine ∷ [] ∷ rest) 5 [] 0 ≡ given (z0-main ∷ []) rest 7
-  unfolding mainsFrom nextMain mainCard newPlace placeNamed placeFrom same isAmong mainNumbers mainMade numbersFrom mainLine opening every padded number writtenIn unblanked behind leading begins unsigned wholeGood wholeSize fixedGood fixedSize numeral fields.ranged
+  mains-are : mainsFrom (z0 ∷ []) (mainLine ∷ [] ∷ rest) 5 [] ≡ given (z0-main ∷ []) rest 7
+  unfolding mainsFrom satellitesIn nextMain mainCard newPlace placeNamed placeFrom same isAmong mainNumbers mainMade numbersFrom mainLine opening every padded number writtenIn unblanked behind leading begins unsigned wholeGood wholeSize fixedGood fixedSize numeral fields.ranged
   mains-are = refl
 
   shallows-are : shallowsFrom (z0 ∷ []) (0 ∷ []) ([] ∷ rest) 7 [] ≡ given [] rest 8
@@ -96,7 +97,7 @@ abbrev table : Table
 table = record { frequencies = record { name = z0; frequency = 0 } ∷ []; longitudes = noughts; increases = noughts; mains = z0-main ∷ []; shallows = [] }
 
 cards-read : cardsOutcome smallFile ≡ accepted table
-unfolding cardsOutcome readCards allDefined isAmong
+unfolding cardsOutcome readCards firstUndefined isAmong
 cards-read = rw (lines-are, frequencies-are, longitudes-are, increases-are, mains-are, shallows-are)
 
 -- ---- the station's month
@@ -149,7 +150,7 @@ table-worked : (s : Maybe Station) → workedOut (record { cards = some smallFil
 unfolding workedOut
 table-worked s = rw cards-read
 
-month-worked : workedOut afterDate ≡ record { table = some table; station = some z0-station; month = some (record { last = 44_640; constituents = z0-month }) }
+month-worked : workedOut afterDate ≡ record { table = some table; station = some z0-station; month = some (record { last = mostMinutes; constituents = z0-month }) }
 unfolding workedOut dateGives ranged between monthMinutes monthDays
 month-worked = rw (cards-read, month-is)
 
@@ -164,7 +165,7 @@ unfolding stationReturns stationOutcome recordsOutcome
 none-accepted = rw (table-worked none)
 
 station-accepted : stationReturns (workedOut afterNone) (pos 0) z0-records ≡ accepted tt
-unfolding stationReturns stationOutcome recordsOutcome recordOutcome placeRepeated
+unfolding stationReturns stationOutcome recordsOutcome recordOutcome isAmong
 station-accepted = rw (table-worked (some (record { latitude = pos 0; records = [] })))
 
 date-accepted : dateReturns (workedOut afterStation) 1976 7 ≡ accepted tt

@@ -32,6 +32,7 @@ use denote.Slice.{Room}
 use denote.Shadow.{shadow, Pure, makes-shadow}
 use denote.Steps.{owned, nothing}
 use borrow.Fn.World.{w₀}
+use Rattle.limits.specs.Limits.{mostRecords}
 use Rattle.station.specs.declared.records.Rows.{Rows}
 use Rattle.station.proofs.records.Record as RecordType
 use Rattle.station.proofs.records.Rows as RowsType
@@ -80,8 +81,8 @@ words-are (x ∷ xs) h = ((refl, h .0), words-are xs (h .1))
 as-long : (xs : List ℕ) {n : ℕ} → length xs ≡ n → length (map (λ (x : ℕ). x) xs) ≡ n
 as-long xs e = length-map xs (λ (x : ℕ). x) ∙ e
 
-rows-are : (rows : Rows) → length (rows .places) ≡ 146 → Below (2 ^ 8) (rows .places) → length (rows .amplitudes) ≡ 146 → Below (2 ^ 32) (rows .amplitudes)
-    → length (rows .phases) ≡ 146 → Below (2 ^ 32) (rows .phases) → Is RowsType.the-row rows (RowsLaws.lowered rows ∷ [])
+rows-are : (rows : Rows) → length (rows .places) ≡ mostRecords → Below (2 ^ 8) (rows .places) → length (rows .amplitudes) ≡ mostRecords → Below (2 ^ 32) (rows .amplitudes)
+    → length (rows .phases) ≡ mostRecords → Below (2 ^ 32) (rows .phases) → Is RowsType.the-row rows (RowsLaws.lowered rows ∷ [])
 rows-are rows l a m b n c =
     let ps : List Val = map (λ (x : ℕ). vint w8 x) (rows .places) in
     let ms : List Val = map (λ (x : ℕ). vint w32 x) (rows .amplitudes) in
@@ -92,7 +93,7 @@ rows-are rows l a m b n c =
 
 -- Z0's record, the first of 146
 abbrev z0-rows : Rows
-z0-rows = record { places = replicate 146 0; amplitudes = 100 ∷ replicate 145 0; phases = replicate 146 0 }
+z0-rows = record { places = replicate mostRecords 0; amplitudes = 100 ∷ replicate 145 0; phases = replicate mostRecords 0 }
 
 z0-rows-are : Is RowsType.the-row z0-rows (RowsLaws.lowered z0-rows ∷ [])
 z0-rows-are = rows-are z0-rows refl (below (2 ^ 8) (z0-rows .places) tt) refl (below (2 ^ 32) (z0-rows .amplitudes) tt) refl (below (2 ^ 32) (z0-rows .phases) tt)

@@ -1,14 +1,13 @@
 -- A card file's two cases, accepted and refused, from what the reader promises. Assumes nothing.
-use mathlib.Core.Path.{_≡_, sym, ap}
+use mathlib.Core.Path.{_≡_, sym}
 use Prim.Native.Nat.{ℕ}
 use mathlib.Core.List.{List}
-use Rattle.refusals.specs.Outcome.{numberOf}
+use Rattle.refusals.specs.Outcome.{accepted, refused, numberOf}
 use Rattle.refusals.specs.declared.Refusal.{Refusal}
 use Rattle.refusals.specs.declared.Answer.the-variants.{Accepted, Refused}
 use Rattle.table.specs.inner.View.{tableOf}
 use Rattle.station.specs.inner.Station.{stationOf}
-use Rattle.card_file.specs.Cards.{readCards, accepted, refused}
-use Rattle.card_file.specs.Outcome.{outcomeIn, cardsOutcome}
+use Rattle.card_file.specs.Cards.{cardsOutcome}
 use Rattle.card_file.specs.inner.Read.{outcomeOf}
 use Rattle.card_file.specs.declared.reader.Read.{Read}
 use Rattle.card_file.proofs.reader.Ranges.{accepted-in-range}
@@ -19,12 +18,12 @@ use Rattle.clock.specs.Posts.{CardsPost}
 use Rattle.clock.specs.inner.Parts.{withTable}
 use Rattle.clock.proofs.Tables.{in-range}
 
-module _ (c : Clock) (file : List ℕ) (read : Read) (made : Made c) (reads : outcomeOf read ≡ readCards file) where
+module _ (c : Clock) (file : List ℕ) (read : Read) (made : Made c) (reads : outcomeOf read ≡ cardsOutcome file) where
   pub cards-accepted : read .answer ≡ Accepted → CardsPost c file Accepted (withTable c (read .table))
-  unfolding view cardsOutcome
+  unfolding view
   cards-accepted e =
-      let table : readCards file ≡ accepted (tableOf (read .table)) = rw e at (sym reads) in
-      let law = file-accepted (view c) file (tableOf (read .table)) (ap outcomeIn table) (stationOf (c .station)) (monthIn c) in
+      let table : cardsOutcome file ≡ accepted (tableOf (read .table)) = rw e at (sym reads) in
+      let law = file-accepted (view c) file (tableOf (read .table)) table (stationOf (c .station)) (monthIn c) in
       record {
         made = record { cosines = made .cosines; table = in-range (read .table) (λ none z k. accepted-in-range file _ none z table k); count = made .count; last = made .last; month = made .month };
         returns = law .0;
@@ -32,8 +31,7 @@ module _ (c : Clock) (file : List ℕ) (read : Read) (made : Made c) (reads : ou
       }
 
   pub cards-refused : (r : Refusal) (line : ℕ) → read .answer ≡ Refused r line → CardsPost c file (read .answer) c
-  unfolding cardsOutcome
   cards-refused r line e =
-      let no : readCards file ≡ refused (numberOf r) line = rw e at (sym reads) in
-      let law = file-refused (view c) file (numberOf r) line (ap outcomeIn no) in
+      let no : cardsOutcome file ≡ refused (numberOf r) line = rw e at (sym reads) in
+      let law = file-refused (view c) file (numberOf r) line no in
       record { made = made; returns = rw e (law .0); leaves = law .1 }

@@ -6,6 +6,7 @@ use native.Mathlib.Omega.{arith}
 use native.Mathlib.Nat.{zero-add, add-zero}
 use lib.ListN.{getD}
 use lib.IntN.{ℤ, pos}
+use Rattle.limits.specs.Limits.{mostRecords}
 use Rattle.refusals.specs.Outcome.{Outcome, accepted, refused, outcomeOf, numberOf, answered, onAccepted}
 use Rattle.refusals.proofs.Laws.{not-both}
 use Rattle.refusals.specs.declared.Refusal.{Refusal}
@@ -62,7 +63,7 @@ module _ (c : Clock) (year month : ℕ) (p : Prepared) (answer : Answer) (made :
           table = made .table;
           count = omega arith;
           last = minutes-short year month;
-          month = λ k h. rw (frequency-at (m .arguments) (m .lags) (m .frequencies) (m .ps) (m .qs) 0 (min (m .count) 146) k none h, zero-add k) at (prepared-in-range _ _ year month _ none refl (frequencies-within (c .table) (made .table)) ready k);
+          month = λ k h. rw (frequency-at (m .arguments) (m .lags) (m .frequencies) (m .ps) (m .qs) 0 (min (m .count) mostRecords) k none h, zero-add k) at (prepared-in-range _ _ year month _ none refl (frequencies-within (c .table) (made .table)) ready k);
         };
         returns = rw ready;
         leaves = rw ready;

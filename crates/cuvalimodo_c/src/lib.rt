@@ -5,7 +5,7 @@
 // bindings/c/cuvalimodo.h declares all of it for C.
 ghost use mathlib.Core.Path.{_≡_};
 ghost use mathlib.Core.Bool.{false};
-ghost use Rattle.card_file.specs.Cards.{readCards};
+ghost use Rattle.card_file.specs.Cards.{cardsOutcome};
 ghost use Rattle.card_file.specs.Counts.{countsOf};
 ghost use Rattle.refusals.specs.Outcome.{outcomeOf};
 ghost use Rattle.clock.specs.Returned.{turnsReturned};
@@ -105,7 +105,7 @@ fn no_turns(verdict: Verdict) -> Turnings
 // A card file is checked: what it comes to.
 #[no_mangle]
 pub extern "C" fn cuvalimodo_check_cards(file: &[u8]) -> Counts
-    ensures { λ r. ⌜ r ≡ countsOf (readCards (now (file .entry))) ⌝ }
+    ensures { λ r. ⌜ r ≡ countsOf (cardsOutcome (now (file .entry))) ⌝ }
 {
     counts::check_cards(file)
 }

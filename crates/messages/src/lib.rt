@@ -48,12 +48,18 @@ fn say_fault(fault: Fault) {
     pieces::write_trouble(STDERR_FILENO, trouble)
 }
 
-// FILE line N:
+// Says the start of a line on what was asked with a number: SUBJECT NUMBER:
+fn say_subject(subject: &[u8], number: u64) {
+    say(subject);
+    say(b" ");
+    say_number(number);
+    say(b": ");
+}
+
+// Says the start of a line on a line of a file: FILE line N:
 fn say_line(file: &[u8], line: usize) {
     say(file);
-    say(b" line ");
-    say_number(line as u64);
-    say(b": ");
+    say_subject(b" line", line as u64)
 }
 
 // FILE line N: what is wrong (refusal n)

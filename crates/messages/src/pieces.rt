@@ -37,15 +37,15 @@ pub fn write_what(fd: i32, what: What) {
 }
 
 // The rows of what is wrong with it.
-fn trouble_text() -> [u8; 566] {
+fn trouble_text() -> [u8; 570] {
     *b"is over 80 columns long\n\
        has a byte outside 32 to 126\n\
        is a malformed number\n\
        is out of range\n\
        is not a whole number\n\
        takes the sizes past 12\n\
-       is not one letter N or S\n\
-       is an S beside a minus\n\
+       is not one letter, N or S\n\
+       says south beside a minus\n\
        is blank\n\
        stands twice\n\
        has no frequency\n\

@@ -7,6 +7,7 @@ use native.Mathlib.Omega.{arith}
 use lib.IntN.{ℤ, pos}
 use lib.ListN.{length, set, length-set}
 use lib.Seq.{getD-set-same, getD-set-other}
+use Rattle.limits.specs.Limits.{mostRecords}
 use Rattle.month_prepared.specs.Prepared.{Constituent}
 use Rattle.month_prepared.specs.inner.View.{constituentAt, constituentsAfter}
 use Rattle.month_prepared.specs.declared.Month.{Month}
@@ -33,11 +34,11 @@ module _ (arguments lags frequencies : List ℕ) (ps qs : List ℤ) (k : ℕ) (a
 
 -- a month's arrays have 146 places
 pub record Room (m : Month) : Type 0 where
-  pub arguments : length (m .arguments) ≡ 146
-  pub lags : length (m .lags) ≡ 146
-  pub frequencies : length (m .frequencies) ≡ 146
-  pub ps : length (m .ps) ≡ 146
-  pub qs : length (m .qs) ≡ 146
+  pub arguments : length (m .arguments) ≡ mostRecords
+  pub lags : length (m .lags) ≡ mostRecords
+  pub frequencies : length (m .frequencies) ≡ mostRecords
+  pub ps : length (m .ps) ≡ mostRecords
+  pub qs : length (m .qs) ≡ mostRecords
 
 -- a month with a constituent at place k
 module _ (m : Month) (k argument lag frequency : ℕ) (p q : ℤ) (r : Room m) where
@@ -54,7 +55,7 @@ module _ (m : Month) (k argument lag frequency : ℕ) (p q : ℤ) (r : Room m) w
         qs = length-set (m .qs) k q ∙ r .qs;
       }
 
-  pub stands-last : k < 146 → heldUpto with-one (k + 1) ≡ heldUpto m k ++ (record { argument = argument; lag = lag; frequency = frequency; p = p; q = q } ∷ [])
+  pub stands-last : k < mostRecords → heldUpto with-one (k + 1) ≡ heldUpto m k ++ (record { argument = argument; lag = lag; frequency = frequency; p = p; q = q } ∷ [])
   stands-last h =
       put-last (m .arguments) (m .lags) (m .frequencies) (m .ps) (m .qs) k argument lag frequency p q
       (omega (arith, r .arguments)) (omega (arith, r .lags)) (omega (arith, r .frequencies)) (omega (arith, r .ps)) (omega (arith, r .qs))

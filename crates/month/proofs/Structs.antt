@@ -5,6 +5,7 @@ use mathlib.Core.List.{List, [], _∷_, _++_}
 use Prim.Native.Nat.{ℕ, _+_, _≤_, _<_, min}
 use lib.IntN.{ℤ}
 use lib.ListN.{length, getD}
+use Rattle.limits.specs.Limits.{mostRecords}
 use Rattle.table.specs.Table.{Main, Shallow}
 use Rattle.table.proofs.definitions.OfRows.{foundAt}
 use Rattle.table.specs.declared.Table.{Table}
@@ -56,7 +57,7 @@ module _ (t : Table) (s : Station) (given : Given) where
   abbrev pub with-rest : List Constituent → ℕ → ℕ → Outcome (List Constituent)
   with-rest cs n k = before cs (left fs ms ss g l (s .places) (s .amplitudes) (s .lags) n k)
 
-  pub starts : (n : ℕ) → n ≡ min (s .count) 146 → with-rest [] n 0 ≡ all
+  pub starts : (n : ℕ) → n ≡ min (s .count) mostRecords → with-rest [] n 0 ≡ all
   unfolding stationOf
   starts n e = none-done fs ms ss g l (s .places) (s .amplitudes) (s .lags) n ∙ ap (λ (m : ℕ). recordsPrepared fs ms ss g l 1 (recordsFrom (s .places) (s .amplitudes) (s .lags) 0 m)) e
 

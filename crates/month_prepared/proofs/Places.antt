@@ -5,6 +5,7 @@ use mathlib.Core.List.{List, [], _∷_}
 use lib.IntN.{ℤ}
 use lib.ListN.{length}
 use native.Mathlib.Omega.{arith}
+use Rattle.limits.specs.Limits.{mostRecords}
 use Rattle.month_prepared.specs.inner.View.{constituentAt, constituentsAfter, constituentsFrom, constituentsOf}
 use Rattle.month_prepared.specs.declared.Month.{Month}
 
@@ -23,5 +24,5 @@ module _ (arguments lags frequencies : List ℕ) (ps qs : List ℤ) where
   constituents-length k (suc n) = ap suc (constituents-length (k + 1) n)
 
 -- a month whose count is within its room holds that many
-pub constituents-of : (m : Month) → m .count ≤ 146 → constituentsOf m ≡ constituentsFrom (m .arguments) (m .lags) (m .frequencies) (m .ps) (m .qs) (m .count)
-constituents-of m h = let e : min (m .count) 146 ≡ m .count = omega arith in rw e
+pub constituents-of : (m : Month) → m .count ≤ mostRecords → constituentsOf m ≡ constituentsFrom (m .arguments) (m .lags) (m .frequencies) (m .ps) (m .qs) (m .count)
+constituents-of m h = let e : min (m .count) mostRecords ≡ m .count = omega arith in rw e

@@ -7,6 +7,7 @@ use native.Mathlib.Numerals.{add-one}
 use native.Mathlib.Omega.{arith}
 use lib.ListN.{getD, set, replicate}
 use lib.IntN.{ℤ}
+use Rattle.limits.specs.Limits.{mostRecords}
 use Rattle.station.specs.declared.records.Rows.{Rows}
 use Rattle.station.specs.Records.{recordsFrom, recordsOf}
 use Rattle.station.proofs.records.Copies.{stored, stored-at}
@@ -51,13 +52,13 @@ module _ (empty : code.Station) (rows : Rows) where
   count-upto (suc n) e = add-one n
 
 -- a station with the first n records of the rows has those records
-pub kept-is : (latitude : ℤ) (rows : Rows) (n : ℕ) → n ≤ 146
+pub kept-is : (latitude : ℤ) (rows : Rows) (n : ℕ) → n ≤ mostRecords
     → stationOf (stationUpto (noStation latitude) rows n) ≡ record { latitude = latitude; records = recordsOf rows n }
 unfolding stationOf
 kept-is latitude rows n h =
     let empty = noStation latitude in
-    let at = stored-at (replicate 146 0) in
-    let fewest : min n 146 ≡ n = omega arith in
+    let at = stored-at (replicate mostRecords 0) in
+    let fewest : min n mostRecords ≡ n = omega arith in
     rw (
       latitude-upto empty rows n,
       count-upto empty rows n refl,

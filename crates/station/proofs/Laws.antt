@@ -4,13 +4,14 @@ use mathlib.Core.Path.{_≡_, refl, ap}
 use Prim.{Unit}
 use Prim.Native.Nat.{ℕ, zero, suc, _+_, _-_, _%_, _≤_, _<_}
 use mathlib.Core.List.{List}
-use mathlib.Core.Bool.{Bool, true, false, cond}
+use mathlib.Core.Bool.{Bool, true, false, _||_}
 use native.Mathlib.Nat.{not-suc-le-zero, mod-eq-of-lt}
 use native.Mathlib.Numerals.{sub-one, add-one}
 use native.Mathlib.Omega.{arith}
 use lib.ListN.{getD}
 use lib.Dec.{eqb, leb, ltb}
 use borrow.Author.Tests.{ltb-false}
+use Rattle.limits.specs.Limits.{mostAmplitude, mostPhase}
 use Rattle.refusals.specs.Outcome.{Outcome, accepted, refused, refuseIf, _>>=_, _>>_, numberOf, outcomeOf}
 use Rattle.refusals.proofs.Laws.{not-both}
 use Rattle.refusals.specs.declared.Answer.{Answer}
@@ -19,20 +20,21 @@ use Rattle.refusals.specs.declared.Refusal.{Refusal}
 use Rattle.station.specs.declared.records.Record.{Record}
 use Rattle.station.specs.declared.records.Rows.{Rows}
 use Rattle.station.specs.declared.Station as code
-use Rattle.station.specs.Station.{placeRepeated, recordOutcome, recordsOutcome}
+use Rattle.station.specs.Station.{recordOutcome, recordsOutcome}
+use Rattle.refusals.specs.Places.{isAmong}
 use Rattle.station.specs.inner.Station.{placesBefore, stationUpto, putRecord}
 use Rattle.station.specs.Records.{recordAt, recordsFrom}
 
 -- a place among the first k is the last of them, or among those before it
 pub repeated-more : (place : ℕ) (places : List ℕ) (k : ℕ) → 0 < k
-    → placeRepeated place (placesBefore places k) ≡ cond (eqb (getD places (k - 1) 0) place) true (placeRepeated place (placesBefore places (k - 1)))
-unfolding placeRepeated placesBefore
+    → isAmong place (placesBefore places k) ≡ (eqb place (getD places (k - 1) 0) || isAmong place (placesBefore places (k - 1)))
+unfolding isAmong placesBefore
 repeated-more place places zero h = absurd (not-suc-le-zero h)
 repeated-more place places (suc k) h = rw (sub-one (suc k))
 
 -- none stands among no places
-pub repeated-none : (place : ℕ) (places : List ℕ) (k : ℕ) → k ≤ 0 → placeRepeated place (placesBefore places k) ≡ false
-unfolding placeRepeated placesBefore
+pub repeated-none : (place : ℕ) (places : List ℕ) (k : ℕ) → k ≤ 0 → isAmong place (placesBefore places k) ≡ false
+unfolding isAmong placesBefore
 repeated-none place places zero h = refl
 repeated-none place places (suc k) h = absurd (not-suc-le-zero h)
 
@@ -55,10 +57,10 @@ records-none frequencies rows k n h = let e : n - k ≡ 0 = omega arith in rw e
 
 -- an accepted record's amplitude and phase lag are in range
 pub record-fits : (frequencies : ℕ) (earlier : List ℕ) (k : ℕ) (r : Record) → recordOutcome frequencies earlier k r ≡ accepted tt
-    → (r .amplitude ≤ 65_535) × (r .phase ≤ 35_999)
+    → (r .amplitude ≤ mostAmplitude) × (r .phase ≤ mostPhase)
 unfolding recordOutcome
 record-fits frequencies earlier k r =
-    tests (leb frequencies (r .place)) (placeRepeated (r .place) earlier) (ltb 65_535 (r .amplitude)) (ltb 35_999 (r .phase)) (ltb-false 65_535 (r .amplitude)) (ltb-false 35_999 (r .phase))
+    tests (leb frequencies (r .place)) (isAmong (r .place) earlier) (ltb mostAmplitude (r .amplitude)) (ltb mostPhase (r .phase)) (ltb-false mostAmplitude (r .amplitude)) (ltb-false mostPhase (r .phase))
   where
     tests : (a b c d : Bool) {P Q : Type 0} → (c ≡ false → P) → (d ≡ false → Q)
         → _≡_ {A = Outcome Unit} (refuseIf a 5 k (refuseIf b 4 k (refuseIf c 3 k (refuseIf d 3 k (accepted tt))))) (accepted tt) → P × Q
@@ -75,7 +77,7 @@ unfolding stationUpto
 upto-more empty rows k = ap (λ (m : ℕ). stationUpto empty rows m) (add-one k)
 
 -- what is kept of a number in range is that number
-pub narrow-is : (x : ℕ) → x ≤ 65_535 → x % 65_536 ≡ x
+pub narrow-is : (x : ℕ) → x ≤ mostAmplitude → x % 65_536 ≡ x
 narrow-is x h = mod-eq-of-lt (omega arith)
 
 -- a refusal ends the work

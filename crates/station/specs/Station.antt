@@ -3,12 +3,13 @@
 use Prim.{Unit}
 use Prim.Native.Nat.{ℕ, _+_}
 use mathlib.Core.List.{List, [], _∷_}
-use mathlib.Core.Bool.{Bool, true, false, cond}
+use mathlib.Core.Bool.{Bool}
 use lib.ListN.{length}
-use lib.Dec.{eqb, leb, ltb}
+use lib.Dec.{leb, ltb}
 use lib.IntN.{ℤ, pos, negℤ}
 use lib.Signed.{ltZ}
 use Rattle.limits.specs.Limits.{mostAmplitude, mostLatitude, mostPhase, mostRecords}
+use Rattle.refusals.specs.Places.{isAmong}
 use Rattle.refusals.specs.Outcome.{Outcome, accepted, refuseIf, _>>_}
 use Rattle.station.specs.declared.records.Record.{Record}
 
@@ -16,11 +17,6 @@ use Rattle.station.specs.declared.records.Record.{Record}
 pub record Station : Type 0 where
   pub latitude : ℤ
   pub records : List Record
-
--- "place repeated": whether a place stands among those of the records before
-unfoldable pub placeRepeated : ℕ → List ℕ → Bool
-placeRepeated place [] = false
-placeRepeated place (earlier ∷ rest) = cond (eqb earlier place) true (placeRepeated place rest)
 
 -- "Amplitude is 0 to 65,535 tenths of a millimetre, phase lag 0 to 35,999 hundredths of a degree."
 abbrev pub amplitudeOutside : ℕ → Bool
@@ -30,11 +26,11 @@ abbrev pub phaseOutside : ℕ → Bool
 phaseOutside phase = ltb mostPhase phase
 
 -- "each record's place (5, 4), amplitude, phase": the record number k, from 1, after records with the places `earlier`,
--- in a table with so many frequencies
+-- in a table with so many frequencies. "4 .. place repeated"
 unfoldable pub recordOutcome : ℕ → List ℕ → ℕ → Record → Outcome Unit
 recordOutcome frequencies earlier k r =
     refuseIf (leb frequencies (r .place)) 5 k
-    (refuseIf (placeRepeated (r .place) earlier) 4 k
+    (refuseIf (isAmong (r .place) earlier) 4 k
     (refuseIf (amplitudeOutside (r .amplitude)) 3 k (refuseIf (phaseOutside (r .phase)) 3 k (accepted tt))))
 
 -- the records from number k on, each in its turn

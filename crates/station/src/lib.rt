@@ -3,7 +3,8 @@ ghost use mathlib.Core.Path.{_≡_};
 ghost use Prim.Native.Nat.{_+_, _%_, _<_, _≤_};
 ghost use Rattle.limits.specs.Limits.{mostRecords};
 ghost use Rattle.refusals.specs.Outcome.{outcomeOf};
-ghost use Rattle.station.specs.Station.{placeRepeated, amplitudeOutside, recordOutcome};
+ghost use Rattle.station.specs.Station.{amplitudeOutside, recordOutcome};
+ghost use Rattle.refusals.specs.Places.{isAmong};
 ghost use Rattle.station.specs.inner.Station.{placesBefore, noStation, putRecord};
 ghost use Rattle.station.specs.inner.Posts.{RecordsPost, StationPost};
 ghost use Rattle.station.specs.Records.{recordAt};
@@ -50,12 +51,12 @@ pub fn no_station(latitude: i32) -> Station
 // Whether one of the first k places is this one.
 fn is_repeated(places: &[u8; RECORDS], k: usize, place: u8) -> bool
     requires { ⌜ k ≤ mostRecords ⌝ }
-    ensures { λ r. ⌜ r ≡ placeRepeated place (placesBefore (now (places .entry)) k) ⌝ }
+    ensures { λ r. ⌜ r ≡ isAmong place (placesBefore (now (places .entry)) k) ⌝ }
 {
     let mut left = k;
     while 0 < left {
         left -= 1;
-        if places[left] == place {
+        if place == places[left] {
             return true;
         }
     }

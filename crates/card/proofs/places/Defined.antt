@@ -12,7 +12,7 @@ use Rattle.columns.specs.declared.names.Found.the-variants.{At}
 use Rattle.table.specs.inner.View.{listed}
 use Rattle.table.proofs.Rows.{listed-next, listed-end}
 use Rattle.refusals.specs.Checked.{good, bad}
-use Rattle.card.specs.Card.{isAmong}
+use Rattle.refusals.specs.Places.{isAmong}
 use Rattle.card.specs.Places.{notMain, mainAt}
 
 -- names from place k on are found at place k or above, and below their end

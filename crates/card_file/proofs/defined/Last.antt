@@ -6,7 +6,7 @@ use mathlib.Core.Bool.{Bool, true, false, cond}
 use Prim.Native.Nat.{ℕ, zero, suc, _+_, _-_, _≤_, _<_}
 use native.Mathlib.Omega.{arith}
 use Rattle.columns.specs.declared.names.Found.the-variants.{At, Nothing}
-use Rattle.card.specs.Card.{isAmong}
+use Rattle.refusals.specs.Places.{isAmong}
 use Rattle.card_file.specs.Cards.{firstUndefined}
 
 module _ (defined : List ℕ) (k n : ℕ) where

@@ -1,5 +1,6 @@
 -- `clock::height` meets its contract: refused by what is asked first, or the month's height (`Asked` in calls). Assumes nothing.
 use borrow.Author.Needs.{needs}
+use Rattle.limits.specs.Limits.{mostMinutes}
 use Rattle.clock.proofs.height.Statement.{statement}
 use Rattle.clock.proofs.height.Tie as tie
 use native.Mathlib.Omega.{arith}
@@ -26,7 +27,7 @@ height-requires c κs =
     let s = c .before .before .before .before .before .before .before .before .before .before in
     let k = s .args .t1 in
     let w = height-within (k .tabled) (k .stationed) (k .dated) (k .last) (s .args .minute) (sym (c .before .before .before .before .before .before .before .before .before .height-answer .ensures) ∙ ap outcomeOf (c .before .before .before .before .before .before .before .enum-told .given .1)) in
-    let within : s .args .minute ≤ 44_640 = omega (arith, w, s .pre .last) in
+    let within : s .args .minute ≤ mostMinutes = omega (arith, w, s .pre .last) in
     (s .pre .cosines, (s .pre .count, within))
 
 returns : tie.Need-returns

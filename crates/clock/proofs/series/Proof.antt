@@ -1,5 +1,6 @@
 -- `clock::series` meets its contract: refused by what is asked first, or the month's heights (`Asked` in calls). Assumes nothing.
 use borrow.Author.Needs.{needs}
+use Rattle.limits.specs.Limits.{mostMinutes}
 use Rattle.clock.proofs.series.Statement.{statement}
 use Rattle.clock.proofs.series.Tie as tie
 use native.Mathlib.Omega.{arith}
@@ -23,7 +24,7 @@ series-requires c κs =
     let s = c .before .before .before .before .before .before .before .before .before .before .before in
     let k = s .args .t1 in
     let w = series-within (k .tabled) (k .stationed) (k .dated) (k .last) (s .args .start) (s .args .step) _ (sym (c .before .before .before .before .before .before .before .before .before .before .series-answer .ensures) ∙ ap outcomeOf (c .before .before .before .before .before .before .before .before .enum-told .given .1)) in
-    let within : s .args .start ≤ 44_640 = omega (arith, w .0, s .pre .last) in
+    let within : s .args .start ≤ mostMinutes = omega (arith, w .0, s .pre .last) in
     (s .pre .cosines, (s .pre .count, (within, w .1)))
 
 same-length : tie.Need-same-length

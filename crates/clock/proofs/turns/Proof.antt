@@ -1,5 +1,6 @@
 -- `clock::turns` meets its contract: refused by what is asked first, or what the search gives, 10 or the turns (`Asked` in calls). Assumes nothing.
 use borrow.Author.Needs.{needs}
+use Rattle.limits.specs.Limits.{mostMinutes}
 use Rattle.clock.proofs.turns.Statement.{statement}
 use Rattle.clock.proofs.turns.Tie as tie
 use native.Mathlib.Omega.{arith}
@@ -30,7 +31,7 @@ turns-requires c κs =
     let k = s .args .t1 in
     let stride = c .before .before .before .before .before .station-stride .ensures .1 in
     let w = turns-within (k .tabled) (k .stationed) (k .dated) (k .last) (s .args .first) (s .args .last) (sym (c .before .before .before .before .before .before .before .before .before .before .turns-answer .ensures) ∙ ap outcomeOf (c .before .before .before .before .before .before .before .before .enum-told .given .1)) in
-    let within : s .args .last ≤ 44_640 = omega (arith, w .0, s .pre .last) in
+    let within : s .args .last ≤ mostMinutes = omega (arith, w .0, s .pre .last) in
     rw (c .before .before .before .before .month-in .ensures) ((s .pre .cosines, (s .pre .count, s .pre .month)), (stride .0, (stride .1, (w .1, within))))
 
 found-turns-requires : tie.Need-found-turns-requires

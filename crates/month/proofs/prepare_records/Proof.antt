@@ -8,6 +8,7 @@ use lib.ListN.{length, getD}
 use mir.Syntax.{w32, w64}
 use mir.Val.{SFits, toZ, ofZ}
 use mir.ValLaws.{toZ-ofZ}
+use Rattle.limits.specs.Limits.{mostRecords}
 use Rattle.table.proofs.definitions.OfRows.{by-first-rows}
 use Rattle.angles.proofs.Machine.{held, fits-below}
 use Rattle.month_satellites.specs.inner.Ranges.{Sized}
@@ -33,7 +34,7 @@ weighed amplitude x r f h e = toZ-ofZ w32 r f ∙ e ∙ ap (weight amplitude) (i
 
 abbrev Inv-loop : tie.InvT-loop
 Inv-loop cosines given table station n mains shallows kept₀ month₀ k₀ kept month k =
-    (with-rest table station given (heldUpto month k) n k ≡ all table station given) × (k ≤ n) × (n ≤ 146) × Room month
+    (with-rest table station given (heldUpto month k) n k ≡ all table station given) × (k ≤ n) × (n ≤ mostRecords) × Room month
     × KeptBy given (table .maincards) (table .mainangles) (table .satelliteangles) (table .satelliteratios) kept
 
 abbrev μ-loop : tie.MeasureT-loop
@@ -60,11 +61,11 @@ loop-holds c =
     let a = c .before .before .before .before .before .before .before .before .before .before .before .args in
     let n = c .before .before .before .before .before .before .before .before .before .before .held in
     let m = c .no-constituents .result in
-    let r₁ : length (m .arguments) ≡ 146 = search needs in
-    let r₂ : length (m .lags) ≡ 146 = search needs in
-    let r₃ : length (m .frequencies) ≡ 146 = search needs in
-    let r₄ : length (m .ps) ≡ 146 = search needs in
-    let r₅ : length (m .qs) ≡ 146 = search needs in
+    let r₁ : length (m .arguments) ≡ mostRecords = search needs in
+    let r₂ : length (m .lags) ≡ mostRecords = search needs in
+    let r₃ : length (m .frequencies) ≡ mostRecords = search needs in
+    let r₄ : length (m .ps) ≡ mostRecords = search needs in
+    let r₅ : length (m .qs) ≡ mostRecords = search needs in
     let table = c .before .before .before .before .before .before .before .before .before .before .before .good .1 .0 in
     let angles : length (a .t2 .mainangles) ≡ 448 = length-unmapped _ (a .t2 .mainangles) 448 (table .1 .1 .1 .1 .1 .1 .1 .1 .1 .0 .1 .0 .1) in
     let cards : length (a .t2 .maincards) ≡ 192 = length-unmapped _ (a .t2 .maincards) 192 (table .1 .1 .1 .1 .1 .1 .1 .1 .0 .1 .0 .1) in (
@@ -192,7 +193,7 @@ loop-again c =
     let fq : SFits w32 (wq .result) = search needs in
     let p : toZ w32 (ofZ w32 (wp .result)) ≡ weight amplitude (xy .x) = weighed amplitude (xy .x) (wp .result) fp (small .x) (wp .ensures) in
     let q : toZ w32 (ofZ w32 (wq .result)) ≡ weight amplitude (xy .y) = weighed amplitude (xy .y) (wq .result) fq (small .y) (wq .ensures) in
-    let k : s .k < 146 = omega (arith, c .before .before .before .before .before .before .before .before .before .before .before .before .before .before .before .before .before .before .before .before .before .before .before .before .before .before .before .before .before .before .loop-test .taken, s .inv .2) in
+    let k : s .k < mostRecords = omega (arith, c .before .before .before .before .before .before .before .before .before .before .before .before .before .before .before .before .before .before .before .before .before .before .before .before .before .before .before .before .before .before .loop-test .taken, s .inv .2) in
     rw (p, q) (
       accepted (a .t2) (a .t3) (a .given) (c .before .before .before .before .before .before .before .before .before .before .before .before .before .before .before .before .before .before .before .before .before .before .before .before .before .before .before .before .before .before .before .before .before .before .before .before .before .before .before .before .before .before .before .pre .1 .1) (s .k) (found .result) _ (w .result) at (c .before .before .before .before .before .before .before .before .before .before .before .before .before .before .before .before .before .before .work-mains .ensures) (w .ensures)
           (heldUpto (s .month) (s .k)) (c .before .before .before .before .before .before .before .before .before .before .before .before .before .before .before .before .before .before .before .before .before .before .before .before .before .before .before .before .before .before .before .before .before .before .before .before .before .before .before .before .before .before .held .result) (s .inv .0) (c .before .before .before .before .before .before .before .before .before .before .before .before .before .before .before .before .before .before .before .before .before .before .before .before .before .before .before .before .before .before .loop-test .taken) xy within (c .frequency-at .result) _ (c .frequency-at .ensures)
@@ -209,7 +210,7 @@ returns-2 c =
     let s = c .before .loop in
     let n = c .before .before .before .before .before .before .before .before .before .before .before .before .held .result in
     let e : s .k ≡ n = omega (arith, c .loop-test .left, s .inv .1) in
-    let m : min n 146 ≡ n = omega (arith, s .inv .2) in
+    let m : min n mostRecords ≡ n = omega (arith, s .inv .2) in
     rw m (ap (λ (i : ℕ). outcome.accepted (heldUpto (s .month) i)) (sym e) ∙ ends (a .t2) (a .t3) (a .given) (heldUpto (s .month) (s .k)) n (s .k) (c .loop-test .left) (s .inv .0))
 
 pub prepare-records-spec : {M : Type 1} → statement M

@@ -9,6 +9,7 @@ use borrow.Author.Tests.{ltb-true, ltb-false}
 use lib.Dec.{ltb}
 use lib.IntN.{ℤ, pos, natAbs, zero-*ℤ}
 use lib.ListN.{length, getD, replicate, getD-replicate, length-replicate, List·getD-eq-default}
+use Rattle.limits.specs.Limits.{mostMains}
 use Rattle.angles.specs.Ticks.{turn}
 use Rattle.table.specs.inner.View.{listed, rowOf, naturals}
 use Rattle.table.proofs.entries.Beyond.{past-rows, past-entries, entry-at}
@@ -39,32 +40,32 @@ pair-past g longitudes cards angles ratios k h =
     rw none
 
 -- an entry of a list that has the default from 64 on
-from-64 : {A : Type 0} (none : A) (f : ℕ → A) (n : ℕ) → ((k : ℕ) → 64 ≤ k → f k ≡ none) → (k : ℕ) → 64 ≤ k → getD (listed f 0 n) k none ≡ none
-from-64 none f n h k far = by (ltb k n) refl
+from-mostMains : {A : Type 0} (none : A) (f : ℕ → A) (n : ℕ) → ((k : ℕ) → mostMains ≤ k → f k ≡ none) → (k : ℕ) → mostMains ≤ k → getD (listed f 0 n) k none ≡ none
+from-mostMains none f n h k far = by (ltb k n) refl
   where
     by : (t : Bool) → ltb k n ≡ t → getD (listed f 0 n) k none ≡ none
     by true e = sym (entry-at none f n k (ltb-true k n e)) ∙ h k far
     by false e = sym (past-entries none f n k (ltb-false k n e))
 
-module _ (l : Longitudes) (angles : List ℤ) (g : Factors) (longitudes cards : List ℕ) (satelliteangles : List ℤ) (ratios : List ℕ) (mains : ℕ) (a : length angles ≡ 448) (b : length cards ≡ 192) where
-  far-only : (k : ℕ) → Has noneKept k → 64 ≤ k
-  far-only k h = by (ltb k 64) refl
+module _ (l : Longitudes) (angles : List ℤ) (g : Factors) (longitudes cards : List ℕ) (satelliteangles : List ℤ) (ratios : List ℕ) (mains : ℕ) (a : length angles ≡ 448) (b : length cards ≡ 3 * mostMains) where
+  far-only : (k : ℕ) → Has noneKept k → mostMains ≤ k
+  far-only k h = by (ltb k mostMains) refl
     where
-      by : (t : Bool) → ltb k 64 ≡ t → 64 ≤ k
+      by : (t : Bool) → ltb k mostMains ≡ t → mostMains ≤ k
       by true e =
-          let inside : k < 64 = ltb-true k 64 e in
-          let v : getD (argumentsIn noneKept) k 0 ≡ turn = sym (entry-at 0 (λ j. natAbs (getD noneKept (3 * j) (pos 0))) 64 k inside) ∙ ap natAbs (getD-replicate 192 (3 * k) (pos turn) (pos 0) (omega (arith, inside))) in
+          let inside : k < mostMains = ltb-true k mostMains e in
+          let v : getD (argumentsIn noneKept) k 0 ≡ turn = sym (entry-at 0 (λ j. natAbs (getD noneKept (3 * j) (pos 0))) mostMains k inside) ∙ ap natAbs (getD-replicate (3 * mostMains) (3 * k) (pos turn) (pos 0) (omega (arith, inside))) in
           absurd (lt-irrefl turn (subst (λ (n : ℕ). n < turn) v h))
-      by false e = ltb-false k 64 e
+      by false e = ltb-false k mostMains e
 
   pub none-kept : Kept (argumentAt l angles mains) (correctedAt g longitudes cards satelliteangles ratios mains) noneKept
   none-kept =
       record {
-        room = length-replicate 192 (pos turn);
+        room = length-replicate (3 * mostMains) (pos turn);
         arguments = λ k h.
-            sym (past-entries 0 (λ j. natAbs (getD noneKept (3 * j) (pos 0))) 64 k (far-only k h))
-            ∙ sym (from-64 0 (rowArgument l angles) mains (λ i f. row-past l angles i (omega arith)) k (far-only k h));
+            sym (past-entries 0 (λ j. natAbs (getD noneKept (3 * j) (pos 0))) mostMains k (far-only k h))
+            ∙ sym (from-mostMains 0 (rowArgument l angles) mains (λ i f. row-past l angles i (omega arith)) k (far-only k h));
         pairs = λ k h.
-            sym (past-entries (good one) _ 64 k (far-only k h))
-            ∙ sym (from-64 (good one) (rowCorrected g longitudes cards satelliteangles ratios) mains (λ i f. pair-past g longitudes cards satelliteangles ratios i (omega arith)) k (far-only k h));
+            sym (past-entries (good one) _ mostMains k (far-only k h))
+            ∙ sym (from-mostMains (good one) (rowCorrected g longitudes cards satelliteangles ratios) mains (λ i f. pair-past g longitudes cards satelliteangles ratios i (omega arith)) k (far-only k h));
       }

@@ -9,6 +9,7 @@ use lib.Dec.{eqb, ltb, lit<}
 use lib.IntN.{ℤ, pos, natAbs}
 use lib.ListN.{length, getD, set, length-set}
 use lib.Seq.{getD-set-same, getD-set-other}
+use Rattle.limits.specs.Limits.{mostMains}
 use Rattle.angles.specs.Ticks.{turn}
 use Rattle.table.proofs.entries.Beyond.{entry-at, past-entries}
 use Rattle.month_arguments.specs.inner.Rows.{argumentsIn}
@@ -18,17 +19,17 @@ use Rattle.month_pairs.specs.inner.Rows.{sumAt, pairsOf}
 use Rattle.month_workings.specs.inner.Kept.{Has, Kept, WithMain}
 
 -- V and pair k of 64, and those past the last
-argument-is : (kept : List ℤ) (k : ℕ) → k < 64 → getD (argumentsIn kept) k 0 ≡ natAbs (getD kept (3 * k) (pos 0))
-argument-is kept k h = sym (entry-at 0 (λ j. natAbs (getD kept (3 * j) (pos 0))) 64 k h)
+argument-is : (kept : List ℤ) (k : ℕ) → k < mostMains → getD (argumentsIn kept) k 0 ≡ natAbs (getD kept (3 * k) (pos 0))
+argument-is kept k h = sym (entry-at 0 (λ j. natAbs (getD kept (3 * j) (pos 0))) mostMains k h)
 
-argument-past : (kept : List ℤ) (k : ℕ) → 64 ≤ k → getD (argumentsIn kept) k 0 ≡ 0
-argument-past kept k h = sym (past-entries 0 (λ j. natAbs (getD kept (3 * j) (pos 0))) 64 k h)
+argument-past : (kept : List ℤ) (k : ℕ) → mostMains ≤ k → getD (argumentsIn kept) k 0 ≡ 0
+argument-past kept k h = sym (past-entries 0 (λ j. natAbs (getD kept (3 * j) (pos 0))) mostMains k h)
 
-pair-is : (kept : List ℤ) (k : ℕ) → k < 64 → getD (pairsOf kept) k (good one) ≡ checked (sumAt kept k)
-pair-is kept k h = sym (entry-at (good one) (λ j. checked (sumAt kept j)) 64 k h)
+pair-is : (kept : List ℤ) (k : ℕ) → k < mostMains → getD (pairsOf kept) k (good one) ≡ checked (sumAt kept k)
+pair-is kept k h = sym (entry-at (good one) (λ j. checked (sumAt kept j)) mostMains k h)
 
-pair-past : (kept : List ℤ) (k : ℕ) → 64 ≤ k → getD (pairsOf kept) k (good one) ≡ good one
-pair-past kept k h = sym (past-entries (good one) (λ j. checked (sumAt kept j)) 64 k h)
+pair-past : (kept : List ℤ) (k : ℕ) → mostMains ≤ k → getD (pairsOf kept) k (good one) ≡ good one
+pair-past kept k h = sym (past-entries (good one) (λ j. checked (sumAt kept j)) mostMains k h)
 
 module _ (argument : ℕ → ℕ) (corrected : ℕ → Corrected) (k : ℕ) (kept : List ℤ) (old : Kept argument corrected kept) where
   -- nothing is to be done
@@ -36,10 +37,10 @@ module _ (argument : ℕ → ℕ) (corrected : ℕ → Corrected) (k : ℕ) (kep
   as-it-is h = record { kept = old; has = h; still = λ j g. g }
 
   -- past the array 0 stands, below a turn
-  pub past-all : 64 ≤ k → WithMain argument corrected k kept kept
+  pub past-all : mostMains ≤ k → WithMain argument corrected k kept kept
   past-all h = as-it-is (subst (λ (n : ℕ). n < turn) (sym (argument-past kept k h)) (lit< tt))
 
-  module _ (v : ℕ) (x y : ℤ) (inside : k < 64) (low : v < turn) (av : v ≡ argument k) (ap′ : checked (record { x = x; y = y }) ≡ corrected k) where
+  module _ (v : ℕ) (x y : ℤ) (inside : k < mostMains) (low : v < turn) (av : v ≡ argument k) (ap′ : checked (record { x = x; y = y }) ≡ corrected k) where
     abbrev with-v : List ℤ
     with-v = set kept (3 * k) (pos v)
 
@@ -76,27 +77,27 @@ module _ (argument : ℕ → ℕ) (corrected : ℕ → Corrected) (k : ℕ) (kep
     pair-at-k = pair-is after k inside ∙ (rw (x-stands, y-stands) ap′)
 
     other-argument : (j : ℕ) → (j ≡ k → ⊥) → getD (argumentsIn after) j 0 ≡ getD (argumentsIn kept) j 0
-    other-argument j d = by (ltb j 64) refl
+    other-argument j d = by (ltb j mostMains) refl
       where
-        by : (t : Bool) → ltb j 64 ≡ t → getD (argumentsIn after) j 0 ≡ getD (argumentsIn kept) j 0
+        by : (t : Bool) → ltb j mostMains ≡ t → getD (argumentsIn after) j 0 ≡ getD (argumentsIn kept) j 0
         by true e =
-            let h : j < 64 = ltb-true j 64 e in
+            let h : j < mostMains = ltb-true j mostMains e in
             argument-is after j h ∙ ap natAbs (as-before (3 * j) (λ i. d (omega (arith, i))) (λ i. omega (arith, i)) (λ i. omega (arith, i))) ∙ sym (argument-is kept j h)
         by false e =
-            let h : 64 ≤ j = ltb-false j 64 e in
+            let h : mostMains ≤ j = ltb-false j mostMains e in
             argument-past after j h ∙ sym (argument-past kept j h)
 
     other-pair : (j : ℕ) → (j ≡ k → ⊥) → getD (pairsOf after) j (good one) ≡ getD (pairsOf kept) j (good one)
-    other-pair j d = by (ltb j 64) refl
+    other-pair j d = by (ltb j mostMains) refl
       where
-        by : (t : Bool) → ltb j 64 ≡ t → getD (pairsOf after) j (good one) ≡ getD (pairsOf kept) j (good one)
+        by : (t : Bool) → ltb j mostMains ≡ t → getD (pairsOf after) j (good one) ≡ getD (pairsOf kept) j (good one)
         by true e =
-            let h : j < 64 = ltb-true j 64 e in
+            let h : j < mostMains = ltb-true j mostMains e in
             let ex : getD after (3 * j + 1) (pos 0) ≡ getD kept (3 * j + 1) (pos 0) = as-before (3 * j + 1) (λ i. omega (arith, i)) (λ i. d (omega (arith, i))) (λ i. omega (arith, i)) in
             let ey : getD after (3 * j + 2) (pos 0) ≡ getD kept (3 * j + 2) (pos 0) = as-before (3 * j + 2) (λ i. omega (arith, i)) (λ i. omega (arith, i)) (λ i. d (omega (arith, i))) in
             pair-is after j h ∙ (rw (ex, ey) (sym (pair-is kept j h)))
         by false e =
-            let h : 64 ≤ j = ltb-false j 64 e in
+            let h : mostMains ≤ j = ltb-false j mostMains e in
             pair-past after j h ∙ sym (pair-past kept j h)
 
     -- main j, the new one or another

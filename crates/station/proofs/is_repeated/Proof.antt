@@ -8,12 +8,12 @@ use native.Mathlib.Omega.{arith}
 use mathlib.Core.Path.{_≡_, refl}
 use Prim.Native.Nat.{_≤_}
 use borrow.Author.Tests.{eq-eqb, ne-eqb}
-use Rattle.station.specs.Station.{placeRepeated}
+use Rattle.refusals.specs.Places.{isAmong}
 use Rattle.station.specs.inner.Station.{placesBefore}
 use Rattle.station.proofs.Laws.{repeated-more, repeated-none}
 
 abbrev Inv-loop : tie.InvT-loop
-Inv-loop places k place left₀ left = (left ≤ k) × (placeRepeated place (placesBefore places left) ≡ placeRepeated place (placesBefore places k))
+Inv-loop places k place left₀ left = (left ≤ k) × (isAmong place (placesBefore places left) ≡ isAmong place (placesBefore places k))
 
 abbrev μ-loop : tie.MeasureT-loop
 μ-loop places k place left₀ left = left

@@ -11,6 +11,7 @@ use borrow.Author.Tests.{ltb-true, ltb-false}
 use lib.Dec.{ltb}
 use lib.ListN.{length, getD, set, replicate, drop, length-set, length-append, drop-of-length-le, List·getD-map, List·getD-eq-default}
 use lib.Seq.{getD-set-same, getD-set-other, getD-take, length-take-le, ext-getD, drop-cons}
+use Rattle.limits.specs.Limits.{mostRecords}
 use Rattle.station.specs.declared.records.Record.{Record}
 use Rattle.station.specs.declared.records.Rows.{Rows}
 use Rattle.station.specs.Records.{recordsFrom, recordsOf}
@@ -72,48 +73,48 @@ padded-at [] n i = zeros n i
 padded-at (x ∷ xs) n zero = refl
 padded-at (x ∷ xs) n (suc i) = padded-at xs n i
 
-filled-at : (xs : List ℕ) (i : ℕ) → i < 146 → getD (filled xs) i 0 ≡ getD xs i 0
-filled-at xs i h = getD-take 146 (xs ++ replicate 146 0) i 0 h ∙ padded-at xs 146 i
+filled-at : (xs : List ℕ) (i : ℕ) → i < mostRecords → getD (filled xs) i 0 ≡ getD xs i 0
+filled-at xs i h = getD-take mostRecords (xs ++ replicate mostRecords 0) i 0 h ∙ padded-at xs mostRecords i
 
 module _ (rs : List Record) where
-  field-at : (g : Record → ℕ) → g blank ≡ 0 → (i : ℕ) → i < 146 → getD (filled (map g rs)) i 0 ≡ g (lentAt rs i)
+  field-at : (g : Record → ℕ) → g blank ≡ 0 → (i : ℕ) → i < mostRecords → getD (filled (map g rs)) i 0 ≡ g (lentAt rs i)
   field-at g z i h = filled-at (map g rs) i h ∙ (rw z at (List·getD-map g rs i blank))
 
   -- a field of all that are stored
-  field-is : (g : Record → ℕ) → g blank ≡ 0 → stored (replicate 146 0) (λ k. g (lentAt rs k)) (min (length rs) 146) ≡ filled (map g rs)
+  field-is : (g : Record → ℕ) → g blank ≡ 0 → stored (replicate mostRecords 0) (λ k. g (lentAt rs k)) (min (length rs) mostRecords) ≡ filled (map g rs)
   field-is g z =
-      ext-getD 0 _ _ (long ∙ sym (length-take-le 146 (map g rs ++ replicate 146 0) (omega (arith, length-append (map g rs) (replicate 146 0)))))
-      (λ i l. by i (omega (arith, long)) (ltb i (min (length rs) 146)) refl ∙ sym (field-at g z i (omega (arith, long))))
+      ext-getD 0 _ _ (long ∙ sym (length-take-le mostRecords (map g rs ++ replicate mostRecords 0) (omega (arith, length-append (map g rs) (replicate mostRecords 0)))))
+      (λ i l. by i (omega (arith, long)) (ltb i (min (length rs) mostRecords)) refl ∙ sym (field-at g z i (omega (arith, long))))
     where
-      long : length (stored (replicate 146 0) (λ k. g (lentAt rs k)) (min (length rs) 146)) ≡ 146
-      long = stored-length (replicate 146 0) (λ k. g (lentAt rs k)) (min (length rs) 146)
+      long : length (stored (replicate mostRecords 0) (λ k. g (lentAt rs k)) (min (length rs) mostRecords)) ≡ mostRecords
+      long = stored-length (replicate mostRecords 0) (λ k. g (lentAt rs k)) (min (length rs) mostRecords)
 
-      by : (i : ℕ) → i < 146 → (t : Bool) → ltb i (min (length rs) 146) ≡ t → getD (stored (replicate 146 0) (λ k. g (lentAt rs k)) (min (length rs) 146)) i 0 ≡ g (lentAt rs i)
-      by i l true e = stored-at (replicate 146 0) (λ k. g (lentAt rs k)) (min (length rs) 146) i (omega arith) (ltb-true i (min (length rs) 146) e)
+      by : (i : ℕ) → i < mostRecords → (t : Bool) → ltb i (min (length rs) mostRecords) ≡ t → getD (stored (replicate mostRecords 0) (λ k. g (lentAt rs k)) (min (length rs) mostRecords)) i 0 ≡ g (lentAt rs i)
+      by i l true e = stored-at (replicate mostRecords 0) (λ k. g (lentAt rs k)) (min (length rs) mostRecords) i (omega arith) (ltb-true i (min (length rs) mostRecords) e)
       by i l false e =
-          let past : min (length rs) 146 ≤ i = ltb-false i (min (length rs) 146) e in
-          stored-past (replicate 146 0) (λ k. g (lentAt rs k)) (min (length rs) 146) i past ∙ zeros 146 i ∙ sym (ap g (List·getD-eq-default rs blank {n = i} (omega arith)) ∙ z)
+          let past : min (length rs) mostRecords ≤ i = ltb-false i (min (length rs) mostRecords) e in
+          stored-past (replicate mostRecords 0) (λ k. g (lentAt rs k)) (min (length rs) mostRecords) i past ∙ zeros mostRecords i ∙ sym (ap g (List·getD-eq-default rs blank {n = i} (omega arith)) ∙ z)
 
-  row-places : (n : ℕ) → rowsUpto rs n .places ≡ stored (replicate 146 0) (λ k. lentAt rs k .place) n
+  row-places : (n : ℕ) → rowsUpto rs n .places ≡ stored (replicate mostRecords 0) (λ k. lentAt rs k .place) n
   unfolding rowsUpto stored
   row-places zero = refl
   row-places (suc n) = ap (λ (l : List ℕ). set l n (lentAt rs n .place)) (row-places n)
 
-  row-amplitudes : (n : ℕ) → rowsUpto rs n .amplitudes ≡ stored (replicate 146 0) (λ k. lentAt rs k .amplitude) n
+  row-amplitudes : (n : ℕ) → rowsUpto rs n .amplitudes ≡ stored (replicate mostRecords 0) (λ k. lentAt rs k .amplitude) n
   unfolding rowsUpto stored
   row-amplitudes zero = refl
   row-amplitudes (suc n) = ap (λ (l : List ℕ). set l n (lentAt rs n .amplitude)) (row-amplitudes n)
 
-  row-phases : (n : ℕ) → rowsUpto rs n .phases ≡ stored (replicate 146 0) (λ k. lentAt rs k .phase) n
+  row-phases : (n : ℕ) → rowsUpto rs n .phases ≡ stored (replicate mostRecords 0) (λ k. lentAt rs k .phase) n
   unfolding rowsUpto stored
   row-phases zero = refl
   row-phases (suc n) = ap (λ (l : List ℕ). set l n (lentAt rs n .phase)) (row-phases n)
 
   -- all that are lent, the first 146, are in their rows
-  pub rows-are : rowsUpto rs (min (length rs) 146) ≡ rowsOf rs
+  pub rows-are : rowsUpto rs (min (length rs) mostRecords) ≡ rowsOf rs
   unfolding rowsOf
   rows-are =
-      let n = min (length rs) 146 in
+      let n = min (length rs) mostRecords in
       let p = row-places n ∙ field-is (λ r. r .place) refl in
       let a = row-amplitudes n ∙ field-is (λ r. r .amplitude) refl in
       let f = row-phases n ∙ field-is (λ r. r .phase) refl in
@@ -130,7 +131,7 @@ rows-drop rs ps ms fs k (suc n) e p a f =
     rw (p k (omega arith), a k (omega arith), f k (omega arith), rows-drop rs ps ms fs (k + 1) n (omega arith) (λ i h. p i (omega arith)) (λ i h. a i (omega arith)) (λ i h. f i (omega arith)), drop-cons rs k blank within, add-one k)
 
 -- at most 146 records lent are those of their rows
-pub lent-is : (rs : List Record) → length rs ≤ 146 → recordsOf (rowsOf rs) (length rs) ≡ rs
+pub lent-is : (rs : List Record) → length rs ≤ mostRecords → recordsOf (rowsOf rs) (length rs) ≡ rs
 unfolding rowsOf
 lent-is rs h =
     rows-drop rs _ _ _ 0 (length rs) (omega arith) (λ i l. field-at rs (λ r. r .place) refl i (omega arith)) (λ i l. field-at rs (λ r. r .amplitude) refl i (omega arith)) (λ i l. field-at rs (λ r. r .phase) refl i (omega arith))

@@ -9,6 +9,7 @@ use native.Mathlib.Numerals.{add-one}
 use lib.IntN.{ℤ}
 use lib.ListN.{length, getD, set, drop, length-drop}
 use lib.Seq.{getD-set-same, getD-set-other}
+use Rattle.limits.specs.Limits.{mostRecords}
 use Rattle.columns.specs.Lines.{linesOf, firstLine, restLines}
 use Rattle.columns.proofs.Lines.{lines-next, lines-none}
 use Rattle.table.specs.inner.View.{listed}
@@ -31,9 +32,9 @@ use Rattle.station_file.specs.declared.stationfields.RecordStep.{RecordS
 use Rattle.station_file.specs.Station.{given, refused, onward, recordsOn, behindCard, stationLines, stationFile}
 
 -- a card that gives a record had room
-pub record-room : (names : List (List ℕ)) (count : ℕ) (line : List ℕ) (r : Record) → gives r ≡ nextRecord names count line → count < 146
+pub record-room : (names : List (List ℕ)) (count : ℕ) (line : List ℕ) (r : Record) → gives r ≡ nextRecord names count line → count < mostRecords
 unfolding nextRecord
-record-room names count line r e = had-room 146 TooManyRecords count line (recordFields names line) r (rw e)
+record-room names count line r e = had-room mostRecords TooManyRecords count line (recordFields names line) r (rw e)
 
 -- the cards from byte `at` on, after the first `count` records of the rows: the card there, or none left
 module _ (latitude : ℤ) (names : List (List ℕ)) (file : List ℕ) (at : ℕ) (rows : Rows) (count : ℕ) where

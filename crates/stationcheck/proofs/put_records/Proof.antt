@@ -1,6 +1,7 @@
 -- `stationcheck::put_records` is safe and ends. The measure is the places left. Assumes nothing.
 use Prim.Native.Nat.{_-_}
 use borrow.Author.Needs.{needs}
+use Rattle.limits.specs.Limits.{mostRecords}
 use Rattle.stationcheck.proofs.put_records.Statement.{statement}
 use Rattle.stationcheck.proofs.put_records.Tie as tie
 
@@ -8,7 +9,7 @@ abbrev Inv-loop : tie.InvT-loop
 Inv-loop count rows k₀ k = Unit
 
 abbrev μ-loop : tie.MeasureT-loop
-μ-loop count rows k₀ k = 146 - k
+μ-loop count rows k₀ k = mostRecords - k
 
 loop-holds : tie.Need-loop-holds Inv-loop μ-loop
 loop-holds c = search needs

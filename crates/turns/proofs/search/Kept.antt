@@ -13,6 +13,7 @@ use borrow.Author.Needs.{zero≤}
 use lib.ListN.{length, getD, set, drop, length-map, length-set, List·getD-append}
 use lib.Seq.{sets, take-at, length-sets}
 use borrow.Author.Tests.{ltb-false}
+use Rattle.limits.specs.Limits.{mostMinutes}
 use Rattle.turns.specs.Sense.{differ}
 use Rattle.turns.specs.Cuts.{earlierEnd, laterEnd}
 use Rattle.turns.proofs.bisection.Cuts.{by-test, end-within}
@@ -45,7 +46,7 @@ module _ (slope : ℕ → ℤ) (stride : ℕ) (some : 0 < stride) (last : ℕ) w
 
 -- ---- all kept
 
-module _ (turns : List Turn) (few : length turns ≤ 44_640) (within : (k : ℕ) → getD (minutesOf turns) k 0 ≤ 44_640) (kept₀ kept : List ℕ) (room : length kept₀ ≡ 44_640) (is : kept ≡ sets kept₀ 0 (minutesOf turns)) where
+module _ (turns : List Turn) (few : length turns ≤ mostMinutes) (within : (k : ℕ) → getD (minutesOf turns) k 0 ≤ mostMinutes) (kept₀ kept : List ℕ) (room : length kept₀ ≡ mostMinutes) (is : kept ≡ sets kept₀ 0 (minutesOf turns)) where
   many : length (minutesOf turns) ≡ length turns
   many = length-map turns (λ (t : Turn). t .minute)
 
@@ -70,12 +71,12 @@ pub record Left (slope : ℕ → ℤ) (stride first last : ℕ) (kept₀ kept : 
   pub turn : next .turn ≤ last
   pub later : next .later ≤ last
   pub there : next .slope ≡ slope (next .later)
-  pub room : length kept ≡ 44_640
+  pub room : length kept ≡ mostMinutes
   pub count : n + length (onwards slope stride last next) ≡ length (turnsOf slope stride first last)
   pub minutes : sets kept n (minutesOf (onwards slope stride last next)) ≡ sets kept₀ 0 (minutesOf (turnsOf slope stride first last))
 
 module _ {slope : ℕ → ℤ} {stride first last : ℕ} where
-  pub left-first : {kept : List ℕ} {next : Next} → NextPost slope stride last first next → length kept ≡ 44_640 → Left slope stride first last kept kept next 0
+  pub left-first : {kept : List ℕ} {next : Next} → NextPost slope stride last first next → length kept ≡ mostMinutes → Left slope stride first last kept kept next 0
   left-first {kept} p r =
       let all = ap length (p .turns) in
       record {
@@ -119,7 +120,7 @@ module _ {slope : ℕ → ℤ} {stride first last : ℕ} where
             minutes = rw add-one (rw one-more at (l .minutes));
           }
 
-    pub left-none : {high : Bool} → 0 < stride → last ≤ 44_640 → length kept₀ ≡ 44_640 → next .found ≡ false → high ≡ firstHigh (turnsOf slope stride first last) → FoundPost (turnsOf slope stride first last) kept (record { count = n; high = high })
+    pub left-none : {high : Bool} → 0 < stride → last ≤ mostMinutes → length kept₀ ≡ mostMinutes → next .found ≡ false → high ≡ firstHigh (turnsOf slope stride first last) → FoundPost (turnsOf slope stride first last) kept (record { count = n; high = high })
     left-none some h r e s =
         let none : onwards slope stride last next ≡ [] = rw e in
         let few = turns-few slope stride some last first in

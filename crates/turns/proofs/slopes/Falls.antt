@@ -10,6 +10,7 @@ use lib.ListN.{getD}
 use lib.Signed.{shrZ}
 use mir.Syntax.{w64}
 use mir.Val.{toZ}
+use Rattle.limits.specs.Limits.{mostRecords}
 use Rattle.angles.specs.Floor.{floorDiv}
 use Rattle.angles.proofs.Machine.{held}
 use Rattle.angles.proofs.Known.{Known, plainly, read, cast, bounded, kept, plus, times, shifted}
@@ -29,7 +30,7 @@ term f h p q =
     times (kept (shifted (kept (plus p q) (lit< tt)) (2 ^ 30) (2 ^ 32) (lit< tt) (lit≤ tt)) (lit< tt)) (cast (f / 1_000) small (lit< tt))
 
 -- a sum of k terms in a register, and one term more
-pub one-term-more : (z r : ℤ) (k : ℕ) → k < 146 → natAbs z ≤ k * most → natAbs r ≤ most → Known (z +ℤ held r) (z +ℤ r) ((k + 1) * most)
+pub one-term-more : (z r : ℤ) (k : ℕ) → k < mostRecords → natAbs z ≤ k * most → natAbs r ≤ most → Known (z +ℤ held r) (z +ℤ r) ((k + 1) * most)
 one-term-more z r k h hz hr = bounded (plus (plainly z hz) (read r hr (lit< tt))) (omega (arith, plus (plainly z hz) (plainly r hr) .size))
 
 module _ (arguments lags frequencies : List ℕ) (ps qs : List ℤ) (minute k n : ℕ) where

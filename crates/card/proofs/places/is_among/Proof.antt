@@ -1,5 +1,6 @@
 -- `card::places::is_among` meets its contract. The loop keeps that the place is among the rows left just when it is among all.
 use borrow.Author.Needs.{needs}
+use Rattle.limits.specs.Limits.{mostFrequencies}
 use Rattle.card.proofs.places.is_among.Statement.{statement}
 use Rattle.card.proofs.places.is_among.Tie as tie
 use native.Mathlib.Omega.{arith}
@@ -9,7 +10,7 @@ use Prim.Native.Nat.{_-_, _*_, _≤_}
 use lib.ListN.{getD}
 use borrow.Author.Tests.{eq-eqb, ne-eqb}
 use Rattle.table.specs.inner.View.{listed}
-use Rattle.card.specs.Card.{isAmong}
+use Rattle.refusals.specs.Places.{isAmong}
 use Rattle.card.specs.inner.Places.{placesIn}
 use Rattle.card.proofs.places.Defined.{among-more, among-none}
 
@@ -26,7 +27,7 @@ mul-at-u16 : tie.Need-mul-at-u16 Inv-loop μ-loop
 mul-at-u16 c =
     let a = c .before .before .before .args in
     let w : a .width ≤ 6 = omega arith in
-    let n : c .before .loop .k ≤ 160 = omega arith in
+    let n : c .before .loop .k ≤ mostFrequencies = omega arith in
     omega (arith, mul-le-mul w n)
 
 at-u16-requires : tie.Need-at-u16-requires Inv-loop μ-loop

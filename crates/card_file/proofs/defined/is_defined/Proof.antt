@@ -4,7 +4,7 @@ use Rattle.card_file.proofs.defined.is_defined.Statement.{statement}
 use Rattle.card_file.proofs.defined.is_defined.Tie as tie
 use Rattle.card.proofs.places.Defined.{among-both}
 use mathlib.Core.Path.{_≡_}
-use Rattle.card.specs.Card.{isAmong}
+use Rattle.refusals.specs.Places.{isAmong}
 use Rattle.card.specs.inner.Places.{placesIn}
 
 is-among-requires : tie.Need-is-among-requires

@@ -2,7 +2,8 @@
 use borrow.Author.Needs.{needs}
 use Rattle.card_shallows.proofs.shallowcard.own_place.Statement.{statement}
 use Rattle.card_shallows.proofs.shallowcard.own_place.Tie as tie
-use Rattle.card.specs.Card.{newPlace, isAmong}
+use Rattle.refusals.specs.Places.{isAmong}
+use Rattle.card.specs.Card.{newPlace}
 use Rattle.card.proofs.places.Defined.{among-both}
 use mathlib.Core.Path.{_≡_}
 use Rattle.card.specs.inner.Places.{placesIn}

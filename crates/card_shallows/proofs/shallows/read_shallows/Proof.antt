@@ -19,7 +19,7 @@ use Rattle.card_shallows.proofs.shallows.Rows.{shallow-room, shallow-pu
 
 abbrev Inv-loop : tie.InvT-loop
 Inv-loop file at n names frequencies maincards mains cards₀ coefficients₀ count₀ here₀ line-number₀ cards coefficients count here line-number =
-    (here ≤ length file) × (line-number ≤ here + 1) × (count ≤ 128) × (length cards ≡ 768) × (length coefficients ≡ 512)
+    (here ≤ length file) × (line-number ≤ here + 1) × (count ≤ mostShallows) × (length cards ≡ 6 * mostShallows) × (length coefficients ≡ 4 * mostShallows)
     × (shallowsFrom (namesFrom names 0 frequencies) (placesIn 3 maincards mains) (linesOf (drop here file)) line-number (listed (shallowOf cards coefficients) 0 count) ≡ shallowsFrom (namesFrom names 0 frequencies) (placesIn 3 maincards mains) (linesOf (drop at file)) n [])
 
 abbrev μ-loop : tie.MeasureT-loop

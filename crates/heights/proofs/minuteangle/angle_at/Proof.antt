@@ -3,6 +3,7 @@ use Prim.Native.Nat.{ℕ, _*_, _%_, _≤_}
 use mathlib.Core.Path.{sym, ap, _∙_}
 use native.Mathlib.Omega.{arith}
 use native.Mathlib.Nat.{mul-le-mul}
+use Rattle.limits.specs.Limits.{mostMinutes}
 use Rattle.heights.specs.Angle.{angle}
 use Rattle.heights.proofs.minuteangle.Turning.{lap, angle-is}
 use borrow.Author.Needs.{needs}
@@ -10,8 +11,8 @@ use Rattle.heights.proofs.minuteangle.angle_at.Statement.{statement}
 use Rattle.heights.proofs.minuteangle.angle_at.Tie as tie
 
 -- the laps fit
-within : (f m : ℕ) → m ≤ 44_640 → f % lap * m ≤ lap * 44_640
-within f m h = mul-le-mul {n₁ = f % lap} {m₁ = m} {n₂ = lap} {m₂ = 44_640} (omega arith) h
+within : (f m : ℕ) → m ≤ mostMinutes → f % lap * m ≤ lap * mostMinutes
+within f m h = mul-le-mul {n₁ = f % lap} {m₁ = m} {n₂ = lap} {m₂ = mostMinutes} (omega arith) h
 
 angle-of-card-requires : tie.Need-angle-of-card-requires
 angle-of-card-requires c κs = search needs

@@ -3,6 +3,7 @@ use Prim.Native.Nat.{ℕ, _*_, _≤_}
 use mathlib.Core.Path.{sym, ap, _∙_}
 use native.Mathlib.Omega.{arith}
 use native.Mathlib.Nat.{mul-le-mul}
+use Rattle.limits.specs.Limits.{mostMinutes}
 use Rattle.heights.specs.Angle.{angle}
 use Rattle.heights.proofs.minuteangle.Turning.{angle-of-card}
 use borrow.Author.Needs.{needs}
@@ -10,8 +11,8 @@ use Rattle.heights.proofs.minuteangle.angle_of_card.Statement.{statemen
 use Rattle.heights.proofs.minuteangle.angle_of_card.Tie as tie
 
 -- what a constituent advances from the month's start fits
-within : (f m : ℕ) → f ≤ 4_999_999_999 → m ≤ 44_640 → f * (1_314 * m) ≤ 4_999_999_999 * (1_314 * 44_640)
-within f m g h = mul-le-mul {n₁ = f} {m₁ = 1_314 * m} {n₂ = 4_999_999_999} {m₂ = 1_314 * 44_640} g (omega arith)
+within : (f m : ℕ) → f ≤ 4_999_999_999 → m ≤ mostMinutes → f * (1_314 * m) ≤ 4_999_999_999 * (1_314 * mostMinutes)
+within f m g h = mul-le-mul {n₁ = f} {m₁ = 1_314 * m} {n₂ = 4_999_999_999} {m₂ = 1_314 * mostMinutes} g (omega arith)
 
 mul-start : tie.Need-mul-start
 mul-start c = search needs

@@ -5,6 +5,7 @@ use native.Mathlib.Omega.{arith}
 use mathlib.Core.Path.{_≡_, refl, _∙_}
 use lib.ListN.{length, getD, length-set}
 use borrow.Author.Count.{below-none}
+use Rattle.limits.specs.Limits.{mostRecords}
 use Rattle.angles.specs.Ticks.{turn}
 use Rattle.heights.specs.inner.Angles.{Advances}
 use Rattle.heights.proofs.series.Filling.{filled-more}
@@ -12,7 +13,7 @@ use Rattle.heights.proofs.series.advances.Statement.{statement}
 use Rattle.heights.proofs.series.advances.Tie as tie
 
 abbrev Inv-loop : tie.InvT-loop
-Inv-loop frequencies count step ticks₀ k₀ ticks k = (k ≤ count) × ((length ticks ≡ 146) × Advances frequencies k step ticks)
+Inv-loop frequencies count step ticks₀ k₀ ticks k = (k ≤ count) × ((length ticks ≡ mostRecords) × Advances frequencies k step ticks)
 
 abbrev μ-loop : tie.MeasureT-loop
 μ-loop frequencies count step ticks₀ k₀ ticks k = count - k

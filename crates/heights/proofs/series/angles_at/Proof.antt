@@ -5,6 +5,7 @@ use mathlib.Core.Path.{_≡_, refl, _∙_}
 use borrow.Author.Needs.{needs}
 use borrow.Author.Count.{below-none}
 use lib.ListN.{length, getD, length-set}
+use Rattle.limits.specs.Limits.{mostRecords}
 use Rattle.heights.specs.Angle.{angle}
 use Rattle.heights.specs.inner.Angles.{Angles}
 use Rattle.heights.proofs.series.Filling.{filled-more}
@@ -12,7 +13,7 @@ use Rattle.heights.proofs.series.angles_at.Statement.{statement}
 use Rattle.heights.proofs.series.angles_at.Tie as tie
 
 abbrev Inv-loop : tie.InvT-loop
-Inv-loop arguments lags frequencies count minute angles₀ k₀ angles k = (k ≤ count) × ((length angles ≡ 146) × Angles arguments lags frequencies k minute angles)
+Inv-loop arguments lags frequencies count minute angles₀ k₀ angles k = (k ≤ count) × ((length angles ≡ mostRecords) × Angles arguments lags frequencies k minute angles)
 
 abbrev μ-loop : tie.MeasureT-loop
 μ-loop arguments lags frequencies count minute angles₀ k₀ angles k = count - k

@@ -6,6 +6,7 @@ use mathlib.Core.Path.{_≡_, refl, ap, _∙_}
 use mathlib.Core.List.{List}
 use lib.ListN.{length, getD, length-set}
 use borrow.Author.Count.{below-none}
+use Rattle.limits.specs.Limits.{mostRecords}
 use Rattle.angles.specs.Ticks.{turn}
 use Rattle.heights.specs.inner.Angles.{MovedOn}
 use Rattle.heights.proofs.series.Filling.{filled-more, unreached}
@@ -15,7 +16,7 @@ use Rattle.heights.proofs.series.move_on.Tie as tie
 -- before place k: the places below it are moved on, the others are as they were
 pub record Moving (angles₀ ticks : List ℕ) (count : ℕ) (angles : List ℕ) (k : ℕ) : Type 0 where
   pub within : k ≤ count
-  pub room : length angles ≡ 146
+  pub room : length angles ≡ mostRecords
   pub moved : MovedOn k ticks angles₀ angles
   pub others : (j : ℕ) → k ≤ j → getD angles j 0 ≡ getD angles₀ j 0
 

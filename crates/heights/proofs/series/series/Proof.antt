@@ -12,6 +12,7 @@ use lib.ListN.{length, length-set}
 use lib.Seq.{sets}
 use mir.Syntax.{w64}
 use mir.Val.{toZ, ofZ}
+use Rattle.limits.specs.Limits.{mostRecords}
 use Rattle.angles.proofs.Known.{read}
 use Rattle.month_prepared.specs.inner.View.{constituentsFrom}
 use Rattle.heights.specs.Series.{seriesFrom, seriesOf}
@@ -25,7 +26,7 @@ use Rattle.heights.proofs.series.series.Tie as tie
 pub record Writing (arguments lags frequencies : List ℕ) (ps qs : List ℤ) (count start step : ℕ) (out₀ out : List ℤ) (angles : List ℕ) (n : ℕ) : Type 0 where
   pub within : n ≤ length out₀
   pub long : length out ≡ length out₀
-  pub room : length angles ≡ 146
+  pub room : length angles ≡ mostRecords
   pub here : Angles arguments lags frequencies count (start + n * step) angles
   pub left : sets out n (seriesFrom (constituentsFrom arguments lags frequencies ps qs count) start step n (length out₀ - n)) ≡ sets out₀ 0 (seriesOf (constituentsFrom arguments lags frequencies ps qs count) start step (length out₀))
 

@@ -1,4 +1,5 @@
 -- The rows of three arrays: the loop keeps the rows of the records passed (`rowsUpto`), at most 146.
+use Rattle.limits.specs.Limits.{mostRecords}
 use Rattle.station.proofs.recordarrays.Records.{rows-more}
 use Rattle.station.specs.Arrays.{recordsIn}
 use Rattle.station.proofs.records.Copies.{rowsUpto, records-length, rows-are}
@@ -11,7 +12,7 @@ use Rattle.station.proofs.recordarrays.rows_in.Statement.{statement}
 use Rattle.station.proofs.recordarrays.rows_in.Tie as tie
 
 abbrev Inv-loop : tie.InvT-loop
-Inv-loop places amplitudes phases most rows₀ k₀ rows k = (rows ≡ rowsUpto (recordsIn places amplitudes phases) k) × (k ≤ most) × (most ≡ min (length places) 146)
+Inv-loop places amplitudes phases most rows₀ k₀ rows k = (rows ≡ rowsUpto (recordsIn places amplitudes phases) k) × (k ≤ most) × (most ≡ min (length places) mostRecords)
 
 abbrev μ-loop : tie.MeasureT-loop
 μ-loop places amplitudes phases most rows₀ k₀ rows k = most - k
@@ -62,7 +63,7 @@ returns c =
     let s = c .before in
     let a = c .before .before .before .before .before .before .before .args in
     let rs = recordsIn (a .places .now) (a .amplitudes .now) (a .phases .now) in
-    let e : s .loop .k ≡ min (length rs) 146 = omega (arith, records-length (a .places .now) (a .amplitudes .now) (a .phases .now) 0 (length (a .places .now))) in
+    let e : s .loop .k ≡ min (length rs) mostRecords = omega (arith, records-length (a .places .now) (a .amplitudes .now) (a .phases .now) 0 (length (a .places .now))) in
     s .loop .inv .0 ∙ ap (rowsUpto rs) e ∙ rows-are rs
 
 pub rows-in-spec : {M : Type 1} → statement M

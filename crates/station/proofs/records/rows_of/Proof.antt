@@ -46,6 +46,7 @@ use denote.Triple.Call.{calls-at}
 use denote.Triple.Clauses.{ensured, lasts}
 use denote.Triple.Table.{entered, cited}
 use denote.Triple.Walked.{says, Stays, stay-none-slice, walkOf, Walks, ends-at, walked, goes-none-slice, walk-meets}
+use Rattle.limits.specs.Limits.{mostRecords}
 use Rattle.station.specs.declared.records.Record.{Record}
 use Rattle.station.specs.declared.records.Rows.{Rows}
 use Rattle.station.specs.inner.Rows.{putRow, noRows, rowsOf}
@@ -128,8 +129,8 @@ module _ {M : Type 1} (𝓤 : URA M) (H : Heap 𝓤) (A : Atoms 𝓤) (mem : Mem
   Put = tripleOf 𝓤 H A put.signature (put.spec 𝓤 H A mem run)
 
   -- of each callee's `ensured`, the clause alone
-  most-of : (n r : ℕ) → ent 𝓤 (ensured 𝓤 H A most.ended (most.clauses 𝓤 H A mem run) tt (n, tt) tt r) (fact 𝓤 (r ≡ min n 146))
-  most-of n r = exE 𝓤 _ (λ ws. snd∗ 𝓤 (sem 𝓤 H A (lasts most.ended tt (n, tt) ws)) (fact 𝓤 (r ≡ min n 146)))
+  most-of : (n r : ℕ) → ent 𝓤 (ensured 𝓤 H A most.ended (most.clauses 𝓤 H A mem run) tt (n, tt) tt r) (fact 𝓤 (r ≡ min n mostRecords))
+  most-of n r = exE 𝓤 _ (λ ws. snd∗ 𝓤 (sem 𝓤 H A (lasts most.ended tt (n, tt) ws)) (fact 𝓤 (r ≡ min n mostRecords)))
 
   none-of : (r : Rows) → ent 𝓤 (ensured 𝓤 H A none.ended (none.clauses 𝓤 H A mem run) tt tt tt r) (fact 𝓤 (r ≡ noRows))
   none-of r = exE 𝓤 _ (λ ws. snd∗ 𝓤 (sem 𝓤 H A (lasts none.ended tt tt ws)) (fact 𝓤 (r ≡ noRows)))
@@ -178,7 +179,7 @@ module _ {M : Type 1} (𝓤 : URA M) (H : Heap 𝓤) (A : Atoms 𝓤) (W : Given
   abbrev to-put : ℕ → Val → Put 𝓤 H A mem run .Ghost
   to-put i v = ((tt, tt, tt, (rowsUpto ys i, (i, (elem i .place, (elem i .amplitude, (elem i .phase, tt))))), (v ∷ [], (vint w64 i ∷ [], (vint w8 (elem i .place) ∷ [], (vint w32 (elem i .amplitude) ∷ [], (vint w32 (elem i .phase) ∷ [], tt)))))), tt)
 
-  goes-put : (i : ℕ) (v : Val) → i < 146 → i < 2 ^ 64 → elem i .place < 2 ^ 8 → elem i .amplitude < 2 ^ 32 → elem i .phase < 2 ^ 32 → ent 𝓤 (sem 𝓤 H A (R.the-row .own (rowsUpto ys i) (v ∷ []))) (Put 𝓤 H A mem run .pre (to-put i v))
+  goes-put : (i : ℕ) (v : Val) → i < mostRecords → i < 2 ^ 64 → elem i .place < 2 ^ 8 → elem i .amplitude < 2 ^ 32 → elem i .phase < 2 ^ 32 → ent 𝓤 (sem 𝓤 H A (R.the-row .own (rowsUpto ys i) (v ∷ []))) (Put 𝓤 H A mem run .pre (to-put i v))
   goes-put i v h g₀ g₁ g₂ g₃ =
       qed W (‵ (R.the-row .own (rowsUpto ys i) (v ∷ [])) ∷ []) ∵ says ! h $ nothing ! $
       owned ! u32 (Is u32) (uint-makes 𝓤 H A W w32) (elem i .phase) _ (refl, g₃) $ fjoin ! $ owned ! u32 (Is u32) (uint-makes 𝓤 H A W w32) (elem i .amplitude) _ (refl, g₂) $ fjoin ! $
@@ -209,7 +210,7 @@ module _ {M : Type 1} (𝓤 : URA M) (H : Heap 𝓤) (A : Atoms 𝓤) (W : Given
       use0 W (raw (Most 𝓤 H A mem run .pre to-most)) (goes-most (gn .0)) $
       calls-at ! fm (Most 𝓤 H A mem run) known-most to-most (and-then ! (load ! (from ! (stop !)) (look ! 9 refl)) (no-more !)) (λ vm.
       use1 W (later (some (λ (r : ℕ). (‵ ftrue ⊛ ‵ (usize .own r (vm ∷ []))) ⊛ raw (ensured 𝓤 H A most.ended (most.clauses 𝓤 H A mem run) tt (n, tt) tt r)))) (id⊢ 𝓤 _) $ await ! tt $ pick ! (λ m.
-      split ! $ move ! (1 ∷ []) $ use1 W (raw (fact 𝓤 (m ≡ min n 146))) (most-of 𝓤 H A mem run n m) $ heard ! (m ≡ min n 146) (λ em. split ! $ drop ! $
+      split ! $ move ! (1 ∷ []) $ use1 W (raw (fact 𝓤 (m ≡ min n mostRecords))) (most-of 𝓤 H A mem run n m) $ heard ! (m ≡ min n mostRecords) (λ em. split ! $ drop ! $
       peeks ! usize (Is usize) (shows 𝓤 H A usize) m (vm ∷ []) (λ ism. drop ! $
       land ! (from ! (stop !)) (init ! 16 refl (uint-lawful 𝓤 H A W w64 .typed m _ ism .0)) $
       rewrite ! 16 (λ (u : Val). ‵ (fat fullShare (tyInt w64) l₂ 0 u)) (ap only (uint-tells w64 m (vm ∷ []) ism)) refl $
@@ -262,7 +263,7 @@ module _ {M : Type 1} (𝓤 : URA M) (H : Heap 𝓤) (A : Atoms 𝓤) (W : Given
       again ! ≺ (Inv l₀ l₁ l₂ l₃ l₄ l₅ l₆ l₇ l₈ l₉ lₐ m) t (record { i = suc (t .i); v = v′; small = less-m }) (omega arith))))))))
       (λ y. rewrite ! 4 (λ (z : Bool). ‵ (fat fullShare tyBool l₇ 0 (vbool z))) y refl $ leaves-loop ! (load ! (from ! (stop !)) (look ! 4 refl)) $
       exec ! (𝓣 .C) (𝓣 .Λ) (En l₀ l₁ l₂ l₃ l₄ l₅ l₆ l₇ l₈ l₉ lₐ) rest (atRet (En l₀ l₁ l₂ l₃ l₄ l₅ l₆ l₇ l₈ l₉ lₐ) Post) $
-      let all : t .i ≡ min n 146 = omega (arith, em, t .small, ltb-false (t .i) m y) in
+      let all : t .i ≡ min n mostRecords = omega (arith, em, t .small, ltb-false (t .i) m y) in
       move ! (11 ∷ []) $ rewrite ! 0 (λ (r′ : Rows). ‵ (R.the-row .own r′ (t .v ∷ []))) (ap (rowsUpto ys) all ∙ rows-are ys) refl $
       peeks ! R.the-row (Is R.the-row) (shows 𝓤 H A R.the-row) (rowsOf ys) (t .v ∷ []) (λ is′.
       assigns ! (of-opd ! (load ! (from ! (stop !)) (look ! 1 refl))) (from ! (stop !)) (init ! 9 refl (LL.lawful R.the-type R′.the-laws 𝓤 H A W .typed (rowsOf ys) _ is′ .0)) $

@@ -1,5 +1,6 @@
 -- `station_file::stationfile::read_records` meets its contract. The loop keeps that reading on from here gives what reading from line 2 gives.
 use borrow.Author.Needs.{needs}
+use Rattle.limits.specs.Limits.{mostFrequencies, mostRecords}
 use Rattle.station_file.proofs.stationfile.read_records.Statement.{statement}
 use Rattle.station_file.proofs.stationfile.read_records.Tie as tie
 use mathlib.Core.Path.{_≡_, refl, ap, _∙_}
@@ -20,8 +21,8 @@ use Rattle.station_file.proofs.stationfile.Records.{record-room, record
 
 abbrev Inv-loop : tie.InvT-loop
 Inv-loop file first latitude names frequencies rows₀ count₀ at₀ rows count at =
-    (at ≤ length file) × (count ≤ 146) × (length (rows .places) ≡ 146) × (length (rows .amplitudes) ≡ 146) × (length (rows .phases) ≡ 146)
-    × (recordsOn (toZ w32 latitude) (namesFrom names 0 (min frequencies 160)) (linesOf (drop at file)) (count + 2) (recordsOf rows count) ≡ recordsOn (toZ w32 latitude) (namesFrom names 0 (min frequencies 160)) (linesOf (drop first file)) 2 [])
+    (at ≤ length file) × (count ≤ mostRecords) × (length (rows .places) ≡ mostRecords) × (length (rows .amplitudes) ≡ mostRecords) × (length (rows .phases) ≡ mostRecords)
+    × (recordsOn (toZ w32 latitude) (namesFrom names 0 (min frequencies mostFrequencies)) (linesOf (drop at file)) (count + 2) (recordsOf rows count) ≡ recordsOn (toZ w32 latitude) (namesFrom names 0 (min frequencies mostFrequencies)) (linesOf (drop first file)) 2 [])
 
 abbrev μ-loop : tie.MeasureT-loop
 μ-loop file first latitude names frequencies rows₀ count₀ at₀ rows count at = length file - at
@@ -57,7 +58,7 @@ returns c =
     let s = c .before .before .before .before .before .before in
     let a = s .before .before .before .before .args in
     let fits : SFits w32 (a .latitude) = search needs in
-    let e = rw (toZ-ofZ w32 (a .latitude) fits, records-here (a .latitude) (namesFrom (a .names .now) 0 (min (a .frequencies) 160)) (a .file .now) (s .loop .at) (s .loop .rows) (s .loop .count) (c .before .before .before .before .line-at .result .now) (c .before .before .before .record-card .result) (c .before .before .before .before .before .loop-test .taken) (c .before .before .before .before .line-at .ensures) (c .before .before .before .record-card .ensures), c .before .enum-told .given .1) at (s .loop .inv .5) in
+    let e = rw (toZ-ofZ w32 (a .latitude) fits, records-here (a .latitude) (namesFrom (a .names .now) 0 (min (a .frequencies) mostFrequencies)) (a .file .now) (s .loop .at) (s .loop .rows) (s .loop .count) (c .before .before .before .before .line-at .result .now) (c .before .before .before .record-card .result) (c .before .before .before .before .before .loop-test .taken) (c .before .before .before .before .line-at .ensures) (c .before .before .before .record-card .ensures), c .before .enum-told .given .1) at (s .loop .inv .5) in
     rw (← e) (rw (toZ-ofZ w32 (a .latitude) fits) at (c .accepted .ensures))
 
 enum-known-place : tie.Need-enum-known-place Inv-loop μ-loop
@@ -67,7 +68,7 @@ put-requires : tie.Need-put-requires Inv-loop μ-loop
 put-requires c κs =
     let s = c .before .before .before .before .before .before in
     let a = s .before .before .before .before .args in
-    record-room (namesFrom (a .names .now) 0 (min (a .frequencies) 160)) (s .loop .count) (c .before .before .before .before .line-at .result .now) _ (rw (c .before .place .given .1) at (c .before .before .before .record-card .ensures))
+    record-room (namesFrom (a .names .now) 0 (min (a .frequencies) mostFrequencies)) (s .loop .count) (c .before .before .before .before .line-at .result .now) _ (rw (c .before .place .given .1) at (c .before .before .before .record-card .ensures))
 
 enum-known-fault : tie.Need-enum-known-fault Inv-loop μ-loop
 enum-known-fault c = search needs
@@ -83,7 +84,7 @@ returns-2 c =
     let s = c .before .before .before .before .before .before .before in
     let a = s .before .before .before .before .args in
     let fits : SFits w32 (a .latitude) = search needs in
-    let e = rw (toZ-ofZ w32 (a .latitude) fits, records-here (a .latitude) (namesFrom (a .names .now) 0 (min (a .frequencies) 160)) (a .file .now) (s .loop .at) (s .loop .rows) (s .loop .count) (c .before .before .before .before .before .line-at .result .now) (c .before .before .before .before .record-card .result) (c .before .before .before .before .before .before .loop-test .taken) (c .before .before .before .before .before .line-at .ensures) (c .before .before .before .before .record-card .ensures), c .before .before .fault .given .1) at (s .loop .inv .5) in
+    let e = rw (toZ-ofZ w32 (a .latitude) fits, records-here (a .latitude) (namesFrom (a .names .now) 0 (min (a .frequencies) mostFrequencies)) (a .file .now) (s .loop .at) (s .loop .rows) (s .loop .count) (c .before .before .before .before .before .line-at .result .now) (c .before .before .before .before .record-card .result) (c .before .before .before .before .before .before .loop-test .taken) (c .before .before .before .before .before .line-at .ensures) (c .before .before .before .before .record-card .ensures), c .before .before .fault .given .1) at (s .loop .inv .5) in
     rw (← e) (c .refused .ensures)
 
 next-line-requires : tie.Need-next-line-requires Inv-loop μ-loop
@@ -100,7 +101,7 @@ loop-again c =
     let s = c .before .before .before .before .before .before .before .before in
     let a = s .before .before .before .before .args in
     let g = c .before .before .before .place .given in
-    let room : s .loop .count < 146 = record-room (namesFrom (a .names .now) 0 (min (a .frequencies) 160)) (s .loop .count) (c .before .before .before .before .before .before .line-at .result .now) _ (rw (g .1) at (c .before .before .before .before .before .record-card .ensures)) in
+    let room : s .loop .count < mostRecords = record-room (namesFrom (a .names .now) 0 (min (a .frequencies) mostFrequencies)) (s .loop .count) (c .before .before .before .before .before .before .line-at .result .now) _ (rw (g .1) at (c .before .before .before .before .before .record-card .ensures)) in
     let rows = s .loop .rows in
     let put = c .before .put .ensures in (
       c .next-line .ensures .1,
@@ -109,7 +110,7 @@ loop-again c =
       rw put (length-set (rows .amplitudes) (s .loop .count) (g .0 .1 .0) ∙ s .loop .inv .3),
       rw put (length-set (rows .phases) (s .loop .count) (g .0 .1 .1 .0) ∙ s .loop .inv .4),
       rw (c .next-line .ensures .2, c .before .put .ensures, records-put rows (s .loop .count) (g .0 .0) (g .0 .1 .0) (g .0 .1 .1 .0) (omega (arith, s .loop .inv .2)) (omega (arith, s .loop .inv .3)) (omega (arith, s .loop .inv .4)))
-          (rw (records-here (toZ w32 (ofZ w32 (a .latitude))) (namesFrom (a .names .now) 0 (min (a .frequencies) 160)) (a .file .now) (s .loop .at) (s .loop .rows) (s .loop .count) (c .before .before .before .before .before .before .line-at .result .now) (c .before .before .before .before .before .record-card .result) (c .before .before .before .before .before .before .before .loop-test .taken) (c .before .before .before .before .before .before .line-at .ensures) (c .before .before .before .before .before .record-card .ensures), g .1) at (s .loop .inv .5)),
+          (rw (records-here (toZ w32 (ofZ w32 (a .latitude))) (namesFrom (a .names .now) 0 (min (a .frequencies) mostFrequencies)) (a .file .now) (s .loop .at) (s .loop .rows) (s .loop .count) (c .before .before .before .before .before .before .line-at .result .now) (c .before .before .before .before .before .record-card .result) (c .before .before .before .before .before .before .before .loop-test .taken) (c .before .before .before .before .before .before .line-at .ensures) (c .before .before .before .before .before .record-card .ensures), g .1) at (s .loop .inv .5)),
     )
 
 accepted-requires-2 : tie.Need-accepted-requires-2 Inv-loop μ-loop
@@ -120,7 +121,7 @@ returns-3 c =
     let s = c .before .before in
     let a = s .before .before .before .before .args in
     let fits : SFits w32 (a .latitude) = search needs in
-    let e = rw (toZ-ofZ w32 (a .latitude) fits, records-end (a .latitude) (namesFrom (a .names .now) 0 (min (a .frequencies) 160)) (a .file .now) (s .loop .at) (s .loop .rows) (s .loop .count) (c .before .loop-test .left)) at (s .loop .inv .5) in
+    let e = rw (toZ-ofZ w32 (a .latitude) fits, records-end (a .latitude) (namesFrom (a .names .now) 0 (min (a .frequencies) mostFrequencies)) (a .file .now) (s .loop .at) (s .loop .rows) (s .loop .count) (c .before .loop-test .left)) at (s .loop .inv .5) in
     rw (← e) (rw (toZ-ofZ w32 (a .latitude) fits) at (c .accepted2 .ensures))
 
 pub read-records-spec : {M : Type 1} → statement M

@@ -1,5 +1,6 @@
 -- `station_file::stationfile::read_station` meets its contract: the station card on the first line, then the constituent cards.
 use borrow.Author.Needs.{needs}
+use Rattle.limits.specs.Limits.{mostFrequencies}
 use Rattle.station_file.proofs.stationfile.read_station.Statement.{statement}
 use Rattle.station_file.proofs.stationfile.read_station.Tie as tie
 use Prim.Native.Nat.{_<_, min}
@@ -47,13 +48,13 @@ returns-2 c =
     let z = c .before .before .before .latitude .given .0 .0 in
     let fits : SFits w32 z = search needs in
     let some : 0 < length (a .file .now) = omega arith in
-    rw (file-here (namesFrom (a .names .now) 0 (min (a .frequencies) 160)) (a .file .now) some, ← c .before .next-line .ensures .2, ← c .before .before .before .before .before .before .first-line .ensures, ← c .before .before .before .before .before .station-card .ensures, c .before .before .before .latitude .given .1) (rw (toZ-ofZ w32 z fits) at (c .read-records .ensures))
+    rw (file-here (namesFrom (a .names .now) 0 (min (a .frequencies) mostFrequencies)) (a .file .now) some, ← c .before .next-line .ensures .2, ← c .before .before .before .before .before .before .first-line .ensures, ← c .before .before .before .before .before .station-card .ensures, c .before .before .before .latitude .given .1) (rw (toZ-ofZ w32 z fits) at (c .read-records .ensures))
 
 returns-3 : tie.Need-returns-3
 returns-3 c =
     let a = c .before .before .before .before .before .before .before .before .before .args in
     let some : 0 < length (a .file .now) = omega arith in
-    rw (file-here (namesFrom (a .names .now) 0 (min (a .frequencies) 160)) (a .file .now) some, ← c .before .before .before .before .before .first-line .ensures, ← c .before .before .before .before .station-card .ensures, c .before .before .fault .given .1) (c .refused2 .ensures)
+    rw (file-here (namesFrom (a .names .now) 0 (min (a .frequencies) mostFrequencies)) (a .file .now) some, ← c .before .before .before .before .before .first-line .ensures, ← c .before .before .before .before .station-card .ensures, c .before .before .fault .given .1) (c .refused2 .ensures)
 
 pub read-station-spec : {M : Type 1} → statement M
 read-station-spec =

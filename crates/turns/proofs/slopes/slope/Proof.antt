@@ -1,4 +1,5 @@
 -- `turns::slopes::slope` meets its contract: the sum so far and the terms that are left give the sum of all (`Falls`). Assumes nothing.
+use Rattle.limits.specs.Limits.{mostRecords}
 use Rattle.turns.proofs.slopes.slope.Statement.{statement}
 use Rattle.turns.proofs.slopes.slope.Tie as tie
 use borrow.Author.Needs.{needs}
@@ -111,7 +112,7 @@ loop-again c =
 sub-result : tie.Need-sub-result Inv-loop μ-loop
 sub-result c =
     let z = toZ w64 (c .before .loop .falls) in
-    fits (negated (plainly z {A = 146 * most} (omega arith))) (lit< tt)
+    fits (negated (plainly z {A = mostRecords * most} (omega arith))) (lit< tt)
 
 returns : tie.Need-returns Inv-loop μ-loop
 unfolding slopeAt
@@ -119,7 +120,7 @@ returns c =
     let l = c .before .loop in
     let a = c .before .before .args in
     let z = toZ w64 (l .falls) in
-    kept (negated (plainly z {A = 146 * most} (omega arith))) (lit< tt) .is ∙ ap negℤ (sym (ap (λ (y : ℤ). z +ℤ y) (falls-none (a .arguments .now) (a .lags .now) (a .frequencies .now) (a .ps .now) (a .qs .now) (a .minute) (l .k) (a .count) (c .loop-test .left)) ∙ +ℤ-idr z) ∙ l .inv .1 .1)
+    kept (negated (plainly z {A = mostRecords * most} (omega arith))) (lit< tt) .is ∙ ap negℤ (sym (ap (λ (y : ℤ). z +ℤ y) (falls-none (a .arguments .now) (a .lags .now) (a .frequencies .now) (a .ps .now) (a .qs .now) (a .minute) (l .k) (a .count) (c .loop-test .left)) ∙ +ℤ-idr z) ∙ l .inv .1 .1)
 
 pub slope-spec : {M : Type 1} → statement M
 slope-spec =

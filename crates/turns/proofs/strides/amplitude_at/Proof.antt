@@ -1,4 +1,5 @@
 -- `turns::strides::amplitude_at` meets its contract: the amplitude by the records left is that by all (`Amplitudes`). Assumes nothing.
+use Rattle.limits.specs.Limits.{mostRecords}
 use Rattle.turns.proofs.strides.amplitude_at.Statement.{statement}
 use Rattle.turns.proofs.strides.amplitude_at.Tie as tie
 use borrow.Author.Needs.{needs}
@@ -13,7 +14,7 @@ use Rattle.turns.specs.Strides.{amplitudeAt}
 use Rattle.turns.proofs.strides.Amplitudes.{amplitude-more, amplitude-none}
 
 abbrev Inv-loop : tie.InvT-loop
-Inv-loop place station count k₀ k = (amplitudeAt (recordsFrom (station .places) (station .amplitudes) (station .lags) k (count - k)) place ≡ amplitudeAt (stationOf station .records) place) × (count ≤ 146)
+Inv-loop place station count k₀ k = (amplitudeAt (recordsFrom (station .places) (station .amplitudes) (station .lags) k (count - k)) place ≡ amplitudeAt (stationOf station .records) place) × (count ≤ mostRecords)
 
 abbrev μ-loop : tie.MeasureT-loop
 μ-loop place station count k₀ k = count - k
