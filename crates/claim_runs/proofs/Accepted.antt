@@ -9,7 +9,7 @@ use lib.IntN.{pos}
 use Rattle.limits.specs.Limits.{mostMinutes}
 use Rattle.cosine.specs.Fraction.{factorial, arc, unit, term, added, taken, whole, base}
 use Rattle.cosine.specs.Fixed.{entry, fixedBase, fixedCosine}
-use Rattle.calendar.specs.Calendar.{isFourth, monthDays, monthMinutes, monthsDays, yearsDays, dayCount, between, ranged}
+use Rattle.calendar.specs.Calendar.{isFourth, monthDays, monthMinutes, monthsDays, yearsDays, dayCount, between, inRange}
 use Rattle.columns.specs.Bytes.{every, leading, behind}
 use Rattle.columns.specs.Lines.{linesOf}
 use Rattle.columns.specs.Columns.{padded}
@@ -151,7 +151,7 @@ unfolding workedOut
 table-worked s = rw cards-read
 
 month-worked : workedOut afterDate ≡ record { table = some table; station = some z0-station; month = some (record { last = mostMinutes; constituents = z0-month }) }
-unfolding workedOut dateGives ranged between monthMinutes monthDays
+unfolding workedOut dateGives inRange between monthMinutes monthDays
 month-worked = rw (cards-read, month-is)
 
 -- ---- each call
@@ -169,7 +169,7 @@ unfolding stationReturns stationOutcome recordsOutcome recordOutcome isAmong
 station-accepted = rw (table-worked (some (record { latitude = pos 0; records = [] })))
 
 date-accepted : dateReturns (workedOut afterStation) 1976 7 ≡ accepted tt
-unfolding dateGives dateReturns ranged between
+unfolding dateGives dateReturns inRange between
 date-accepted = rw (table-worked (some z0-station), month-is)
 
 height-given : heightReturns (workedOut afterDate) 0 ≡ accepted (pos 100)

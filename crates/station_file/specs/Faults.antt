@@ -1,16 +1,21 @@
 -- What is wrong with a station that was read and that the clock refuses, by the refusal and its place.
 -- Assumes nothing.
 use Prim.Native.Nat.{ℕ, _-_}
+use mathlib.Core.Path.{_≡_}
+use mathlib.Core.List.{List}
 use mathlib.Core.Bool.{cond}
 use lib.Dec.{eqb, ltb}
 use lib.ListN.{getD}
+use lib.IntN.{ℤ}
 use Rattle.limits.specs.Limits.{mostRecords}
 use Rattle.card.specs.declared.faults.What.the-variants.{Card, Name, Latitude, Amplitude, PhaseLag}
 use Rattle.card.specs.declared.faults.Trouble.the-variants.{OutOfRange, Twice, NoFrequency, TooManyRecords}
 use Rattle.card.specs.declared.faults.Fault.{Fault}
-use Rattle.card.specs.Faults.{only}
+use Rattle.card.specs.Faults.{only, faultNumber}
+use Rattle.refusals.specs.Outcome.{refused}
+use Rattle.station.specs.declared.records.Record.{Record}
 use Rattle.station.specs.declared.records.Rows.{Rows}
-use Rattle.station.specs.Station.{amplitudeOutside}
+use Rattle.station.specs.Station.{amplitudeOutside, stationOutcome}
 
 -- "each record's place (5, 4), amplitude, phase": of a record with this amplitude, by the refusal's number
 abbrev pub recordFault : ℕ → ℕ → Fault
@@ -23,3 +28,9 @@ unfoldable pub stationFault : ℕ → ℕ → Rows → Fault
 stationFault number place rows =
     cond (eqb place 0) (only Latitude OutOfRange)
     (cond (ltb mostRecords place) (only Card TooManyRecords) (recordFault number (getD (rows .amplitudes) (place - 1) 0)))
+
+-- What is proved of it (proofs/stationfaults/Numbers.antt): the fault falls under the number by which the station is refused.
+abbrev pub FaultsFit : Type 0
+FaultsFit =
+    (frequencies : ℕ) (latitude : ℤ) (rs : List Record) (rows : Rows) (number place : ℕ)
+    → stationOutcome frequencies latitude rs ≡ refused number place → faultNumber (stationFault number place rows) ≡ number

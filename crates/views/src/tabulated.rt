@@ -98,17 +98,16 @@ pub fn series(clock: Clock, face: Face, date: Date, minute: u32, step: u32, coun
     )
 }
 
+// No month has more minutes behind its first.
+const MOST_STEPS: u32 = MINUTES as u32;
+
 // How many heights a step apart the month of a date has, its last minute among them; 1 for a step that the clock refuses.
 fn month_count(date: Date, step: u32) -> u32 {
     if step == 0 {
         return 1;
     }
     let steps = calendar::month_minutes(date.year, date.month) / step;
-    if (steps as usize) <= MINUTES {
-        steps + 1
-    } else {
-        1
-    }
+    if steps <= MOST_STEPS { steps + 1 } else { 1 }
 }
 
 // heights YEAR MONTH STEP: the heights of a whole month, a step apart.
