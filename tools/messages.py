@@ -70,7 +70,7 @@ CARD_FAULTS = [
     (line(173, 21, "1.50"), 173, "phase of satellite 1 is out of range", 3),
     (line(173, 71, " 3.0000"), 173, "ratio of satellite 3 is out of range", 3),
     (line(337, 12, "5"), 337, "number of parts is out of range", 3),
-    (line(337, 15, "  3.5"), 337, "coefficient is not a whole number", 3),
+    (line(337, 15, "  3.5"), 337, "coefficient 1 is not a whole number", 3),
     (line(337, 15, "  0.0"), 337, "coefficient 1 is out of range", 3),
     (line(337, 30, " 9.99"), 337, "coefficient 2 is out of range", 3),
     (line(335, 15, " 9.0 N2         4.0 M2"), 335, "coefficient 2 takes the sizes past 12", 3),
@@ -205,7 +205,7 @@ def main():
         for words, text in ASKED:
             m.expect(words, text + "\n")
         printed = os.path.join(DATA, "standard-cards-as-printed.txt")
-        m.expect(MONTH + ["--cards", printed], "%s line 337: coefficient is not a whole number (refusal 3)\n" % printed)
+        m.expect(MONTH + ["--cards", printed], "%s line 337: coefficient 1 is not a whole number (refusal 3)\n" % printed)
         # a file that is too large
         with open(os.path.join(folder, "large.txt"), "w") as file:
             file.write(" " * 65537)

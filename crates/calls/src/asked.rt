@@ -2,15 +2,15 @@
 ghost use mathlib.Core.Path.{_≡_};
 ghost use Rattle.refusals.specs.Outcome.{outcomeOf};
 ghost use Rattle.calls.specs.Asked.{minuteOutside, seriesOutside, turnsOutside};
-ghost use Rattle.calls.specs.inner.Flags.{minutesBy};
+ghost use Rattle.calls.specs.inner.Flags.{stateBy, minutesBy};
 use crate::reasons;
 use crate::reasons::Reason;
 use refusals::Answer;
 use refusals::Refusal;
 
-// Whether the table, the station and the month are there, and then whether the minutes are outside of it.
-fn minutes_answer(tabled: bool, stationed: bool, dated: bool, outside: bool) -> Answer
-    ensures { λ r. ⌜ outcomeOf r ≡ minutesBy tabled stationed dated outside ⌝ }
+// What the state is asked, 21 to 23: whether a table, a station and a month are there. (A call that does not ask for one says that it is.)
+pub fn state_answer(tabled: bool, stationed: bool, dated: bool) -> Answer
+    ensures { λ r. ⌜ outcomeOf r ≡ stateBy tabled stationed dated ⌝ }
 {
     if !tabled {
         return Answer::Refused(Refusal::NoTable, 0);
@@ -21,10 +21,22 @@ fn minutes_answer(tabled: bool, stationed: bool, dated: bool, outside: bool) -> 
     if !dated {
         return Answer::Refused(Refusal::NoMonth, 0);
     }
-    if outside {
-        return Answer::Refused(Refusal::BadMinutes, 0);
-    }
     Answer::Accepted
+}
+
+// What the state is asked, and then whether the minutes are outside the month.
+fn minutes_answer(tabled: bool, stationed: bool, dated: bool, outside: bool) -> Answer
+    ensures { λ r. ⌜ outcomeOf r ≡ minutesBy tabled stationed dated outside ⌝ }
+{
+    match state_answer(tabled, stationed, dated) {
+        Answer::Accepted => {
+            if outside {
+                return Answer::Refused(Refusal::BadMinutes, 0);
+            }
+            Answer::Accepted
+        }
+        Answer::Refused(refusal, place) => Answer::Refused(refusal, place),
+    }
 }
 
 // What a height at a minute asks, in a month with this last minute.

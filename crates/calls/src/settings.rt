@@ -4,6 +4,7 @@ ghost use Rattle.refusals.specs.Outcome.{outcomeOf, answered};
 ghost use Rattle.month.specs.inner.View.{preparedOf};
 ghost use Rattle.calls.specs.inner.Flags.{dateBy};
 ghost use Rattle.calls.specs.inner.Posts.{TakenPost};
+use crate::asked::state_answer;
 use month::Preparation;
 use month::Prepared;
 use refusals::Answer;
@@ -16,29 +17,28 @@ use table::Table;
 pub fn station_answer(tabled: bool, table: Table, latitude: i32, n: usize, rows: Rows) -> Taken
     ensures { λ r. ⌜ TakenPost tabled table latitude n rows r ⌝ }
 {
-    if !tabled {
-        return Taken {
-            answer: Answer::Refused(Refusal::NoTable, 0),
+    match state_answer(tabled, true, true) {
+        Answer::Accepted => station::take_station(table.frequencies, latitude, n, rows),
+        Answer::Refused(refusal, place) => Taken {
+            answer: Answer::Refused(refusal, place),
             station: station::no_station(latitude),
-        };
+        },
     }
-    station::take_station(table.frequencies, latitude, n, rows)
 }
 
 // What a date asks before its month is prepared: 21, 22, 8.
 pub fn date_answer(tabled: bool, stationed: bool, year: u32, month: u32) -> Answer
     ensures { λ r. ⌜ outcomeOf r ≡ dateBy tabled stationed year month ⌝ }
 {
-    if !tabled {
-        return Answer::Refused(Refusal::NoTable, 0);
+    match state_answer(tabled, stationed, true) {
+        Answer::Accepted => {
+            if !calendar::in_range(year, month) {
+                return Answer::Refused(Refusal::BadDate, 0);
+            }
+            Answer::Accepted
+        }
+        Answer::Refused(refusal, place) => Answer::Refused(refusal, place),
     }
-    if !stationed {
-        return Answer::Refused(Refusal::NoStation, 0);
-    }
-    if !calendar::in_range(year, month) {
-        return Answer::Refused(Refusal::BadDate, 0);
-    }
-    Answer::Accepted
 }
 
 // What a prepared month says: that it is accepted, or 11 and the record.

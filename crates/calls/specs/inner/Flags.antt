@@ -6,7 +6,7 @@ use Rattle.refusals.specs.Outcome.{Outcome, answered}
 use Rattle.table.specs.Table.{Table}
 use Rattle.station.specs.Station.{Station}
 use Rattle.calls.specs.State.{Maybe, none, some, Month, State}
-use Rattle.calls.specs.Asked.{dateAsked, minutesAsked}
+use Rattle.calls.specs.Asked.{monthAsked, dateAsked, minutesAsked}
 
 -- what a flag says is there
 abbrev pub when : {A : Type 0} → Bool → A → Maybe A
@@ -21,6 +21,10 @@ stateOf tabled table stationed station dated month =
 -- a state with a table or none, and nothing else
 abbrev pub tabledOnly : Bool → Table → State
 tabledOnly tabled table = record { table = when tabled table; station = none; month = none }
+
+-- what the state is asked, by the flags
+abbrev pub stateBy : Bool → Bool → Bool → Outcome Unit
+stateBy tabled stationed dated = answered (monthAsked {T = Unit} {S = Unit} {M = Unit} (when tabled tt) (when stationed tt) (when dated tt))
 
 -- what a date asks first, by the flags
 abbrev pub dateBy : Bool → Bool → ℕ → ℕ → Outcome Unit

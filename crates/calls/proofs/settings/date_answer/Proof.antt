@@ -1,32 +1,32 @@
--- `calls::settings::date_answer` meets its contract: 21, 22 and 8, in this order. Assumes nothing.
+-- `calls::settings::date_answer` meets its contract: the state first, and then 8. Assumes nothing.
 use borrow.Author.Needs.{needs}
 use Rattle.calls.proofs.settings.date_answer.Statement.{statement}
 use Rattle.calls.proofs.settings.date_answer.Tie as tie
 use borrow.Author.Tests.{not-true, not-false}
 use mathlib.Core.Path.{sym, _∙_}
+use Rattle.calls.proofs.asked.States.{date-by}
 
-returns : tie.Need-returns
-returns c =
-    let s = c .before in
-    simp (not-true (s .args .tabled) (c .if1 .taken))
+state-answer-requires : tie.Need-state-answer-requires
+state-answer-requires c κs = search needs
 
-returns-2 : tie.Need-returns-2
-returns-2 c =
-    let s = c .before .before in
-    simp (not-false (s .args .tabled) (c .before .if1 .left), not-true (s .args .stationed) (c .if2 .taken))
+enum-told : tie.Need-enum-told
+enum-told c = search needs
 
 in-range-requires : tie.Need-in-range-requires
 in-range-requires c κs = search needs
 
-returns-3 : tie.Need-returns-3
-returns-3 c =
-    let s = c .before .before .before .before in
-    simp (not-false (s .args .tabled) (c .before .before .before .if1 .left), not-false (s .args .stationed) (c .before .before .if2 .left), sym (c .before .in-range .ensures) ∙ not-true (c .before .in-range .result) (c .if3 .taken))
+returns : tie.Need-returns
+returns c = let a = c .before .before .before .before .before .args in rw (date-by (a .tabled) (a .stationed) (a .year) (a .month), ← c .before .before .before .before .state-answer .ensures, c .before .before .enum-told .given .1, sym (c .before .in-range .ensures) ∙ not-true (c .before .in-range .result) (c .if1 .taken))
 
-returns-4 : tie.Need-returns-4
-returns-4 c =
-    let s = c .before .before .before .before in
-    simp (not-false (s .args .tabled) (c .before .before .before .if1 .left), not-false (s .args .stationed) (c .before .before .if2 .left), sym (c .before .in-range .ensures) ∙ not-false (c .before .in-range .result) (c .if3 .left))
+enum-known-refusal : tie.Need-enum-known-refusal
+enum-known-refusal c = search needs
+
+returns-2 : tie.Need-returns-2
+returns-2 c = let a = c .before .before .before .before .before .args in rw (date-by (a .tabled) (a .stationed) (a .year) (a .month), ← c .before .before .before .before .state-answer .ensures, c .before .before .enum-told .given .1, sym (c .before .in-range .ensures) ∙ not-false (c .before .in-range .result) (c .if1 .left))
+
+returns-3 : tie.Need-returns-3
+returns-3 c = let a = c .before .before .before .before .args in rw (date-by (a .tabled) (a .stationed) (a .year) (a .month), ← c .before .before .before .state-answer .ensures, c .before .refusal .given .1)
 
 pub date-answer-spec : {M : Type 1} → statement M
-date-answer-spec = tie.close (tie.spec returns returns-2 in-range-requires returns-3 returns-4)
+date-answer-spec =
+    tie.close (tie.spec state-answer-requires enum-told in-range-requires returns enum-known-refusal returns-2 returns-3)

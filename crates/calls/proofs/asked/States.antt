@@ -1,0 +1,41 @@
+-- What calls ask by their flags: the state first, and then their own question. By the cases of the flags. Assumes nothing.
+use Prim.{Unit}
+use Prim.Native.Nat.{ℕ}
+use mathlib.Core.Path.{_≡_, refl, sym}
+use mathlib.Core.List.{List}
+use mathlib.Core.Bool.{Bool, true, false, not}
+use lib.IntN.{ℤ}
+use Rattle.refusals.specs.Outcome.{Outcome, accepted, refused, refuseIf, _>>_, answered}
+use Rattle.refusals.proofs.Laws.{not-both}
+use Rattle.calendar.specs.Calendar.{inRange}
+use Rattle.table.specs.Table.{Table}
+use Rattle.station.specs.declared.records.Record.{Record}
+use Rattle.calls.specs.Calls.{stationReturns}
+use Rattle.calls.specs.inner.Flags.{tabledOnly, stateBy, dateBy, minutesBy}
+
+pub minutes-by : (t s d outside : Bool) → minutesBy t s d outside ≡ (stateBy t s d >> refuseIf outside 9 0 (accepted tt))
+minutes-by true true true true = refl
+minutes-by true true true false = refl
+minutes-by true true false outside = refl
+minutes-by true false d outside = refl
+minutes-by false s d outside = refl
+
+pub date-by : (t s : Bool) (year month : ℕ) → dateBy t s year month ≡ (stateBy t s true >> refuseIf (not (inRange year month)) 8 0 (accepted tt))
+date-by true true year month = by (not (inRange year month))
+  where
+    by : (outside : Bool) → _≡_ {A = Outcome (Unit {0})} (answered {A = Unit {0} × Unit {0}} (refuseIf outside 8 0 (accepted (tt, tt)))) (refuseIf outside 8 0 (accepted tt))
+    by true = refl
+    by false = refl
+date-by true false year month = refl
+date-by false s year month = refl
+
+-- a station asks for a table alone
+pub table-there : (t : Bool) → stateBy t true true ≡ accepted tt → t ≡ true
+table-there true e = refl
+table-there false e = not-both e
+
+pub table-missing : (t : Bool) (table : Table) (latitude : ℤ) (records : List Record) (number place : ℕ) → stateBy t true true ≡ refused number place
+    → stationReturns (tabledOnly t table) latitude records ≡ refused number place
+unfolding stationReturns
+table-missing true table latitude records number place e = not-both (sym e)
+table-missing false table latitude records number place e = e
