@@ -29,10 +29,10 @@ use Rattle.refusals.specs.Checked.{good, _>>=_}
 use Rattle.card.specs.Card.{fieldGives, fieldOn, number, numbersFrom}
 
 -- a number that is in its range keeps to its bounds
-pub ranged-within : (low high v : ℤ) (x : field.Written) → Value v ≡ ranged low high x → (leZ low v ≡ true) × (leZ v high ≡ true)
+pub ranged-within : (low high v : ℤ) (x : field.Contents) → Value v ≡ ranged low high x → (leZ low v ≡ true) × (leZ v high ≡ true)
 unfolding ranged
 ranged-within low high v field.malformed e = let z : _≡_ {A = ℕ} 0 1 = cc in absurd (omega arith)
-ranged-within low high v (field.written z) e = go (leZ low z) (leZ z high) refl refl e
+ranged-within low high v (field.numeric z) e = go (leZ low z) (leZ z high) refl refl e
   where
     go : (s t : Bool) → leZ low z ≡ s → leZ z high ≡ t → Value v ≡ cond (s && t) (Value z) OutOfRange → (leZ low v ≡ true) × (leZ v high ≡ true)
     go true true a b q = let v-is : v ≡ z = cc in rw v-is (a, b)
@@ -48,7 +48,7 @@ leZ-trans (negsuc a) (pos b) (negsuc c) p q = absurd (false≢true q)
 leZ-trans (negsuc a) (negsuc b) (negsuc c) p q = le-leb c a (omega (arith, leb-true b a p, leb-true c b q))
 
 -- a field whose range fits eight bits
-pub small-fits : (low high v : ℤ) (x : field.Written) → (leZ (negℤ (pos 127)) low ≡ true) × (leZ high (pos 127) ≡ true) → Value v ≡ ranged low high x → SFits w8 v
+pub small-fits : (low high v : ℤ) (x : field.Contents) → (leZ (negℤ (pos 127)) low ≡ true) × (leZ high (pos 127) ≡ true) → Value v ≡ ranged low high x → SFits w8 v
 small-fits low high v x (l, h) e = let r = ranged-within low high v x e in fits v (leZ-trans (negℤ (pos 127)) low v l (r .0)) (leZ-trans v high (pos 127) (r .1) h)
   where
     fits : (v : ℤ) → leZ (negℤ (pos 127)) v ≡ true → leZ v (pos 127) ≡ true → SFits w8 v
@@ -56,7 +56,7 @@ small-fits low high v x (l, h) e = let r = ranged-within low high v x e in fits 
     fits (negsuc n) a b = record { sfits = omega (arith, leb-true n 126 a) }
 
 -- a field with a range that does not go below 0
-pub natural-is : (low high v : ℤ) (x : field.Written) → leZ (pos 0) low ≡ true → Value v ≡ ranged low high x → T (nonNeg v) × (natAbs v ≤ natAbs high)
+pub natural-is : (low high v : ℤ) (x : field.Contents) → leZ (pos 0) low ≡ true → Value v ≡ ranged low high x → T (nonNeg v) × (natAbs v ≤ natAbs high)
 natural-is low high v x l e = let r = ranged-within low high v x e in at-least v high (leZ-trans (pos 0) low v l (r .0)) (r .1)
   where
     at-least : (v high : ℤ) → leZ (pos 0) v ≡ true → leZ v high ≡ true → T (nonNeg v) × (natAbs v ≤ natAbs high)

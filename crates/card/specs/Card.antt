@@ -12,7 +12,7 @@ use Rattle.columns.specs.declared.names.Found.{Found}
 use Rattle.columns.specs.declared.names.Found.the-variants.{At, Nothing}
 use Rattle.fields.specs.declared.Field.{Field}
 use Rattle.fields.specs.declared.Field.the-variants.{Value, Malformed, OutOfRange}
-use Rattle.fields.specs.Number.{writtenIn, ranged}
+use Rattle.fields.specs.Number.{contentsOf, ranged}
 use Rattle.refusals.specs.Checked.{Checked, good, bad, _>>=_}
 use Rattle.refusals.specs.Places.{isAmong}
 use Rattle.card.specs.declared.faults.What.the-variants as what
@@ -35,7 +35,7 @@ fieldGives f OutOfRange = bad (faultIn f trouble.OutOfRange)
 
 -- what stands in a field of the line
 abbrev pub fieldOn : List ℕ → NumberField → Field
-fieldOn line f = ranged (f .low) (f .high) (writtenIn (f .format) (columns line (f .from) (f .width)))
+fieldOn line f = ranged (f .low) (f .high) (contentsOf (f .format) (columns line (f .from) (f .width)))
 
 -- the number in a field of the line
 unfoldable pub number : List ℕ → NumberField → Card ℤ

@@ -13,8 +13,8 @@ use Rattle.card.specs.Formats.{faultIn, coefficientField}
 use Rattle.card.specs.Card.{Card, number}
 
 -- the whole coefficient of so many hundredths
-abbrev pub whole : ℤ → ℤ
-whole hundredths = quotZ hundredths (pos 100)
+abbrev pub wholeOf : ℤ → ℤ
+wholeOf hundredths = quotZ hundredths (pos 100)
 
 -- "-9 to 9, not 0"
 abbrev pub isZero : ℤ → Bool
@@ -26,14 +26,14 @@ isBroken hundredths = not (eqb (natAbs (remZ hundredths (pos 100))) 0)
 
 -- "or the one that takes the sizes past 12", after parts whose sizes add up to `sizes`
 abbrev pub isPast : ℕ → ℤ → Bool
-isPast sizes hundredths = ltb mostSizes (sizes + natAbs (whole hundredths))
+isPast sizes hundredths = ltb mostSizes (sizes + natAbs (wholeOf hundredths))
 
 -- the coefficient of so many hundredths in a field
 unfoldable pub coefficient : NumberField → ℕ → ℤ → Card ℤ
 coefficient f sizes hundredths =
     cond (isZero hundredths) (bad (faultIn f OutOfRange))
     (cond (isBroken hundredths) (bad (faultIn f NotWhole))
-    (cond (isPast sizes hundredths) (bad (faultIn f PastTwelve)) (good (whole hundredths))))
+    (cond (isPast sizes hundredths) (bad (faultIn f PastTwelve)) (good (wholeOf hundredths))))
 
 -- the coefficient of part j on the line
 abbrev pub coefficientIn : ℕ → List ℕ → ℕ → Card ℤ

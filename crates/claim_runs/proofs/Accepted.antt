@@ -16,7 +16,7 @@ use Rattle.columns.specs.Columns.{padded}
 use Rattle.columns.specs.Names.{same, placeFrom}
 use Rattle.fields.specs.Numerals.{begins, numeral, wholeGood, wholeSize, fixedGood, fixedSize}
 use Rattle.fields.specs.Number as fields
-use Rattle.fields.specs.Number.{unsigned, unblanked, writtenIn}
+use Rattle.fields.specs.Number.{unsigned, unblanked, contentsOf}
 use Rattle.table.specs.Table.{Main, Table}
 use Rattle.table.specs.Definitions.{firstWith, definitionAt}
 use Rattle.card.specs.Formats.{longitudeField, increaseField}
@@ -74,19 +74,19 @@ z0-main = record { place = 0; doodson = pos 0 ∷ pos 0 ∷ pos 0 ∷ pos 0 ∷ 
 -- each part leaves the lines behind it, whatever they are
 module _ (rest : List (List ℕ)) where
   frequencies-are : frequenciesFrom (frequencyLine ∷ [] ∷ rest) 1 [] ≡ given (record { name = z0; frequency = 0 } ∷ []) rest 3
-  unfolding frequenciesFrom nextFrequency frequencyCard newName placeFrom frequencyLine opening every padded number writtenIn unblanked behind leading begins unsigned fixedGood fixedSize numeral fields.ranged
+  unfolding frequenciesFrom nextFrequency frequencyCard newName placeFrom frequencyLine opening every padded number contentsOf unblanked behind leading begins unsigned fixedGood fixedSize numeral fields.ranged
   frequencies-are = refl
 
   longitudes-are : fiveFrom longitudeField (fiveLine ∷ rest) 3 ≡ given noughts rest 4
-  unfolding fiveFrom fiveCard numbersFrom fiveLine dueCard every padded number writtenIn unblanked behind leading begins unsigned fixedGood fixedSize numeral fields.ranged
+  unfolding fiveFrom fiveCard numbersFrom fiveLine dueCard every padded number contentsOf unblanked behind leading begins unsigned fixedGood fixedSize numeral fields.ranged
   longitudes-are = refl
 
   increases-are : fiveFrom increaseField (fiveLine ∷ rest) 4 ≡ given noughts rest 5
-  unfolding fiveFrom fiveCard numbersFrom fiveLine dueCard every padded number writtenIn unblanked behind leading begins unsigned fixedGood fixedSize numeral fields.ranged
+  unfolding fiveFrom fiveCard numbersFrom fiveLine dueCard every padded number contentsOf unblanked behind leading begins unsigned fixedGood fixedSize numeral fields.ranged
   increases-are = refl
 
   mains-are : mainsFrom (z0 ∷ []) (mainLine ∷ [] ∷ rest) 5 [] ≡ given (z0-main ∷ []) rest 7
-  unfolding mainsFrom satellitesIn nextMain mainCard newPlace placeNamed placeFrom same isAmong mainNumbers mainMade numbersFrom mainLine opening every padded number writtenIn unblanked behind leading begins unsigned wholeGood wholeSize fixedGood fixedSize numeral fields.ranged
+  unfolding mainsFrom satellitesIn nextMain mainCard newPlace placeNamed placeFrom same isAmong mainNumbers mainMade numbersFrom mainLine opening every padded number contentsOf unblanked behind leading begins unsigned wholeGood wholeSize fixedGood fixedSize numeral fields.ranged
   mains-are = refl
 
   shallows-are : shallowsFrom (z0 ∷ []) (0 ∷ []) ([] ∷ rest) 7 [] ≡ given [] rest 8

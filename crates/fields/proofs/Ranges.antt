@@ -14,7 +14,7 @@ use mir.Syntax.{w64}
 use mir.Val.{SFits, toZ}
 use mir.ValLaws.{toZ-pos}
 use Rattle.fields.specs.Numerals.{wholeGood, wholeSize, fixedGood, fixedSize}
-use Rattle.fields.specs.Number.{written, malformed, signed, ranged, unsigned}
+use Rattle.fields.specs.Number.{numeric, malformed, signed, ranged, unsigned}
 use Rattle.fields.specs.inner.Cap.{cap, kept}
 use Rattle.fields.specs.inner.Kept.{keptOf}
 use Rattle.fields.specs.declared.Format.{Format}
@@ -45,19 +45,19 @@ above (pos k) n f h = lt-leb n k (omega arith)
 above (negsuc k) n f h = refl
 
 module _ (low high : ℤ) (fl : SFits w64 low) (fh : SFits w64 high) where
-  pub out-below : (size : ℕ) → cap ≤ size → ranged low high (written (negℤ (pos size))) ≡ OutOfRange
+  pub out-below : (size : ℕ) → cap ≤ size → ranged low high (numeric (negℤ (pos size))) ≡ OutOfRange
   unfolding ranged
   out-below zero h = absurd (omega arith)
   out-below (suc m) h = rw (below low m fl (omega arith))
 
-  pub out-above : (size : ℕ) → 9223372036854775807 < size → ranged low high (written (pos size)) ≡ OutOfRange
+  pub out-above : (size : ℕ) → 9223372036854775807 < size → ranged low high (numeric (pos size)) ≡ OutOfRange
   unfolding ranged
   out-above size h = rw (above high size fh h, and-false)
 
-  pub cap-loses-nothing : (negative : Bool) (size : ℕ) → ranged low high (written (signed negative (min cap size))) ≡ ranged low high (written (signed negative size))
+  pub cap-loses-nothing : (negative : Bool) (size : ℕ) → ranged low high (numeric (signed negative (min cap size))) ≡ ranged low high (numeric (signed negative size))
   cap-loses-nothing negative size = go negative (ltb size cap) refl
     where
-      go : (negative t : Bool) → ltb size cap ≡ t → ranged low high (written (signed negative (min cap size))) ≡ ranged low high (written (signed negative size))
+      go : (negative t : Bool) → ltb size cap ≡ t → ranged low high (numeric (signed negative (min cap size))) ≡ ranged low high (numeric (signed negative size))
       go negative true h = let e : min cap size ≡ size = omega (arith, ltb-true size cap h) in rw e
       go true false h =
           let a : cap ≤ size = omega (arith, ltb-false size cap h) in
@@ -70,17 +70,17 @@ module _ (low high : ℤ) (fl : SFits w64 low) (fh : SFits w64 high) where
 
   -- so a size that is kept has the answer of the field, and none is kept of a malformed one
   pub kept-of : (negative good : Bool) (size n : ℕ) → kept good size ≡ Of n
-      → ranged low high (written (signed negative n)) ≡ ranged low high (cond good (written (signed negative size)) malformed)
+      → ranged low high (numeric (signed negative n)) ≡ ranged low high (cond good (numeric (signed negative size)) malformed)
   kept-of negative true size n h = let e : n ≡ min cap size = cc in rw e (cap-loses-nothing negative size)
   kept-of negative false size n h = let z : _≡_ {A = ℕ} 0 1 = cc in absurd (omega arith)
 
-  pub kept-bad : (negative good : Bool) (size : ℕ) → kept good size ≡ Bad → Malformed ≡ ranged low high (cond good (written (signed negative size)) malformed)
+  pub kept-bad : (negative good : Bool) (size : ℕ) → kept good size ≡ Bad → Malformed ≡ ranged low high (cond good (numeric (signed negative size)) malformed)
   unfolding ranged
   kept-bad negative true size h = let z : _≡_ {A = ℕ} 0 1 = cc in absurd (omega arith)
   kept-bad negative false size h = refl
 
   pub sized-of : (format : Format) (negative : Bool) (bs : List ℕ) (n : ℕ) → keptOf format bs ≡ Of n
-      → ranged low high (written (signed negative n)) ≡ ranged low high (unsigned format negative bs)
+      → ranged low high (numeric (signed negative n)) ≡ ranged low high (unsigned format negative bs)
   unfolding keptOf unsigned
   sized-of Whole negative bs n h = kept-of negative (wholeGood bs) (wholeSize bs) n h
   sized-of (Fixed decimals) negative bs n h = kept-of negative (fixedGood decimals bs) (fixedSize decimals bs) n h

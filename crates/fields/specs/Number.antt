@@ -14,9 +14,9 @@ use Rattle.fields.specs.declared.Field.{Field}
 use Rattle.fields.specs.declared.Field.the-variants.{Value, Malformed, OutOfRange}
 
 -- what a field holds: an F field's number is in units of its format's last decimal
-pub data Written : Type 0 where
-  malformed : Written
-  written : ℤ → Written
+pub data Contents : Type 0 where
+  malformed : Contents
+  numeric : ℤ → Contents
 
 -- "perhaps a minus"
 abbrev pub signed : Bool → ℕ → ℤ
@@ -24,19 +24,19 @@ signed true size = negℤ (pos size)
 signed false size = pos size
 
 -- what stands behind the sign
-unfoldable pub unsigned : Format → Bool → List ℕ → Written
-unsigned Whole negative bs = cond (wholeGood bs) (written (signed negative (wholeSize bs))) malformed
-unsigned (Fixed decimals) negative bs = cond (fixedGood decimals bs) (written (signed negative (fixedSize decimals bs))) malformed
+unfoldable pub unsigned : Format → Bool → List ℕ → Contents
+unsigned Whole negative bs = cond (wholeGood bs) (numeric (signed negative (wholeSize bs))) malformed
+unsigned (Fixed decimals) negative bs = cond (fixedGood decimals bs) (numeric (signed negative (fixedSize decimals bs))) malformed
 
 -- what stands behind the blanks: a minus is byte 45
-unfoldable pub unblanked : Format → List ℕ → Written
+unfoldable pub unblanked : Format → List ℕ → Contents
 unblanked format bs = cond (begins 45 bs) (unsigned format true (drop 1 bs)) (unsigned format false bs)
 
 -- a number field
-unfoldable pub writtenIn : Format → List ℕ → Written
-writtenIn format field = unblanked format (behind blank field)
+unfoldable pub contentsOf : Format → List ℕ → Contents
+contentsOf format field = unblanked format (behind blank field)
 
 -- malformed is refused by 2, a number outside its stated range by 3
-unfoldable pub ranged : ℤ → ℤ → Written → Field
+unfoldable pub ranged : ℤ → ℤ → Contents → Field
 ranged low high malformed = Malformed
-ranged low high (written z) = cond (leZ low z && leZ z high) (Value z) OutOfRange
+ranged low high (numeric z) = cond (leZ low z && leZ z high) (Value z) OutOfRange

@@ -3,7 +3,7 @@ ghost use mathlib.Core.Path.{_≡_};
 ghost use Prim.Native.Nat.{_-_};
 ghost use Rattle.columns.specs.Columns.{columns};
 ghost use Rattle.fields.specs.Number as number;
-ghost use Rattle.fields.specs.Number.{signed, writtenIn, ranged};
+ghost use Rattle.fields.specs.Number.{signed, contentsOf, ranged};
 ghost use Rattle.fields.specs.inner.Kept.{keptOf};
 
 mod numerals; // what stands behind the sign
@@ -39,7 +39,7 @@ fn size_of(field: &[u8], k: usize, end: usize, format: Format) -> Size
 
 // A number in its range.
 fn within(z: i64, low: i64, high: i64) -> Field
-    ensures { λ r. ⌜ r ≡ ranged low high (number.written z) ⌝ }
+    ensures { λ r. ⌜ r ≡ ranged low high (number.numeric z) ⌝ }
 {
     if z < low {
         return Field::OutOfRange;
@@ -52,7 +52,7 @@ fn within(z: i64, low: i64, high: i64) -> Field
 
 // A size with its sign, in its range.
 fn ranged(negative: bool, size: u64, low: i64, high: i64) -> Field
-    ensures { λ r. ⌜ r ≡ ranged low high (number.written (signed negative size)) ⌝ }
+    ensures { λ r. ⌜ r ≡ ranged low high (number.numeric (signed negative size)) ⌝ }
 {
     if negative {
         if size == 0 {
@@ -98,7 +98,7 @@ pub fn ranged_field(
     low: i64,
     high: i64,
 ) -> Field
-    ensures { λ r. ⌜ r ≡ ranged low high (writtenIn format (columns (now (line .entry)) from width)) ⌝ }
+    ensures { λ r. ⌜ r ≡ ranged low high (contentsOf format (columns (now (line .entry)) from width)) ⌝ }
 {
     let field = columns::part(line, from, width);
     let start = columns::run_end(field, 0, width, 32, 32);

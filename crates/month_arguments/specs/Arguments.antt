@@ -30,8 +30,8 @@ sumOfParts vs [] = pos 0
 sumOfParts vs (part ∷ parts) = part .coefficient *ℤ pos (getD vs (part .main) 0) +ℤ sumOfParts vs parts
 
 -- modulo T, as every V
-unfoldable pub fromParts : List ℕ → Shallow → ℕ
-fromParts vs s = modTurn (sumOfParts vs (s .parts))
+unfoldable pub argumentFromParts : List ℕ → Shallow → ℕ
+argumentFromParts vs s = modTurn (sumOfParts vs (s .parts))
 
 abbrev pub shallowArgument : Longitudes → List Main → Shallow → ℕ
-shallowArgument l mains s = fromParts (map (mainArgument l) mains) s
+shallowArgument l mains s = argumentFromParts (map (mainArgument l) mains) s

@@ -19,7 +19,7 @@ ghost use Rattle.angles.specs.Ticks.{turn};
 ghost use Rattle.angles.specs.Floor.{modTurn};
 ghost use Rattle.table.specs.inner.View.{integers, shallowOf};
 ghost use Rattle.month_arguments.specs.inner.Longitudes.{longitudesOf};
-ghost use Rattle.month_arguments.specs.Arguments.{lunarTime, fromParts};
+ghost use Rattle.month_arguments.specs.Arguments.{lunarTime, argumentFromParts};
 ghost use Rattle.month_arguments.specs.inner.Rows.{rowArgument, argumentsIn};
 
 // An angle, below a turn.
@@ -90,7 +90,7 @@ pub fn shallow_argument<'a>(
     coefficients: &'a [i8; COEFFICIENTS],
     row: usize,
 ) -> u64
-    ensures { λ r. ⌜ r ≡ fromParts (argumentsIn (now (kept .entry))) (shallowOf (now (cards .entry)) (now (coefficients .entry)) row) ⌝ }
+    ensures { λ r. ⌜ r ≡ argumentFromParts (argumentsIn (now (kept .entry))) (shallowOf (now (cards .entry)) (now (coefficients .entry)) row) ⌝ }
 {
     let parts = natural_at(cards, 6, row, 1) as usize;
     let mut v = 0;

@@ -38,5 +38,5 @@ abbrev pub timesMain : Pair → Corrected → ℤ → Corrected
 timesMain P main coefficient = main >>= λ p. timesOften (natAbs coefficient) P (turned coefficient p)
 
 -- "A shallow pair starts at (2^20, 0)"
-abbrev pub one : Pair
-one = record { x = pos (2 ^ 20); y = pos 0 }
+abbrev pub startPair : Pair
+startPair = record { x = pos (2 ^ 20); y = pos 0 }

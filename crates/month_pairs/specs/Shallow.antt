@@ -6,7 +6,7 @@ use Rattle.refusals.specs.Checked.{good, _>>=_}
 use Rattle.table.specs.Table.{Main, Part, Shallow}
 use Rattle.month_satellites.specs.Latitude.{Factors}
 use Rattle.month_satellites.specs.Satellites.{Pair, mainPair}
-use Rattle.month_pairs.specs.Pairs.{Corrected, checked, timesMain, one}
+use Rattle.month_pairs.specs.Pairs.{Corrected, checked, timesMain, startPair}
 
 -- 11: ".. for a main when summed"
 unfoldable pub mainCorrected : Factors → List ℕ → Main → Corrected
@@ -15,7 +15,7 @@ mainCorrected g longitudes m = checked (mainPair g longitudes (m .satellites))
 -- ".. and is multiplied by each part's pair"; 11: ".. for a shallow record of its parts' mains too".
 -- `mains` are the pairs of all mains. (A position past the last, which no accepted part has, counts as (2^20, 0).)
 unfoldable pub timesPart : List Corrected → Pair → Part → Corrected
-timesPart mains P q = timesMain P (getD mains (q .main) (good one)) (q .coefficient)
+timesPart mains P q = timesMain P (getD mains (q .main) (good startPair)) (q .coefficient)
 
 -- ".. in card order"
 unfoldable pub timesParts : List Corrected → Pair → List Part → Corrected
@@ -25,8 +25,8 @@ timesParts mains P (q ∷ qs) = do
   timesParts mains Q qs
 
 -- from (2^20, 0), with the pairs of all mains
-unfoldable pub fromParts : List Corrected → Shallow → Corrected
-fromParts mains s = timesParts mains one (s .parts)
+unfoldable pub pairFromParts : List Corrected → Shallow → Corrected
+pairFromParts mains s = timesParts mains startPair (s .parts)
 
 abbrev pub shallowCorrected : Factors → List ℕ → List Main → Shallow → Corrected
-shallowCorrected g longitudes mains s = fromParts (map (mainCorrected g longitudes) mains) s
+shallowCorrected g longitudes mains s = pairFromParts (map (mainCorrected g longitudes) mains) s

@@ -6,10 +6,10 @@ ghost use Rattle.table.specs.inner.View.{naturals, integers, partOf, shallowOf}
 ghost use Rattle.month_satellites.specs.inner.Ranges.{Sized};
 ghost use Rattle.month_satellites.specs.inner.View.{pairOf};
 ghost use Rattle.refusals.specs.Checked.{good};
-ghost use Rattle.month_pairs.specs.Pairs.{one};
+ghost use Rattle.month_pairs.specs.Pairs.{startPair};
 ghost use Rattle.month_pairs.specs.inner.Ranges.{pairMost, Small};
 ghost use Rattle.month_pairs.specs.inner.Corrected.{correctedOf};
-ghost use Rattle.month_pairs.specs.Shallow.{timesPart, fromParts};
+ghost use Rattle.month_pairs.specs.Shallow.{timesPart, pairFromParts};
 ghost use Rattle.month_pairs.specs.inner.Rows.{pairsOf};
 use crate::pairs::Corrected;
 use crate::pairs::check;
@@ -25,7 +25,7 @@ use table::entries::natural_at;
 
 // The pair of main k by its sums X and Y, from what is kept of the mains in rows of V, X and Y: unless it is too large, or (2^20, 0) past the last.
 pub fn pair_at(kept: &[i64; KEPT], k: usize) -> Corrected
-    ensures { λ r. ⌜ correctedOf r ≡ getD (pairsOf (now (kept .entry))) k (good one) ⌝ }
+    ensures { λ r. ⌜ correctedOf r ≡ getD (pairsOf (now (kept .entry))) k (good startPair) ⌝ }
     ensures { λ r. ⌜ Small r ⌝ }
 {
     if MAINS <= k {
@@ -60,7 +60,7 @@ pub fn shallow_pair<'a>(
     coefficients: &'a [i8; COEFFICIENTS],
     k: usize,
 ) -> Corrected
-    ensures { λ r. ⌜ correctedOf r ≡ fromParts (pairsOf (now (kept .entry))) (shallowOf (now (cards .entry)) (now (coefficients .entry)) k) ⌝ }
+    ensures { λ r. ⌜ correctedOf r ≡ pairFromParts (pairsOf (now (kept .entry))) (shallowOf (now (cards .entry)) (now (coefficients .entry)) k) ⌝ }
     ensures { λ r. ⌜ Small r ⌝ }
 {
     let count = index(natural_at(cards, 6, k, 1));

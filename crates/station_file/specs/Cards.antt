@@ -17,7 +17,7 @@ use Rattle.card.specs.declared.faults.Trouble.the-variants.{BadMark, SouthTwice
 use Rattle.card.specs.Faults.{only}
 use Rattle.card.specs.Card.{Card, number, placeFound, Next, nextCard, dueCard}
 use Rattle.station.specs.declared.records.Record.{Record}
-use Rattle.station_file.specs.Formats.{degreesField, minutesField, minusColumn, degreesColumn, markColumn, secondMarkColumn, constituentName, amplitudeField, phaseField}
+use Rattle.station_file.specs.Formats.{degreesField, minutesField, minusColumn, degreesColumn, latitudeMarkColumn, secondMarkColumn, constituentName, amplitudeField, phaseField}
 
 -- S (byte 83) or s (byte 115)
 abbrev pub southLetter : ℕ → Bool
@@ -49,8 +49,8 @@ sideOf false mark = good mark
 -- whether the latitude on a station card is south: "any other byte there is refused by 3"
 unfoldable pub isSouth : List ℕ → Card Bool
 isSouth line =
-    cond (markGood (column line markColumn) (column line secondMarkColumn))
-    (sideOf (minusBefore line) (southMark (column line markColumn) (column line secondMarkColumn)))
+    cond (markGood (column line latitudeMarkColumn) (column line secondMarkColumn))
+    (sideOf (minusBefore line) (southMark (column line latitudeMarkColumn) (column line secondMarkColumn)))
     (bad (only Mark BadMark))
 
 -- "LAD, LAM = station latitude in degrees and minutes", together in minutes

@@ -38,8 +38,8 @@ minutesField = upTo 59 Minutes 0 39 2 Whole
 abbrev pub minusColumn : ℕ
 minusColumn = 35
 
-abbrev pub markColumn : ℕ
-markColumn = 41
+abbrev pub latitudeMarkColumn : ℕ
+latitudeMarkColumn = 41
 
 abbrev pub secondMarkColumn : ℕ
 secondMarkColumn = 42

@@ -14,7 +14,7 @@ use Rattle.refusals.specs.Checked.{good, bad}
 use Rattle.card.specs.declared.faults.Trouble.the-variants.{OutOfRange, NotWhole, PastTwelve}
 use Rattle.card.specs.declared.formats.NumberField.{NumberField}
 use Rattle.card.specs.Formats.{faultIn}
-use Rattle.card_shallows.specs.Coefficients.{whole, isZero, isBroken, isPast, coefficient}
+use Rattle.card_shallows.specs.Coefficients.{wholeOf, isZero, isBroken, isPast, coefficient}
 
 pub natAbs-neg : (z : ℤ) → natAbs (negℤ z) ≡ natAbs z
 natAbs-neg (pos zero) = refl
@@ -59,7 +59,7 @@ module _ (f : NumberField) (sizes : ℕ) (h : ℤ) where
       unfolding coefficient
       coefficient-large over = rw (ne-eqb (natAbs h) 0 some, rem-size h 100, eq-eqb (natAbs h % 100) 0 exact, quot-size h 100, lt-ltb mostSizes (sizes + natAbs h / 100) over)
 
-      pub coefficient-good : sizes + natAbs h / 100 ≤ mostSizes → coefficient f sizes h ≡ good (whole h)
+      pub coefficient-good : sizes + natAbs h / 100 ≤ mostSizes → coefficient f sizes h ≡ good (wholeOf h)
       unfolding coefficient
       coefficient-good within = rw (ne-eqb (natAbs h) 0 some, rem-size h 100, eq-eqb (natAbs h % 100) 0 exact, quot-size h 100, le-ltb mostSizes (sizes + natAbs h / 100) within)
 
@@ -68,8 +68,8 @@ pub coefficient-sizes : (f : NumberField) (sizes : ℕ) (h c : ℤ) → coeffici
 unfolding coefficient
 coefficient-sizes f sizes h c e = go (isZero h) (isBroken h) (isPast sizes h) refl e
   where
-    go : (s t u : Bool) → isPast sizes h ≡ u → cond s (bad (faultIn f OutOfRange)) (cond t (bad (faultIn f NotWhole)) (cond u (bad (faultIn f PastTwelve)) (good (whole h)))) ≡ good c → sizes + natAbs c ≤ mostSizes
+    go : (s t u : Bool) → isPast sizes h ≡ u → cond s (bad (faultIn f OutOfRange)) (cond t (bad (faultIn f NotWhole)) (cond u (bad (faultIn f PastTwelve)) (good (wholeOf h)))) ≡ good c → sizes + natAbs c ≤ mostSizes
     go true t u k q = let z : _≡_ {A = ℕ} 0 1 = cc in absurd (omega arith)
     go false true u k q = let z : _≡_ {A = ℕ} 0 1 = cc in absurd (omega arith)
     go false false true k q = let z : _≡_ {A = ℕ} 0 1 = cc in absurd (omega arith)
-    go false false false k q = let e : whole h ≡ c = cc in rw (← e) (ltb-false mostSizes (sizes + natAbs (whole h)) k)
+    go false false false k q = let e : wholeOf h ≡ c = cc in rw (← e) (ltb-false mostSizes (sizes + natAbs (wholeOf h)) k)

@@ -7,7 +7,7 @@ use mathlib.Core.Path.{sym, _∙_}
 use mir.Syntax.{w64}
 use mir.ValLaws.{toZ-ofZ}
 use Rattle.columns.proofs.Columns.{padded-next}
-use Rattle.fields.specs.Number.{writtenIn, unblanked}
+use Rattle.fields.specs.Number.{contentsOf, unblanked}
 use Rattle.fields.proofs.numerals.Digits.{begins-within}
 use Rattle.fields.proofs.numerals.Sizes.{field-behind}
 
@@ -27,7 +27,7 @@ unsigned-requires : tie.Need-unsigned-requires
 unsigned-requires c κs = search needs
 
 returns : tie.Need-returns
-unfolding writtenIn unblanked
+unfolding contentsOf unblanked
 returns c =
     let s = c .before .before .before .before .before .before in
     let a = s .args in
@@ -40,7 +40,7 @@ unsigned-requires-2 : tie.Need-unsigned-requires-2
 unsigned-requires-2 c κs = search needs
 
 returns-2 : tie.Need-returns-2
-unfolding writtenIn unblanked
+unfolding contentsOf unblanked
 returns-2 c =
     let s = c .before .before .before .before .before .before in
     let a = s .args in

@@ -12,7 +12,7 @@ use Rattle.angles.proofs.Angles.{of-sum, again}
 use Rattle.table.specs.inner.View.{listed, partOf, naturals, integers, shallowOf}
 use Rattle.table.proofs.Rows.{listed-next, listed-end}
 use Rattle.month_arguments.specs.Longitudes.{Longitudes, times}
-use Rattle.month_arguments.specs.Arguments.{lunarTime, astronomical, argument, sumOfParts, fromParts}
+use Rattle.month_arguments.specs.Arguments.{lunarTime, astronomical, argument, sumOfParts, argumentFromParts}
 use Rattle.month_arguments.proofs.arguments.Reduced.{times-reduced}
 
 seven : (a b c d e f p : ℤ) → a +ℤ b +ℤ c +ℤ d +ℤ e +ℤ f +ℤ p ≡ a +ℤ (b +ℤ (c +ℤ (d +ℤ (e +ℤ (f +ℤ pos 0))))) +ℤ p
@@ -45,6 +45,6 @@ module _ (vs card : List ℕ) (coefficients : List ℤ) where
   parts-none v j n h small = rw (listed-end (partOf card coefficients) j n h) (ap modTurn (+ℤ-idr (pos v)) ∙ omega arith)
 
 -- all of them, from the first on
-pub parts-all : (vs cards : List ℕ) (coefficients : List ℤ) (k n : ℕ) → n ≡ getD (naturals 6 cards k) 1 0 → modTurn (pos 0 +ℤ sumOfParts vs (listed (partOf (naturals 6 cards k) (integers 4 coefficients k)) 0 (n - 0))) ≡ fromParts vs (shallowOf cards coefficients k)
-unfolding fromParts shallowOf
+pub parts-all : (vs cards : List ℕ) (coefficients : List ℤ) (k n : ℕ) → n ≡ getD (naturals 6 cards k) 1 0 → modTurn (pos 0 +ℤ sumOfParts vs (listed (partOf (naturals 6 cards k) (integers 4 coefficients k)) 0 (n - 0))) ≡ argumentFromParts vs (shallowOf cards coefficients k)
+unfolding argumentFromParts shallowOf
 parts-all vs cards coefficients k n e = rw (sub-zero n, e) (ap modTurn (+ℤ-idl (sumOfParts vs (listed (partOf (naturals 6 cards k) (integers 4 coefficients k)) 0 (getD (naturals 6 cards k) 1 0)))))

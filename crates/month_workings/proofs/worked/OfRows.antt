@@ -16,7 +16,7 @@ use Rattle.month_arguments.specs.inner.Rows.{rowArgument, argumentsIn}
 use Rattle.month_arguments.proofs.arguments.Views.{main-row, mains-rows}
 use Rattle.month_satellites.specs.Latitude.{Factors}
 use Rattle.refusals.specs.Checked.{good}
-use Rattle.month_pairs.specs.Pairs.{Corrected, one}
+use Rattle.month_pairs.specs.Pairs.{Corrected, startPair}
 use Rattle.month_pairs.specs.Shallow as pairs
 use Rattle.month_pairs.specs.inner.Rows.{rowCorrected, pairsOf}
 use Rattle.month_pairs.proofs.nodal.OfTable.{main-of-row, mains-of-rows}
@@ -40,17 +40,17 @@ module _ (g : Factors) (l : Longitudes) (maincards : List ℕ) (mainangles satel
       w .kept .arguments k (w .has) ∙ sym (entry-at 0 (rowArgument l mainangles) mains k h) ∙ main-row l maincards mainangles satelliteangles satelliteratios k
   argument-is (found.Shallow k) h w =
       shallow-argument-is (listed (rowArgument l mainangles) 0 mains) (listed (rowCorrected g (nodal l) maincards satelliteangles satelliteratios) 0 mains) shallowcards coefficients k kept (record { kept = w .kept; has = w .has })
-      ∙ ap (λ all. arguments.fromParts all (shallowOf shallowcards coefficients k)) (sym (mains-rows l maincards mainangles satelliteangles satelliteratios mains))
+      ∙ ap (λ all. arguments.argumentFromParts all (shallowOf shallowcards coefficients k)) (sym (mains-rows l maincards mainangles satelliteangles satelliteratios mains))
   argument-is found.Nothing h w = refl
 
   correction-is : (r : Found) → IsRow mains r → IsReady r → pairFrom (pairsOf kept) shallowcards coefficients r ≡ correctionOf g l (mainsOf maincards mainangles satelliteangles satelliteratios mains) (meant r)
   unfolding correctionOf
   correction-is (found.Main k) h w =
-      w .kept .pairs k (w .has) ∙ sym (entry-at (good one) (rowCorrected g (nodal l) maincards satelliteangles satelliteratios) mains k h)
+      w .kept .pairs k (w .has) ∙ sym (entry-at (good startPair) (rowCorrected g (nodal l) maincards satelliteangles satelliteratios) mains k h)
       ∙ sym (main-of-row g (nodal l) maincards mainangles satelliteangles satelliteratios k)
   correction-is (found.Shallow k) h w =
       shallow-pair-is (listed (rowArgument l mainangles) 0 mains) (listed (rowCorrected g (nodal l) maincards satelliteangles satelliteratios) 0 mains) shallowcards coefficients k kept (record { kept = w .kept; has = w .has })
-      ∙ ap (λ all. pairs.fromParts all (shallowOf shallowcards coefficients k)) (sym (mains-of-rows g (nodal l) maincards mainangles satelliteangles satelliteratios mains))
+      ∙ ap (λ all. pairs.pairFromParts all (shallowOf shallowcards coefficients k)) (sym (mains-of-rows g (nodal l) maincards mainangles satelliteangles satelliteratios mains))
   correction-is found.Nothing h w = refl
 
   -- and so of what is found at a place

@@ -12,7 +12,7 @@ use Rattle.month_arguments.specs.Arguments.{sumOfParts}
 use Rattle.month_arguments.specs.inner.Rows.{argumentsIn}
 use Rattle.month_satellites.specs.Satellites.{Pair}
 use Rattle.refusals.specs.Checked.{good, bad, _>>=_}
-use Rattle.month_pairs.specs.Pairs.{Corrected, one}
+use Rattle.month_pairs.specs.Pairs.{Corrected, startPair}
 use Rattle.month_pairs.specs.Shallow as nodal
 use Rattle.month_pairs.specs.Shallow.{timesPart, timesParts}
 use Rattle.month_pairs.specs.inner.Rows.{pairsOf}
@@ -34,7 +34,7 @@ module _ (card : List ℕ) (coefficients : List ℤ) where
   then-alike (bad number) f g h = refl
   then-alike (good p) f g h = h p
 
-  products-alike : (ps qs : List Corrected) (j n : ℕ) → ((i : ℕ) → j ≤ i → i < j + n → getD ps (getD card (2 + i) 0) (good one) ≡ getD qs (getD card (2 + i) 0) (good one))
+  products-alike : (ps qs : List Corrected) (j n : ℕ) → ((i : ℕ) → j ≤ i → i < j + n → getD ps (getD card (2 + i) 0) (good startPair) ≡ getD qs (getD card (2 + i) 0) (good startPair))
       → (p : Pair) → timesParts ps p (listed (partOf card coefficients) j n) ≡ timesParts qs p (listed (partOf card coefficients) j n)
   unfolding timesParts timesPart listed partOf
   products-alike ps qs j zero h p = refl
@@ -46,15 +46,15 @@ module _ (card : List ℕ) (coefficients : List ℤ) where
 -- ---- a shallow constituent
 
 module _ (all : List ℕ) (pairs : List Corrected) (cards : List ℕ) (coefficients : List ℤ) (row : ℕ) (kept : List ℤ)
-    (w : WithParts (λ k. getD all k 0) (λ k. getD pairs k (good one)) (naturals 6 cards row) kept) where
-  pub shallow-argument-is : arguments.fromParts (argumentsIn kept) (shallowOf cards coefficients row) ≡ arguments.fromParts all (shallowOf cards coefficients row)
-  unfolding arguments.fromParts shallowOf
+    (w : WithParts (λ k. getD all k 0) (λ k. getD pairs k (good startPair)) (naturals 6 cards row) kept) where
+  pub shallow-argument-is : arguments.argumentFromParts (argumentsIn kept) (shallowOf cards coefficients row) ≡ arguments.argumentFromParts all (shallowOf cards coefficients row)
+  unfolding arguments.argumentFromParts shallowOf
   shallow-argument-is =
       ap modTurn (sums-alike (naturals 6 cards row) (integers 4 coefficients row) (argumentsIn kept) all 0 (getD (naturals 6 cards row) 1 0)
       (λ i a b. w .kept .arguments (getD (naturals 6 cards row) (2 + i) 0) (w .has i (omega arith))))
 
-  pub shallow-pair-is : nodal.fromParts (pairsOf kept) (shallowOf cards coefficients row) ≡ nodal.fromParts pairs (shallowOf cards coefficients row)
-  unfolding nodal.fromParts shallowOf
+  pub shallow-pair-is : nodal.pairFromParts (pairsOf kept) (shallowOf cards coefficients row) ≡ nodal.pairFromParts pairs (shallowOf cards coefficients row)
+  unfolding nodal.pairFromParts shallowOf
   shallow-pair-is =
       products-alike (naturals 6 cards row) (integers 4 coefficients row) (pairsOf kept) pairs 0 (getD (naturals 6 cards row) 1 0)
-      (λ i a b. w .kept .pairs (getD (naturals 6 cards row) (2 + i) 0) (w .has i (omega arith))) one
+      (λ i a b. w .kept .pairs (getD (naturals 6 cards row) (2 + i) 0) (w .has i (omega arith))) startPair

@@ -19,7 +19,7 @@ use Rattle.month_arguments.specs.inner.Rows.{rowArgument, argumentsIn}
 use Rattle.month_satellites.specs.Latitude.{Factors}
 use Rattle.month_satellites.specs.Satellites.{sumOver, mainPair}
 use Rattle.refusals.specs.Checked.{good}
-use Rattle.month_pairs.specs.Pairs.{checked, one}
+use Rattle.month_pairs.specs.Pairs.{checked, startPair}
 use Rattle.month_pairs.specs.inner.Rows.{rowSatellites, rowCorrected}
 use Rattle.month_workings.specs.inner.Kept.{argumentAt, correctedAt, Has, noneKept, Kept}
 
@@ -33,15 +33,15 @@ row-past l angles k h =
     past j = List·getD-eq-default angles (pos 0) (omega arith)
 
 -- the pair of a row past the array
-pair-past : (g : Factors) (longitudes cards : List ℕ) (angles : List ℤ) (ratios : List ℕ) (k : ℕ) → length cards ≤ 3 * k → rowCorrected g longitudes cards angles ratios k ≡ good one
+pair-past : (g : Factors) (longitudes cards : List ℕ) (angles : List ℤ) (ratios : List ℕ) (k : ℕ) → length cards ≤ 3 * k → rowCorrected g longitudes cards angles ratios k ≡ good startPair
 unfolding rowCorrected rowSatellites mainPair sumOver checked listed
 pair-past g longitudes cards angles ratios k h =
     let none : getD (naturals 3 cards k) 2 0 ≡ 0 = sym (past-rows 0 3 cards k 2 (omega arith) (omega arith)) in
     rw none
 
 -- an entry of a list that has the default from 64 on
-from-mostMains : {A : Type 0} (none : A) (f : ℕ → A) (n : ℕ) → ((k : ℕ) → mostMains ≤ k → f k ≡ none) → (k : ℕ) → mostMains ≤ k → getD (listed f 0 n) k none ≡ none
-from-mostMains none f n h k far = by (ltb k n) refl
+past-mains : {A : Type 0} (none : A) (f : ℕ → A) (n : ℕ) → ((k : ℕ) → mostMains ≤ k → f k ≡ none) → (k : ℕ) → mostMains ≤ k → getD (listed f 0 n) k none ≡ none
+past-mains none f n h k far = by (ltb k n) refl
   where
     by : (t : Bool) → ltb k n ≡ t → getD (listed f 0 n) k none ≡ none
     by true e = sym (entry-at none f n k (ltb-true k n e)) ∙ h k far
@@ -64,8 +64,8 @@ module _ (l : Longitudes) (angles : List ℤ) (g : Factors) (longitudes cards : 
         room = length-replicate (3 * mostMains) (pos turn);
         arguments = λ k h.
             sym (past-entries 0 (λ j. natAbs (getD noneKept (3 * j) (pos 0))) mostMains k (far-only k h))
-            ∙ sym (from-mostMains 0 (rowArgument l angles) mains (λ i f. row-past l angles i (omega arith)) k (far-only k h));
+            ∙ sym (past-mains 0 (rowArgument l angles) mains (λ i f. row-past l angles i (omega arith)) k (far-only k h));
         pairs = λ k h.
-            sym (past-entries (good one) _ mostMains k (far-only k h))
-            ∙ sym (from-mostMains (good one) (rowCorrected g longitudes cards satelliteangles ratios) mains (λ i f. pair-past g longitudes cards satelliteangles ratios i (omega arith)) k (far-only k h));
+            sym (past-entries (good startPair) _ mostMains k (far-only k h))
+            ∙ sym (past-mains (good startPair) (rowCorrected g longitudes cards satelliteangles ratios) mains (λ i f. pair-past g longitudes cards satelliteangles ratios i (omega arith)) k (far-only k h));
       }

@@ -14,7 +14,7 @@ use Rattle.angles.specs.Ticks.{turn}
 use Rattle.table.proofs.entries.Beyond.{entry-at, past-entries}
 use Rattle.month_arguments.specs.inner.Rows.{argumentsIn}
 use Rattle.refusals.specs.Checked.{good}
-use Rattle.month_pairs.specs.Pairs.{Corrected, checked, one}
+use Rattle.month_pairs.specs.Pairs.{Corrected, checked, startPair}
 use Rattle.month_pairs.specs.inner.Rows.{sumAt, pairsOf}
 use Rattle.month_workings.specs.inner.Kept.{Has, Kept, WithMain}
 
@@ -25,11 +25,11 @@ argument-is kept k h = sym (entry-at 0 (λ j. natAbs (getD kept (3 * j) (pos 0))
 argument-past : (kept : List ℤ) (k : ℕ) → mostMains ≤ k → getD (argumentsIn kept) k 0 ≡ 0
 argument-past kept k h = sym (past-entries 0 (λ j. natAbs (getD kept (3 * j) (pos 0))) mostMains k h)
 
-pair-is : (kept : List ℤ) (k : ℕ) → k < mostMains → getD (pairsOf kept) k (good one) ≡ checked (sumAt kept k)
-pair-is kept k h = sym (entry-at (good one) (λ j. checked (sumAt kept j)) mostMains k h)
+pair-is : (kept : List ℤ) (k : ℕ) → k < mostMains → getD (pairsOf kept) k (good startPair) ≡ checked (sumAt kept k)
+pair-is kept k h = sym (entry-at (good startPair) (λ j. checked (sumAt kept j)) mostMains k h)
 
-pair-past : (kept : List ℤ) (k : ℕ) → mostMains ≤ k → getD (pairsOf kept) k (good one) ≡ good one
-pair-past kept k h = sym (past-entries (good one) (λ j. checked (sumAt kept j)) mostMains k h)
+pair-past : (kept : List ℤ) (k : ℕ) → mostMains ≤ k → getD (pairsOf kept) k (good startPair) ≡ good startPair
+pair-past kept k h = sym (past-entries (good startPair) (λ j. checked (sumAt kept j)) mostMains k h)
 
 module _ (argument : ℕ → ℕ) (corrected : ℕ → Corrected) (k : ℕ) (kept : List ℤ) (old : Kept argument corrected kept) where
   -- nothing is to be done
@@ -73,7 +73,7 @@ module _ (argument : ℕ → ℕ) (corrected : ℕ → Corrected) (k : ℕ) (kep
     at-k : getD (argumentsIn after) k 0 ≡ v
     at-k = argument-is after k inside ∙ ap natAbs v-stands
 
-    pair-at-k : getD (pairsOf after) k (good one) ≡ corrected k
+    pair-at-k : getD (pairsOf after) k (good startPair) ≡ corrected k
     pair-at-k = pair-is after k inside ∙ (rw (x-stands, y-stands) ap′)
 
     other-argument : (j : ℕ) → (j ≡ k → ⊥) → getD (argumentsIn after) j 0 ≡ getD (argumentsIn kept) j 0
@@ -87,10 +87,10 @@ module _ (argument : ℕ → ℕ) (corrected : ℕ → Corrected) (k : ℕ) (kep
             let h : mostMains ≤ j = ltb-false j mostMains e in
             argument-past after j h ∙ sym (argument-past kept j h)
 
-    other-pair : (j : ℕ) → (j ≡ k → ⊥) → getD (pairsOf after) j (good one) ≡ getD (pairsOf kept) j (good one)
+    other-pair : (j : ℕ) → (j ≡ k → ⊥) → getD (pairsOf after) j (good startPair) ≡ getD (pairsOf kept) j (good startPair)
     other-pair j d = by (ltb j mostMains) refl
       where
-        by : (t : Bool) → ltb j mostMains ≡ t → getD (pairsOf after) j (good one) ≡ getD (pairsOf kept) j (good one)
+        by : (t : Bool) → ltb j mostMains ≡ t → getD (pairsOf after) j (good startPair) ≡ getD (pairsOf kept) j (good startPair)
         by true e =
             let h : j < mostMains = ltb-true j mostMains e in
             let ex : getD after (3 * j + 1) (pos 0) ≡ getD kept (3 * j + 1) (pos 0) = as-before (3 * j + 1) (λ i. omega (arith, i)) (λ i. d (omega (arith, i))) (λ i. omega (arith, i)) in
@@ -115,7 +115,7 @@ module _ (argument : ℕ → ℕ) (corrected : ℕ → Corrected) (k : ℕ) (kep
               record {
                 room = length-set with-x (3 * k + 2) y ∙ length-set with-v (3 * k + 1) x ∙ length-set kept (3 * k) (pos v) ∙ old .room;
                 arguments = of-each (λ j. Has after j → getD (argumentsIn after) j 0 ≡ argument j) (λ h. at-k ∙ av) (λ j d h. other-argument j d ∙ old .arguments j (was j d h));
-                pairs = of-each (λ j. Has after j → getD (pairsOf after) j (good one) ≡ corrected j) (λ h. pair-at-k) (λ j d h. other-pair j d ∙ old .pairs j (was j d h));
+                pairs = of-each (λ j. Has after j → getD (pairsOf after) j (good startPair) ≡ corrected j) (λ h. pair-at-k) (λ j d h. other-pair j d ∙ old .pairs j (was j d h));
               };
           has = now-has;
           still = of-each (λ j. Has kept j → Has after j) (λ h. now-has) (λ j d h. subst (λ (n : ℕ). n < turn) (sym (other-argument j d)) h);

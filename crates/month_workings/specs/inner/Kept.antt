@@ -11,7 +11,7 @@ use Rattle.month_arguments.specs.Longitudes.{Longitudes}
 use Rattle.month_arguments.specs.inner.Rows.{rowArgument, argumentsIn}
 use Rattle.month_satellites.specs.Latitude.{Factors}
 use Rattle.refusals.specs.Checked.{good}
-use Rattle.month_pairs.specs.Pairs.{Corrected, one}
+use Rattle.month_pairs.specs.Pairs.{Corrected, startPair}
 use Rattle.month_pairs.specs.inner.Rows.{pairsOf, rowCorrected}
 
 -- V of main k of so many (0 past the last)
@@ -20,7 +20,7 @@ argumentAt l angles mains k = getD (listed (rowArgument l angles) 0 mains) k 0
 
 -- the pair of main k of so many, by refusal 11 ((2^20, 0) past the last)
 abbrev pub correctedAt : Factors → List ℕ → List ℕ → List ℤ → List ℕ → ℕ → ℕ → Corrected
-correctedAt g longitudes cards angles ratios mains k = getD (listed (rowCorrected g longitudes cards angles ratios) 0 mains) k (good one)
+correctedAt g longitudes cards angles ratios mains k = getD (listed (rowCorrected g longitudes cards angles ratios) 0 mains) k (good startPair)
 
 -- main k is worked out
 abbrev pub Has : List ℤ → ℕ → Type 0
@@ -34,7 +34,7 @@ noneKept = replicate (3 * mostMains) (pos turn)
 pub record Kept (argument : ℕ → ℕ) (corrected : ℕ → Corrected) (kept : List ℤ) : Type 0 where
   pub room : length kept ≡ 3 * mostMains
   pub arguments : (k : ℕ) → Has kept k → getD (argumentsIn kept) k 0 ≡ argument k
-  pub pairs : (k : ℕ) → Has kept k → getD (pairsOf kept) k (good one) ≡ corrected k
+  pub pairs : (k : ℕ) → Has kept k → getD (pairsOf kept) k (good startPair) ≡ corrected k
 
 -- main k is worked out too, and those before still are
 pub record WithMain (argument : ℕ → ℕ) (corrected : ℕ → Corrected) (k : ℕ) (before after : List ℤ) : Type 0 where

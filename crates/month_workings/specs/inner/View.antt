@@ -14,7 +14,7 @@ use Rattle.month_arguments.specs.Arguments as arguments
 use Rattle.month_arguments.specs.inner.Rows.{argumentsIn}
 use Rattle.month_satellites.specs.Latitude.{Factors}
 use Rattle.refusals.specs.Checked.{good}
-use Rattle.month_pairs.specs.Pairs.{Corrected, one}
+use Rattle.month_pairs.specs.Pairs.{Corrected, startPair}
 use Rattle.month_pairs.specs.inner.Ranges.{Small}
 use Rattle.month_pairs.specs.inner.Corrected.{correctedOf}
 use Rattle.month_pairs.specs.Shallow as shallow
@@ -42,13 +42,13 @@ pub record Ready (argument : ℕ → ℕ) (corrected : ℕ → Corrected) (shall
 -- V of a constituent, from the mains' V
 abbrev pub argumentFrom : List ℕ → List ℕ → List ℤ → Found → ℕ
 argumentFrom vs shallowcards coefficients (found.Main k) = getD vs k 0
-argumentFrom vs shallowcards coefficients (found.Shallow k) = arguments.fromParts vs (shallowOf shallowcards coefficients k)
+argumentFrom vs shallowcards coefficients (found.Shallow k) = arguments.argumentFromParts vs (shallowOf shallowcards coefficients k)
 argumentFrom vs shallowcards coefficients found.Nothing = 0
 
 -- its pair, from the mains' pairs
 abbrev pub pairFrom : List Corrected → List ℕ → List ℤ → Found → Corrected
-pairFrom pairs shallowcards coefficients (found.Main k) = getD pairs k (good one)
-pairFrom pairs shallowcards coefficients (found.Shallow k) = shallow.fromParts pairs (shallowOf shallowcards coefficients k)
+pairFrom pairs shallowcards coefficients (found.Main k) = getD pairs k (good startPair)
+pairFrom pairs shallowcards coefficients (found.Shallow k) = shallow.pairFromParts pairs (shallowOf shallowcards coefficients k)
 pairFrom pairs shallowcards coefficients found.Nothing = good (record { x = pos 0; y = pos 0 })
 
 pub record FromMains (kept : List ℤ) (shallowcards : List ℕ) (coefficients : List ℤ) (r : Found) (w : Worked) : Type 0 where

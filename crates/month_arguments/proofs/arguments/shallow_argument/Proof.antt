@@ -10,7 +10,7 @@ use Rattle.angles.specs.Ticks.{turn}
 use Rattle.angles.specs.Floor.{modTurn}
 use Rattle.angles.proofs.Angles.{below-turn}
 use Rattle.table.specs.inner.View.{listed, partOf, naturals, integers, shallowOf}
-use Rattle.month_arguments.specs.Arguments.{sumOfParts, fromParts}
+use Rattle.month_arguments.specs.Arguments.{sumOfParts, argumentFromParts}
 use Rattle.month_arguments.specs.inner.Rows.{argumentsIn}
 use Rattle.month_arguments.proofs.arguments.Chain.{parts-more, parts-none, parts-all}
 use borrow.Author.Needs.{needs}
@@ -18,7 +18,7 @@ use Rattle.month_arguments.proofs.arguments.shallow_argument.Statement.
 use Rattle.month_arguments.proofs.arguments.shallow_argument.Tie as tie
 
 abbrev Inv-loop : tie.InvT-loop
-Inv-loop kept cards coefficients row parts v₀ part₀ v part = (modTurn (pos v +ℤ sumOfParts (argumentsIn kept) (listed (partOf (naturals 6 cards row) (integers 4 coefficients row)) part (parts - part))) ≡ fromParts (argumentsIn kept) (shallowOf cards coefficients row)) × (v < turn) × (parts < 65536)
+Inv-loop kept cards coefficients row parts v₀ part₀ v part = (modTurn (pos v +ℤ sumOfParts (argumentsIn kept) (listed (partOf (naturals 6 cards row) (integers 4 coefficients row)) part (parts - part))) ≡ argumentFromParts (argumentsIn kept) (shallowOf cards coefficients row)) × (v < turn) × (parts < 65536)
 
 abbrev μ-loop : tie.MeasureT-loop
 μ-loop kept cards coefficients row parts v₀ part₀ v part = parts - part

@@ -9,7 +9,7 @@ use mir.Val.{SFits}
 use mir.ValLaws.{toZ-ofZ}
 use Rattle.table.proofs.entries.Beyond.{past-entries, entry-at}
 use Rattle.refusals.specs.Checked.{good}
-use Rattle.month_pairs.specs.Pairs.{checked, one}
+use Rattle.month_pairs.specs.Pairs.{checked, startPair}
 use Rattle.month_pairs.specs.inner.Rows.{sumAt}
 use borrow.Author.Needs.{needs}
 use Rattle.month_pairs.proofs.nodal.pair_at.Statement.{statement}
@@ -18,7 +18,7 @@ use Rattle.month_pairs.proofs.nodal.pair_at.Tie as tie
 returns : tie.Need-returns
 returns c =
     let a = c .before .args in
-    (past-entries (good one) (λ k. checked (sumAt (a .kept .now) k)) 64 (a .k) (c .if1 .taken), record { x = lit≤ tt; y = lit≤ tt })
+    (past-entries (good startPair) (λ k. checked (sumAt (a .kept .now) k)) 64 (a .k) (c .if1 .taken), record { x = lit≤ tt; y = lit≤ tt })
 
 mul-x : tie.Need-mul-x
 mul-x c = search needs
@@ -52,7 +52,7 @@ returns-2 c =
     let a = c .before .before .before .before .args in
     let x : SFits w64 (getD (a .kept .now) (3 * a .k + 1) (pos 0)) = search needs in
     let y : SFits w64 (getD (a .kept .now) (3 * a .k + 2) (pos 0)) = search needs in
-    (rw (toZ-ofZ w64 (getD (a .kept .now) (3 * a .k + 1) (pos 0)) x, toZ-ofZ w64 (getD (a .kept .now) (3 * a .k + 2) (pos 0)) y) at (c .check .ensures .0) ∙ entry-at (good one) (λ k. checked (sumAt (a .kept .now) k)) 64 (a .k) (c .before .before .before .if1 .left), c .check .ensures .1)
+    (rw (toZ-ofZ w64 (getD (a .kept .now) (3 * a .k + 1) (pos 0)) x, toZ-ofZ w64 (getD (a .kept .now) (3 * a .k + 2) (pos 0)) y) at (c .check .ensures .0) ∙ entry-at (good startPair) (λ k. checked (sumAt (a .kept .now) k)) 64 (a .k) (c .before .before .before .if1 .left), c .check .ensures .1)
 
 pub pair-at-spec : {M : Type 1} → statement M
 pair-at-spec =

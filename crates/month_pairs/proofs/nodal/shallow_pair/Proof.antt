@@ -10,7 +10,7 @@ use Rattle.month_satellites.specs.inner.View.{pairOf}
 use Rattle.refusals.specs.Checked.{good, bad}
 use Rattle.month_pairs.specs.inner.Ranges.{Small}
 use Rattle.month_pairs.specs.inner.Corrected.{correctedOf}
-use Rattle.month_pairs.specs.Shallow.{timesParts, fromParts}
+use Rattle.month_pairs.specs.Shallow.{timesParts, pairFromParts}
 use Rattle.month_pairs.specs.inner.Rows.{pairsOf}
 use Rattle.month_pairs.proofs.nodal.Multiplying.{parts-next, parts-none}
 use borrow.Author.Needs.{needs}
@@ -18,7 +18,7 @@ use Rattle.month_pairs.proofs.nodal.shallow_pair.Statement.{statement}
 use Rattle.month_pairs.proofs.nodal.shallow_pair.Tie as tie
 
 abbrev Inv-loop : tie.InvT-loop
-Inv-loop kept cards coefficients k count p₀ j₀ p j = (timesParts (pairsOf kept) (pairOf p) (listed (partOf (naturals 6 cards k) (integers 4 coefficients k)) j (count - j)) ≡ fromParts (pairsOf kept) (shallowOf cards coefficients k)) × Sized (2 ^ 22) p × (count < 2 ^ 16)
+Inv-loop kept cards coefficients k count p₀ j₀ p j = (timesParts (pairsOf kept) (pairOf p) (listed (partOf (naturals 6 cards k) (integers 4 coefficients k)) j (count - j)) ≡ pairFromParts (pairsOf kept) (shallowOf cards coefficients k)) × Sized (2 ^ 22) p × (count < 2 ^ 16)
 
 abbrev μ-loop : tie.MeasureT-loop
 μ-loop kept cards coefficients k count p₀ j₀ p j = count - j
@@ -30,7 +30,7 @@ index-requires : tie.Need-index-requires Inv-loop μ-loop
 index-requires c κs = search needs
 
 loop-holds : tie.Need-loop-holds Inv-loop μ-loop
-unfolding fromParts shallowOf
+unfolding pairFromParts shallowOf
 loop-holds c = (rw (sub-zero, c .index .ensures .0 ∙ c .before .natural-at .ensures), record { x = lit≤ tt; y = lit≤ tt }, c .index .ensures .1)
 
 times-row-part-requires : tie.Need-times-row-part-requires Inv-loop μ-loop

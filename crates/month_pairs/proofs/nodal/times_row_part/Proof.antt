@@ -11,7 +11,7 @@ use Rattle.table.specs.inner.View.{naturals, integers, partOf}
 use Rattle.month_satellites.specs.Satellites.{Pair}
 use Rattle.month_satellites.specs.inner.View.{pairOf}
 use Rattle.refusals.specs.Checked.{good}
-use Rattle.month_pairs.specs.Pairs.{Corrected, one, timesMain}
+use Rattle.month_pairs.specs.Pairs.{Corrected, startPair, timesMain}
 use Rattle.month_pairs.specs.Shallow.{timesPart}
 use Rattle.month_pairs.specs.inner.Rows.{pairsOf}
 use borrow.Author.Needs.{needs}
@@ -20,7 +20,7 @@ use Rattle.month_pairs.proofs.nodal.times_row_part.Tie as tie
 
 -- the multiplication by the main and the coefficient of part j is that by part j
 part-is : (mains : List Corrected) (P : Pair) (c m : Corrected) (z : ℤ) (i : ℕ) (card : List ℕ) (numbers : List ℤ) (j : ℕ)
-    → c ≡ timesMain P m z → m ≡ getD mains i (good one) → i ≡ getD card (2 + j) 0 → z ≡ getD numbers j (pos 0)
+    → c ≡ timesMain P m z → m ≡ getD mains i (good startPair) → i ≡ getD card (2 + j) 0 → z ≡ getD numbers j (pos 0)
     → c ≡ timesPart mains P (partOf card numbers j)
 unfolding timesPart partOf
 part-is mains P c m z i card numbers j ec em ei ez = rw (ec, em, ei, ez)

@@ -8,7 +8,7 @@ use Rattle.month_satellites.specs.Satellites.{mainPair}
 use Rattle.month_arguments.specs.Longitudes.{nodal}
 use Rattle.month_arguments.specs.inner.Longitudes.{longitudesOf}
 use Rattle.refusals.specs.Checked.{good}
-use Rattle.month_pairs.specs.Pairs.{checked, one}
+use Rattle.month_pairs.specs.Pairs.{checked, startPair}
 use Rattle.month_pairs.specs.inner.Rows.{rowSatellites, rowCorrected}
 use borrow.Author.Needs.{needs}
 use Rattle.month_workings.proofs.workings.sum_of.Statement.{statement}
@@ -18,7 +18,7 @@ returns : tie.Need-returns
 unfolding checked
 returns c =
     let a = c .before .before .args in
-    past-entries (good one) (rowCorrected (factorsOf (a .given .factors)) (nodal (longitudesOf (a .given .longitudes))) (a .cards .now) (a .angles .now) (a .ratios .now)) (a .given .mains) (a .k) (c .if1 .taken)
+    past-entries (good startPair) (rowCorrected (factorsOf (a .given .factors)) (nodal (longitudesOf (a .given .longitudes))) (a .cards .now) (a .angles .now) (a .ratios .now)) (a .given .mains) (a .k) (c .if1 .taken)
 
 nodal-of-requires : tie.Need-nodal-of-requires
 nodal-of-requires c κs = search needs
@@ -39,7 +39,7 @@ returns-2 c =
     let g = factorsOf (a .given .factors) in
     let l = nodal (longitudesOf (a .given .longitudes)) in
     ap checked ((rw (c .before .before .before .before .before .nodal-of .ensures .0) at (c .main-sum .ensures .0)) ∙ ap₂ (λ (first count : ℕ). mainPair g l (listed (satelliteOf (a .angles .now) (a .ratios .now)) first count)) (c .before .before .before .natural-at .ensures) (c .before .natural-at2 .ensures))
-    ∙ entry-at (good one) (rowCorrected g l (a .cards .now) (a .angles .now) (a .ratios .now)) (a .given .mains) (a .k) (c .before .before .before .before .before .before .if1 .left)
+    ∙ entry-at (good startPair) (rowCorrected g l (a .cards .now) (a .angles .now) (a .ratios .now)) (a .given .mains) (a .k) (c .before .before .before .before .before .before .if1 .left)
 
 pub sum-of-spec : {M : Type 1} → statement M
 sum-of-spec =
