@@ -14,21 +14,37 @@ def structs():
     return found
 
 
-def layout(kind, found):
+def constants():
+    """The constants by which arrays are long: numbers, and products of a number and another constant."""
+    texts = {}
+    for path in glob.glob("crates/*/src/*.rt"):
+        texts.update(re.findall(r"pub const (\w+): usize = ([^;]+);", open(path).read()))
+    return texts
+
+
+def length(text, texts):
+    """How long an array is, from a number, a constant or a product."""
+    product = 1
+    for factor in text.split(" * "):
+        product *= length(texts[factor], texts) if factor in texts else int(factor)
+    return product
+
+
+def layout(kind, found, texts):
     """Size and alignment of a type."""
     array = re.match(r"\[(\w+); (\w+)\]", kind)
     if array:
-        size, align = layout(array.group(1), found)
-        return size * int(array.group(2)), align
+        size, align = layout(array.group(1), found, texts)
+        return size * length(array.group(2), texts), align
     if kind in SIZES:
         return SIZES[kind], SIZES[kind]
     crate = {"Table": "table", "Station": "station", "Clock": "clock"}[kind]
     at, most = 0, 1
     for _, field in found[(crate, kind)]:
-        size, align = layout(field, found)
+        size, align = layout(field, found, texts)
         at = -(-at // align) * align + size
         most = max(most, align)
     return -(-at // most) * most, most
 
 
-print(layout("Clock", structs())[0])
+print(layout("Clock", structs(), constants())[0])
