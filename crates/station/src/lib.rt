@@ -21,6 +21,7 @@ use refusals::Answer;
 use refusals::Refusal;
 
 // An accepted station: amplitudes in tenths of a millimetre, phase lags in hundredths of a degree.
+#[repr(C)]
 pub struct Station {
     pub latitude: i32,
     pub count: usize,
