@@ -11,7 +11,7 @@ ghost use Rattle.calls.specs.State.{some};
 ghost use Rattle.calls.specs.Names.{namesThere, namesIn};
 ghost use Rattle.clock.specs.View.{view, Sound, Made};
 ghost use Rattle.clock.specs.Posts.{NewPost, CardsPost, StationPost, DatePost, HeightPost, SeriesPost, TurnsPost};
-ghost use Rattle.clock.specs.inner.Posts.{BarePost, PreparedPost, PartsSound, HeightFrom};
+ghost use Rattle.clock.specs.inner.Posts.{BarePost, PreparedPost, PartsMade, HeightFrom};
 ghost use Rattle.station.specs.Records.{recordsOf};
 ghost use Rattle.turns.specs.inner.Answers.{returnedOf};
 ghost use Rattle.clock.specs.Returned.{heightReturned, turnsReturned};
@@ -239,7 +239,7 @@ fn height_from<'a>(
     count: usize,
     minute: u32,
 ) -> HeightAnswer
-    requires { ⌜ tabled ≡ true → PartsSound (now cosines) count last ⌝ }
+    requires { ⌜ PartsMade tabled (now cosines) count last ⌝ }
     ensures { λ r. ⌜ HeightFrom tabled stationed dated last count (now (arguments .entry)) (now (lags .entry)) (now (frequencies .entry)) (now (ps .entry)) (now (qs .entry)) minute (heightReturned r) ⌝ }
 {
     let asked = asked::height_answer(tabled, stationed, dated, last, minute as u64);

@@ -1,7 +1,7 @@
 -- Only inner contracts cite this: what the steps of the calls promise.
 -- Assumes nothing.
 use Prim.Native.Nat.{ℕ, _≤_}
-use mathlib.Core.Bool.{Bool}
+use mathlib.Core.Bool.{Bool, true}
 use mathlib.Core.List.{List}
 use mathlib.Core.Path.{_≡_}
 use lib.IntN.{ℤ}
@@ -42,9 +42,9 @@ pub record PreparedPost (c : Clock) (year month : ℕ) (answer : Answer) (left :
     month = some (record { last = monthMinutes year month; constituents = constituents });
   }) (view c)
 
--- what a height asks of the parts of a clock with a table
-abbrev pub PartsSound : List ℕ → ℕ → ℕ → Type 0
-PartsSound cosines count last = IsTable cosines × ((count ≤ mostRecords) × (last ≤ mostMinutes))
+-- what a height asks of the parts of a clock that has a table
+abbrev pub PartsMade : Bool → List ℕ → ℕ → ℕ → Type 0
+PartsMade tabled cosines count last = tabled ≡ true → IsTable cosines × ((count ≤ mostRecords) × (last ≤ mostMinutes))
 
 -- a height from the parts of a clock, whatever table and station it has
 pub record HeightFrom (tabled stationed dated : Bool) (last count : ℕ) (arguments lags frequencies : List ℕ) (ps qs : List ℤ) (minute : ℕ) (returned : Outcome ℤ) : Type 0 where
