@@ -66,7 +66,7 @@ no-file-leaves : (k : State) → cardsLeaves k [] ≡ k
 unfolding cardsLeaves cardsOutcome readCards linesOf frequenciesFrom
 no-file-leaves k = refl
 
-no-station : (c : Clock) (latitude : ℤ) (records : List Record) → NewPost c → StationPost c latitude records (Refused NoTable 0) c
+no-station : (c : Clock) (latitude : ℤ) (records : List Record) → NewPost c → StationPost c latitude records (refused 21 0) c
 unfolding stationReturns stationLeaves
 no-station c latitude records p =
     record {
@@ -75,7 +75,7 @@ no-station c latitude records p =
       leaves = p .leaves ∙ sym (ap (λ (k : State). stationLeaves k latitude records) (p .leaves));
     }
 
-no-month : (c : Clock) (year month : ℕ) → NewPost c → DatePost c year month (Refused NoTable 0) c
+no-month : (c : Clock) (year month : ℕ) → NewPost c → DatePost c year month (refused 21 0) c
 unfolding dateGives dateReturns dateLeaves
 no-month c year month p =
     record {
@@ -89,36 +89,36 @@ no-month c year month p =
 new-there : (c : Clock) → NewPost c → New c
 new-there c p = New.news (record { bound = λ w. tt; contract = kept _ (NewPost c) p })
 
-cards-there : (c c′ : Clock) (file : List ℕ) (answer : Answer) → CardsPost c file answer c′ → Call c (Cards file) (told (outcomeOf answer)) c′
+cards-there : (c c′ : Clock) (file : List ℕ) (answer : Answer) → CardsPost c file (outcomeOf answer) c′ → Call c (Cards file) (told (outcomeOf answer)) c′
 cards-there c c′ file answer p =
-    Call.loads {κs = ([], tt)} {file = lent file} {r = record { answer = answer; clock = c′ }} (record { bound = λ w. tt; contract = kept _ (CardsPost c file answer c′) p })
+    Call.loads {κs = ([], tt)} {file = lent file} {r = record { answer = answer; clock = c′ }} (record { bound = λ w. tt; contract = kept _ (CardsPost c file (outcomeOf answer) c′) p })
 
-station-there : (c c′ : Clock) (latitude : ℤ) (records : List Record) (answer : Answer) → StationPost c latitude records answer c′
+station-there : (c c′ : Clock) (latitude : ℤ) (records : List Record) (answer : Answer) → StationPost c latitude records (outcomeOf answer) c′
     → Call c (Station latitude records) (told (outcomeOf answer)) c′
 station-there c c′ latitude records answer p =
-    Call.stations {κs = ([], tt)} {records = lent records} {r = record { answer = answer; clock = c′ }} (record { bound = λ w. tt; contract = kept _ (StationPost c latitude records answer c′) p })
+    Call.stations {κs = ([], tt)} {records = lent records} {r = record { answer = answer; clock = c′ }} (record { bound = λ w. tt; contract = kept _ (StationPost c latitude records (outcomeOf answer) c′) p })
 
-placing-there : (c c′ : Clock) (latitude : ℤ) (n : ℕ) (rows : Rows) (answer : Answer) → StationPost c latitude (recordsOf rows n) answer c′
+placing-there : (c c′ : Clock) (latitude : ℤ) (n : ℕ) (rows : Rows) (answer : Answer) → StationPost c latitude (recordsOf rows n) (outcomeOf answer) c′
     → Call c (Station latitude (recordsOf rows n)) (told (outcomeOf answer)) c′
 placing-there c c′ latitude n rows answer p =
-    Call.placed {n = n} {rows = rows} {r = record { answer = answer; clock = c′ }} (record { bound = λ w. tt; contract = kept _ (StationPost c latitude (recordsOf rows n) answer c′) p })
+    Call.placed {n = n} {rows = rows} {r = record { answer = answer; clock = c′ }} (record { bound = λ w. tt; contract = kept _ (StationPost c latitude (recordsOf rows n) (outcomeOf answer) c′) p })
 
-date-there : (c c′ : Clock) (year month : ℕ) (answer : Answer) → DatePost c year month answer c′ → Call c (Date year month) (told (outcomeOf answer)) c′
+date-there : (c c′ : Clock) (year month : ℕ) (answer : Answer) → DatePost c year month (outcomeOf answer) c′ → Call c (Date year month) (told (outcomeOf answer)) c′
 date-there c c′ year month answer p =
-    Call.dates {r = record { answer = answer; clock = c′ }} (record { bound = λ w. tt; contract = kept _ (DatePost c year month answer c′) p })
+    Call.dates {r = record { answer = answer; clock = c′ }} (record { bound = λ w. tt; contract = kept _ (DatePost c year month (outcomeOf answer) c′) p })
 
-height-there : (c : Clock) (minute : ℕ) (answer : HeightAnswer) → HeightPost c minute answer → Call c (Height minute) (predicted (heightReturned answer)) c
-height-there c minute answer p = Call.heights (record { bound = λ w. tt; contract = kept _ (HeightPost c minute answer) p })
+height-there : (c : Clock) (minute : ℕ) (answer : HeightAnswer) → HeightPost c minute (heightReturned answer) → Call c (Height minute) (predicted (heightReturned answer)) c
+height-there c minute answer p = Call.heights {r = answer} (record { bound = λ w. tt; contract = kept _ (HeightPost c minute (heightReturned answer)) p })
 
-series-there : (c : Clock) (start step : ℕ) (hs hs′ : List ℤ) (answer : Answer) → SeriesPost c start step hs hs′ answer
+series-there : (c : Clock) (start step : ℕ) (hs hs′ : List ℤ) (answer : Answer) → SeriesPost c start step hs hs′ (outcomeOf answer)
     → Call c (Series start step hs) (wrote (record { returned = outcomeOf answer; heights = hs′ })) c
 series-there c start step hs hs′ answer p =
-    Call.serieses {κs = ([], tt)} {before = lent hs} (record { bound = λ w. tt; contract = kept _ (SeriesPost c start step hs hs′ answer) p })
+    Call.serieses {κs = ([], tt)} {before = lent hs} {r = answer} (record { bound = λ w. tt; contract = kept _ (SeriesPost c start step hs hs′ (outcomeOf answer)) p })
 
-turns-there : (c : Clock) (first last : ℕ) (ms ms′ : List ℕ) (hs hs′ : List ℤ) (answer : TurnsAnswer) → TurnsPost c first last ms ms′ hs hs′ answer
+turns-there : (c : Clock) (first last : ℕ) (ms ms′ : List ℕ) (hs hs′ : List ℤ) (answer : TurnsAnswer) → TurnsPost c first last ms ms′ hs hs′ (turnsReturned answer)
     → Call c (Turns first last ms hs) (found (record { returned = turnsReturned answer; minutes = ms′; heights = hs′ })) c
 turns-there c first last ms ms′ hs hs′ answer p =
-    Call.searches {κs = ([], ([], tt))} {ms = lent ms} {hs = lent hs} (record { bound = λ w. tt; contract = kept _ (TurnsPost c first last ms ms′ hs hs′ answer) p })
+    Call.searches {κs = ([], ([], tt))} {ms = lent ms} {hs = lent hs} {r = answer} (record { bound = λ w. tt; contract = kept _ (TurnsPost c first last ms ms′ hs hs′ (turnsReturned answer)) p })
 
 names-there : (c : Clock) (r : TableNames) → namesFrom (r .bytes) 0 (r .count) ≡ namesIn (view c) → Call c Names (named (namesFrom (r .bytes) 0 (r .count))) c
 names-there c r p = Call.hands (record { bound = λ w. tt; contract = kept _ (namesFrom (r .bytes) 0 (r .count) ≡ namesIn (view c)) p })
