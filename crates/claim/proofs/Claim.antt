@@ -3,27 +3,25 @@
 -- distance of each height (`Points`). Assumes nothing.
 use Prim.{Unit}
 use Prim.Native.Nat.{ℕ}
+use mathlib.Core.Bool.{false≢true}
 use mathlib.Core.List.{List, _∷_}
 use mathlib.Core.Path.{_≡_, refl, ap, ap₂, sym, subst, _∙_}
 use mathlib.Core.Logic.{∥∥₁-map, ∥∥₁-elim, ∥∥₁-prop}
-use base.Logic.{id⊢}
+use base.Logic.{emp, id⊢}
 use contract.Monad.{top, fact}
-use denote.Ref.{now}
 use lib.IntN.{ℤ}
-use Rattle.refusals.specs.Outcome.{Outcome, accepted, refused, onAccepted, answered, outcomeOf}
+use Rattle.refusals.specs.Outcome.{Outcome, accepted, refused, onAccepted, answered}
 use Rattle.table.specs.Table.{Table}
 use Rattle.card_file.specs.Cards.{cardsOutcome}
 use Rattle.station.specs.declared.records.Record.{Record}
-use Rattle.station.specs.Records.{recordsOf}
 use Rattle.clock.specs.declared.Clock.{Clock}
 use Rattle.calls.specs.State.{Month, State, some, none}
-use Rattle.columns.specs.Names.{namesFrom}
 use Rattle.calls.specs.Names.{namesIn}
 use Rattle.calls.specs.Calls.{cardsReturns, cardsLeaves, stationReturns, stationLeaves, dateGives, dateReturns, dateLeaves, heightReturns, seriesGives, turnsGives}
 use Rattle.turns.specs.Written.{TurnsFound}
 use Rattle.clock.specs.View.{view, Made}
-use Rattle.clock.specs.Returned.{heightReturned, turnsReturned}
 use Rattle.clock.specs.Posts.{NewPost, CardsPost, StationPost, DatePost, HeightPost, SeriesPost, TurnsPost}
+use Rattle.claim.specs.Zeroed.{zeroed}
 use Rattle.claim.specs.Calls.{Keeps, New, Call, Calls, done, _then_}
 use Rattle.claim.specs.Document.{Request, Cards, Station, Date, Height, Series, Turns, Names, Gave, told, predicted, wrote, found, named, Last, nothing, tableOfCards, workedOut, after, gives, givesAll, lastAfter, EachNear}
 use Rattle.claim.specs.Claim.{OfAnyCalls}
@@ -74,13 +72,26 @@ date-works l year month = by (dateGives (tableOfCards (l .cards)) (l .station) y
 holds : {φ ψ : Type 0} → Keeps (λ w. fact (w .𝓤) φ) (λ w. fact (w .𝓤) ψ) → φ → ∥ ψ ∥₁
 holds {φ} {ψ} k = k .keeps φ ψ (λ w. id⊢ (w .𝓤) (fact (w .𝓤) φ)) (λ w. id⊢ (w .𝓤) (fact (w .𝓤) ψ))
 
-pub new-agrees : {c : Clock} → New c → ∥ Agrees c nothing ∥₁
-unfolding workedOut
-new-agrees (New.news {r} x) =
-    ∥∥₁-map (x .contract .keeps (Unit {0}) (NewPost r) (λ w. top (w .𝓤) _) (λ w. id⊢ (w .𝓤) _) tt) (λ p. record { made = p .made; keeps = p .leaves })
+-- the contract of a call that asks nothing
+always : {ψ : Type 0} → Keeps (λ w. emp (w .𝓤)) (λ w. fact (w .𝓤) ψ) → ∥ ψ ∥₁
+always {ψ} k = k .keeps (Unit {0}) ψ (λ w. top (w .𝓤) _) (λ w. id⊢ (w .𝓤) _) tt
 
--- a call q that gave g and left c′, after what was last accepted: it gave what the document gives, and c′ agrees with what is then last accepted
-abbrev Follows : Last → Request → Gave → Clock → Type 0
+-- memory of nothing but zeros holds a clock with no table, station or month
+zeroed-new : NewPost zeroed
+unfolding view
+zeroed-new = record { made = λ e. absurd (false≢true e); leaves = refl }
+
+new-follows : {c : Clock} → NewPost c → Agrees c nothing
+unfolding workedOut
+new-follows p = record { made = p .made; keeps = p .leaves }
+
+pub new-agrees : {c : Clock} → New c → ∥ Agrees c nothing ∥₁
+new-agrees (New.news x) = ∥∥₁-map (always (x .contract)) new-follows
+new-agrees (New.heldNews x) = ∥∥₁-map (always (x .contract)) new-follows
+new-agrees New.zeros = ∣ new-follows zeroed-new ∣₁
+
+-- a call q gave g and left c′, after l: it gave what the document gives, and c′ agrees with what is then last accepted
+abbrev pub Follows : Last → Request → Gave → Clock → Type 0
 Follows l q g c′ = (g ≡ gives l q) × Agrees c′ (after l q)
 
 cards-follow : {c c′ : Clock} {file : List ℕ} {returned : Outcome Unit} (l : Last) → Agrees c l → CardsPost c file returned c′ → Follows l (Cards file) (told returned) c′
@@ -123,23 +134,22 @@ names-follow : {c : Clock} {names : List (List ℕ)} (l : Last) → Agrees c l �
 unfolding gives after
 names-follow l h p = (ap named (p ∙ ap namesIn (h .keeps)), h)
 
+-- by value and by reference alike: what a call promises of what it gives and leaves is one record, over whatever it promises beside
 pub call-agrees : {c c′ : Clock} {q : Request} {g : Gave} (l : Last) → Agrees c l → Call c q g c′ → ∥ Follows l q g c′ ∥₁
-call-agrees l h (Call.loads {c = c} {file = file} {r = r} x) =
-    ∥∥₁-map (holds {φ = Made c} {ψ = CardsPost c (now file) (outcomeOf (r .answer)) (r .clock)} (x .contract) (h .made)) (cards-follow l h)
-call-agrees l h (Call.stations {c = c} {latitude = latitude} {records = records} {r = r} x) =
-    ∥∥₁-map (holds {φ = Made c} {ψ = StationPost c latitude (now records) (outcomeOf (r .answer)) (r .clock)} (x .contract) (h .made)) (station-follows l h)
-call-agrees l h (Call.placed {c = c} {latitude = latitude} {n = n} {rows = rows} {r = r} x) =
-    ∥∥₁-map (holds {φ = Made c} {ψ = StationPost c latitude (recordsOf rows n) (outcomeOf (r .answer)) (r .clock)} (x .contract) (h .made)) (station-follows l h)
-call-agrees l h (Call.dates {c = c} {year = year} {month = month} {r = r} x) =
-    ∥∥₁-map (holds {φ = Made c} {ψ = DatePost c year month (outcomeOf (r .answer)) (r .clock)} (x .contract) (h .made)) (date-follows l h)
-call-agrees l h (Call.heights {c = c} {minute = minute} {r = r} x) =
-    ∥∥₁-map (holds {φ = Made c} {ψ = HeightPost c minute (heightReturned r)} (x .contract) (h .made)) (height-follows l h)
-call-agrees l h (Call.serieses {c = c} {start = start} {step = step} {before = hs} {after = hs′} {r = r} x) =
-    ∥∥₁-map (holds {φ = Made c} {ψ = SeriesPost c start step (now hs) hs′ (outcomeOf r)} (x .contract) (h .made)) (series-follows l h)
-call-agrees l h (Call.searches {c = c} {first = first} {last = last} {ms = ms} {hs = hs} {ms′ = ms′} {hs′ = hs′} {r = r} x) =
-    ∥∥₁-map (holds {φ = Made c} {ψ = TurnsPost c first last (now ms) ms′ (now hs) hs′ (turnsReturned r)} (x .contract) (h .made)) (turns-follow l h)
-call-agrees l h (Call.hands {c = c} {r = r} x) =
-    ∥∥₁-map (holds {φ = Made c} {ψ = namesFrom (r .bytes) 0 (r .count) ≡ namesIn (view c)} (x .contract) (h .made)) (names-follow l h)
+call-agrees l h (Call.loads x) = ∥∥₁-map (holds (x .contract) (h .made)) (cards-follow l h)
+call-agrees l h (Call.stations x) = ∥∥₁-map (holds (x .contract) (h .made)) (station-follows l h)
+call-agrees l h (Call.placed x) = ∥∥₁-map (holds (x .contract) (h .made)) (station-follows l h)
+call-agrees l h (Call.dates x) = ∥∥₁-map (holds (x .contract) (h .made)) (date-follows l h)
+call-agrees l h (Call.heights x) = ∥∥₁-map (holds (x .contract) (h .made)) (height-follows l h)
+call-agrees l h (Call.serieses x) = ∥∥₁-map (holds (x .contract) (h .made)) (series-follows l h)
+call-agrees l h (Call.searches x) = ∥∥₁-map (holds (x .contract) (h .made)) (turns-follow l h)
+call-agrees l h (Call.hands x) = ∥∥₁-map (holds (x .contract) (h .made)) (names-follow l h)
+call-agrees l h (Call.heldLoads x) = ∥∥₁-map (holds (x .contract) (h .made)) (λ p. cards-follow l h (p .0))
+call-agrees l h (Call.heldStations x) = ∥∥₁-map (holds (x .contract) (h .made)) (λ p. station-follows l h (p .0))
+call-agrees l h (Call.heldDates x) = ∥∥₁-map (holds (x .contract) (h .made)) (λ p. date-follows l h (p .0))
+call-agrees l h (Call.heldHeights x) = ∥∥₁-map (holds (x .contract) (h .made)) (λ p. height-follows l h (p .0))
+call-agrees l h (Call.heldSerieses x) = ∥∥₁-map (holds (x .contract) (h .made)) (λ p. series-follows l h (p .0))
+call-agrees l h (Call.heldSearches x) = ∥∥₁-map (holds (x .contract) (h .made)) (λ p. turns-follow l h (p .0))
 
 calls-agree : {c c′ : Clock} {qs : List Request} {gs : List Gave} (l : Last) → Agrees c l → Calls c qs gs c′ → ∥ ((gs ≡ givesAll l qs) × Agrees c′ (lastAfter l qs)) ∥₁
 unfolding givesAll lastAfter
