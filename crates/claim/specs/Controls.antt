@@ -1,6 +1,6 @@
 -- The claim speaks of something: each of its premises can be met. Whatever meets what a function of the clock ensures is a call of it, with
--- any values, any buffers and any lent clock; and there are lists with each kind of call in them. (proofs/Backed.antt. That the clock's own functions make
--- such calls, accepted ones too, is shown of their runs: crate claim_runs.)
+-- any values, any buffers and any lent clock; and there are lists with each kind of call in them. (proofs/Backed.antt. That the clock's own
+-- functions make such calls, accepted ones too, is shown of their runs: crate claim_runs.)
 -- Assumes nothing.
 use Prim.Native.Nat.{ℕ}
 use mathlib.Core.List.{List, [], _∷_, _++_}
@@ -60,6 +60,7 @@ pub record Controls : Type 2 where
   pub turns : (c : Clock) (first last : ℕ) (ms ms′ : List ℕ) (hs hs′ : List ℤ) (answer : TurnsAnswer) → TurnsPost c first last ms ms′ hs hs′ (turnsReturned answer)
       → Call c (Turns first last ms hs) (found (record { returned = turnsReturned answer; minutes = ms′; heights = hs′ })) c
   pub names : (c : Clock) (r : TableNames) → namesFrom (r .bytes) 0 (r .count) ≡ namesIn (view c) → Call c Names (named (namesFrom (r .bytes) 0 (r .count))) c
+  -- with the clock lent: c is what is behind the reference
   pub held-new : (c c′ : Clock) → NewPost c′ → New c′
   pub held-cards : (c c′ : Clock) (file : List ℕ) (r : Verdict) → CardsPost c file (verdictIn r) c′ → Plain r → Call c (Cards file) (told (verdictIn r)) c′
   pub held-station : (c c′ : Clock) (latitude : ℤ) (records : List Record) (r : Verdict) → StationPost c latitude records (verdictIn r) c′ → Plain r

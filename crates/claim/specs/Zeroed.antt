@@ -1,5 +1,5 @@
--- The clock that memory of nothing but zeros holds: each number 0, each flag false. (proofs/Zeros.antt: it is what the machine's value of a
--- clock's type stands for that has nothing but zeros in it.)
+-- The clock that memory of nothing but zeros holds: each number 0, each flag false. (proofs/Zeros.antt shows that the machine's value of a
+-- clock's type that has nothing but zeros in it stands for this clock.)
 -- Assumes nothing.
 use Prim.Native.Nat.{ℕ, _*_}
 use mathlib.Core.Bool.{false}
@@ -81,6 +81,6 @@ abbrev mutual
   zerosOf tnil = vnil
   zerosOf (tcons τ τs) = vcons (zeroOf τ) (zerosOf τs)
 
--- `zeroed` is what it stands for
+-- that of a clock's type stands for `zeroed`
 abbrev pub ZerosAreZeroed : Type 0
 ZerosAreZeroed = Is ClockType.the-row zeroed (zeroOf ClockLaws.mir ∷ [])
