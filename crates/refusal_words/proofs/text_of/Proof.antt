@@ -1,9 +1,29 @@
 -- `refusal_words::text_of` meets its contract: a row for each number, and none for the others. Assumes nothing.
+use Prim.{Unit}
+use Prim.Native.Nat.{ℕ}
+use Prim.Native.String.{String}
+use mathlib.Core.Path.{_≡_, refl}
+use mathlib.Core.List.{List, [], _∷_}
 use borrow.Author.Needs.{needs}
 use borrow.Author.Tests.{ne-eqb}
 use Rattle.refusal_words.proofs.text_of.Statement.{statement}
 use Rattle.refusal_words.specs.Words.{refusalRows, wordsIn, bytesOf, zerosBehind}
 use Rattle.refusal_words.proofs.text_of.Tie as tie
+
+-- a number that none of the rows has, row by row, beside what is known already: it has no words
+abbrev Lacked : Type 0 → List (ℕ × String) → ℕ → Type 0
+Lacked T [] number = T
+Lacked T ((n, words) ∷ rows) number = Lacked (T × (number ≡ n → ⊥)) rows number
+
+known : (T : Type 0) (rows : List (ℕ × String)) (number : ℕ) → Lacked T rows number → T
+known T [] number t = t
+known T ((n, words) ∷ rows) number l = known (T × (number ≡ n → ⊥)) rows number l .0
+
+no-words : (T : Type 0) (rows : List (ℕ × String)) (number : ℕ) → Lacked T rows number → wordsIn rows number ≡ ""
+unfolding wordsIn
+no-words T [] number l = refl
+no-words T ((n, words) ∷ rows) number l =
+    rw (ne-eqb number n (known (T × (number ≡ n → ⊥)) rows number l .1)) (no-words (T × (number ≡ n → ⊥)) rows number l)
 
 slice-aggregate-with-zeros : tie.Need-slice-aggregate-with-zeros
 slice-aggregate-with-zeros c = search needs
@@ -152,11 +172,8 @@ unfolding refusalRows wordsIn bytesOf zerosBehind
 returns-14 c = rw (c .before .before .match .keys14) (c .with-zeros14 .ensures)
 
 returns-15 : tie.Need-returns-15
-unfolding refusalRows wordsIn bytesOf zerosBehind
-returns-15 c =
-    let n = c .before .before .before .args .number in
-    let r = c .before .before .match .rest in
-    rw (ne-eqb n 1 (r .0 .0 .0 .0 .0 .0 .0 .0 .0 .0 .0 .0 .0 .1), ne-eqb n 2 (r .0 .0 .0 .0 .0 .0 .0 .0 .0 .0 .0 .0 .1), ne-eqb n 3 (r .0 .0 .0 .0 .0 .0 .0 .0 .0 .0 .0 .1), ne-eqb n 4 (r .0 .0 .0 .0 .0 .0 .0 .0 .0 .0 .1), ne-eqb n 5 (r .0 .0 .0 .0 .0 .0 .0 .0 .0 .1), ne-eqb n 6 (r .0 .0 .0 .0 .0 .0 .0 .0 .1), ne-eqb n 7 (r .0 .0 .0 .0 .0 .0 .0 .1), ne-eqb n 8 (r .0 .0 .0 .0 .0 .0 .1), ne-eqb n 9 (r .0 .0 .0 .0 .0 .1), ne-eqb n 10 (r .0 .0 .0 .0 .1), ne-eqb n 11 (r .0 .0 .0 .1), ne-eqb n 21 (r .0 .0 .1), ne-eqb n 22 (r .0 .1), ne-eqb n 23 (r .1)) (c .with-zeros15 .ensures)
+unfolding refusalRows bytesOf zerosBehind
+returns-15 c = rw (no-words (Unit {0}) refusalRows (c .before .before .before .args .number) (c .before .before .match .rest)) (c .with-zeros15 .ensures)
 
 pub text-of-spec : {M : Type 1} → statement M
 text-of-spec =
