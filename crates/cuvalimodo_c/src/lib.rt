@@ -15,12 +15,11 @@ ghost use Rattle.cuvalimodo_c.specs.Answers.{verdictIn, readingIn, turni
 
 mod answers; // what the calls say, in numbers
 mod byvalue; // the calls by value, in numbers
-mod text; // the words of a refusal
 
 use crate::answers::Reading;
+use crate::answers::Text;
 use crate::answers::Turnings;
 use crate::answers::Verdict;
-use crate::text::Text;
 use card_file::counts;
 use card_file::counts::Counts;
 use clock::Clock;
