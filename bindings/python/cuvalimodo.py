@@ -161,8 +161,7 @@ def _lent(numbers: ctypes.Array) -> Tuple[ctypes.Array, int]:
 
 
 def _bytes(data: ReadableBuffer) -> ctypes.Array:
-    view = memoryview(data)
-    return (ctypes.c_uint8 * view.nbytes).from_buffer_copy(view.tobytes())
+    return (ctypes.c_uint8 * memoryview(data).nbytes).from_buffer_copy(data)
 
 
 def _buffer(ctype: type, codes: str, lent: WriteableBuffer) -> ctypes.Array:
