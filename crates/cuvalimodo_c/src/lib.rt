@@ -18,7 +18,6 @@ mod byvalue; // the calls by value, in numbers
 use crate::answers::Reading;
 use crate::answers::Turnings;
 use crate::answers::Verdict;
-use crate::byvalue;
 use card_file::counts;
 use card_file::counts::Counts;
 use clock::Clock;
