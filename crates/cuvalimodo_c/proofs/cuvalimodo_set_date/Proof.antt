@@ -1,17 +1,14 @@
--- `cuvalimodo_c::cuvalimodo_set_date` meets its contract: a walk of its MIR, by `Stored`. Assumes nothing.
-use Rattle.cuvalimodo_c.proofs.Walking.{refl, ℕ, _<_, _^_, List, [], _∷_, URA, named, w32, Val, vint, vptr, SProp, ent, snd∗, exE, Lft, GName, Share, ftrue, flft, Memory, Routine, Heap, Calls, Loops, WpFn, Tables, Atoms, sem, Fun, fact, givenOf, tables, tablesOf, Given, ‵, raw, _⊛_, ⋆, _$_, _∵_, !, qed, by, move, split, join, fsplit, fjoin, suffices, frame, done, look, init, forget, stop, fld, from, load, and-then, no-more, enter, alloc1, alloc0, params1, pass1, pass0, free1, free0, FmC, fmOf, WpFn-mono, yes, owns, Is, uint-vals, uint-tells, uint-makes, u32, RefT, ptr-vals, plain, owned, nothing, Vals, onEntry, Meets, tripleOf, Contract, Triple, ensured, lasts, entered, cited, says, needs, Stays, stay-none, walkOf, Walks, ends-at, walked, goes-none, walk-meets}
+-- `cuvalimodo_set_date` meets its contract: a walk of its MIR, by `Stored`. Assumes nothing.
+use Rattle.cuvalimodo_c.proofs.Walking.{refl, _<_, _^_, List, [], _∷_, ℕ, URA, named, w32, Val, vint, vptr, SProp, ent, emp, id⊢, Lft, Share, ftrue, flft, Memory, Routine, Heap, Calls, Loops, WpFn, Atoms, sem, Fun, factI, givenOf, tables, tablesOf, fmOf, Given, ‵, raw, _⊛_, _$_, _∵_, !, qed, move, split, join, fsplit, fjoin, suffices, frame, done, look, init, forget, stop, from, load, and-then, no-more, enter, alloc1, alloc0, params1, pass1, pass0, free1, free0, FmC, yes, owns, uint-vals, uint-tells, u32, RefT, ptr-vals, plain, nothing, Vals, onEntry, Triple, cited, says, needs, Stays, stay-dropped, goes-dropped, walkOf, Walks, ends-at, walked, Met, asks, walks-meet}
 use denote.Ref.{MutRef, mut-tells}
 use denote.Triple.Walked.{stay-ref, goes-ref}
-use denote.Struct.Laws as LL
 use Rattle.clock.specs.declared.Clock.{Clock}
 use Rattle.clock.specs.View.{Made}
+use Rattle.clock.specs.Posts.{DatePost}
 use Rattle.clock.proofs.Clock as T
 use Rattle.cuvalimodo_c.specs.declared.byvalue.Left.{Left}
-use Rattle.clock.specs.Posts.{DatePost}
 use Rattle.cuvalimodo_c.specs.Answers.{verdictIn, Plain}
-use Rattle.cuvalimodo_c.proofs.Stored.{clockVal, verdictVal, Ref, stored, comes-by}
-use Rattle.cuvalimodo_c.proofs.answers.Verdict as D
-use Rattle.cuvalimodo_c.proofs.answers.Verdict.Laws as D′
+use Rattle.cuvalimodo_c.proofs.Stored.{clockVal, verdictVal, stored}
 use Rattle.cuvalimodo_c.proofs.byvalue.set_date as inner
 use Rattle.cuvalimodo_c.proofs.byvalue.set_date.Symbol as inner-def
 use Rattle.cuvalimodo_c.proofs.byvalue.set_date.Symbol.{name as #inner}
@@ -22,72 +19,46 @@ use Rattle.cuvalimodo_c.proofs.cuvalimodo_set_date.Statement as stated
 use Rattle.cuvalimodo_c.proofs.cuvalimodo_set_date.Code as code
 
 abbrev stayed : Stays (it.ended .signature .params) (it.ended .kept)
-stayed = (stay-ref (0 ∷ []) tt (plain (λ _. T.the-row)), (stay-none (λ _. u32) yes, (stay-none (λ _. u32) yes, tt)))
+stayed = (stay-ref (0 ∷ []) tt (plain (λ _. T.the-row)), (stay-dropped (plain (λ _. u32)) yes, (stay-dropped (plain (λ _. u32)) yes, tt)))
 
-module _ {M : Type 1} (𝓤 : URA M) (H : Heap 𝓤) (A : Atoms 𝓤) (at-mem : Memory → SProp 𝓤) (run : Routine → Fun 𝓤) where
-  abbrev Inner : Contract 𝓤
-  Inner = tripleOf 𝓤 H A inner.signature (inner.spec 𝓤 H A at-mem run)
+module _ {M : Type 1} (𝓤 : URA M) (H : Heap 𝓤) (A : Atoms 𝓤) (W : Given 𝓤 H A) (at-mem : Memory → SProp 𝓤) (run : Routine → Fun 𝓤) (𝓒 : Calls 𝓤 H) (Λ : Loops 𝓤 H) (fm : FmC 𝓤 H (W .laws) 𝓒)
+    (known : Triple 𝓤 (𝓒 #inner) (Met 𝓤 H A inner.ended (inner.clauses 𝓤 H A at-mem run))) where
+  module _ (κ : Lft) (q : Share) (x : RefT Clock) (y m : ℕ) where
+    abbrev at : Vals it.signature (κ, tt)
+    at = (ptr-vals x, (vint w32 y ∷ [], (vint w32 m ∷ [], tt)))
 
-module _ {M : Type 1} (𝓤 : URA M) (H : Heap 𝓤) (A : Atoms 𝓤) (W : Given 𝓤 H A) (at-mem : Memory → SProp 𝓤) (run : Routine → Fun 𝓤) (κ : Lft) (q : Share) (b o : ℕ) (γ : GName) (h : Clock) (y m : ℕ) where
-  abbrev x : RefT Clock
-  x = record { ptr = (b, o); name = γ; now = h }
+    abbrev Said : Left → Type 0
+    Said s = DatePost (x .now) y m (verdictIn (s .verdict)) (s .clock) × Plain (s .verdict)
 
-  abbrev at : Vals it.signature (κ, tt)
-  at = (vptr b o ∷ [], (vint w32 y ∷ [], (vint w32 m ∷ [], tt)))
+    abbrev ghosts : walkOf 𝓤 H A it.ended stayed (it.clauses 𝓤 H A at-mem run) .Ghost
+    ghosts = (((κ, tt), (q, tt), tt, (x, (y, (m, tt))), at), tt)
 
-  abbrev Post : Val → SProp 𝓤
-  Post = walkOf 𝓤 H A it.ended stayed (it.clauses 𝓤 H A at-mem run) .post (((κ, tt), (q, tt), tt, (x, (y, (m, tt))), at), tt)
-
-  abbrev Said : Left → Type 0
-  Said s = DatePost h y m (verdictIn (s .verdict)) (s .clock) × Plain (s .verdict)
-
-  exits : (s : Left) → Said s → Is D.the-row (s .verdict) (verdictVal s ∷ [])
-      → ent 𝓤 (⋆ 𝓤 H A (‵ (Ref 𝓤 H A W κ q b o γ h (s .clock)) ∷ ‵ (flft κ q) ∷ raw (sem 𝓤 H A ftrue) ∷ ‵ (owns (u32 ∷ u32 ∷ []) (y, (m, tt)) (at .1)) ∷ [])) (Post (verdictVal s))
-  exits s e is =
-      qed W (‵ (Ref 𝓤 H A W κ q b o γ h (s .clock)) ∷ ‵ (flft κ q) ∷ raw (sem 𝓤 H A ftrue) ∷ ‵ (owns (u32 ∷ u32 ∷ []) (y, (m, tt)) (at .1)) ∷ []) ∵
-      suffices ! _ (ends-at 𝓤 H A it.ended stayed (it.clauses 𝓤 H A at-mem run) W (((κ, tt), (q, tt), tt, (x, (y, (m, tt))), at), tt) (verdictVal s) (s .verdict) (s .clock, (tt, (tt, tt))) (tt, (tt, (tt, tt)))) $ says ! e $
-      move ! (1 ∷ 2 ∷ []) $ join ! $ frame ! $ fjoin ! $ frame ! $ owned ! D.the-row (Is D.the-row) (LL.makes D.the-type D′.the-plain 𝓤 H A) (s .verdict) _ is $ done !
-
-  abbrev to-inner : Inner 𝓤 H A at-mem run .Ghost
-  to-inner = ((tt, tt, tt, (h, (y, (m, tt))), (clockVal h ∷ [], at .1)), tt)
-
-  goes-inner : Made h → y < 2 ^ 32 → m < 2 ^ 32 → ent 𝓤 (⋆ 𝓤 H A (‵ (T.the-row .own h (clockVal h ∷ [])) ∷ ‵ ftrue ∷ [])) (Inner 𝓤 H A at-mem run .pre to-inner)
-  goes-inner made gy gm =
-      qed W (‵ (T.the-row .own h (clockVal h ∷ [])) ∷ ‵ ftrue ∷ []) ∵ says ! made $ move ! (1 ∷ []) $ owned ! u32 (Is u32) (uint-makes 𝓤 H A W w32) m _ (refl, gm) $ fjoin ! $
-      owned ! u32 (Is u32) (uint-makes 𝓤 H A W w32) y _ (refl, gy) $ fjoin ! $ move ! (1 ∷ 0 ∷ []) $ fjoin ! $ nothing ! $ done !
-
-  inner-said : (s : Left) → ent 𝓤 (ensured 𝓤 H A inner.ended (inner.clauses 𝓤 H A at-mem run) tt (h, (y, (m, tt))) tt s) (fact 𝓤 (Said s))
-  inner-said s = exE 𝓤 _ (λ ws. snd∗ 𝓤 (sem 𝓤 H A (lasts inner.ended tt (h, (y, (m, tt))) ws)) (fact 𝓤 (Said s)))
-
-  module _ (𝓒 : Calls 𝓤 H) (Λ : Loops 𝓤 H) (fm : FmC 𝓤 H (W .laws) 𝓒) (known : Triple 𝓤 (𝓒 #inner) (Inner 𝓤 H A at-mem run)) where
-    walk : Made h → y < 2 ^ 32 → m < 2 ^ 32 → ent 𝓤 (onEntry 𝓤 H A it.signature (κ, tt) (q, tt) (x, (y, (m, tt))) at) (WpFn 𝓤 H 𝓒 Λ code.function (vptr b o ∷ vint w32 y ∷ vint w32 m ∷ []) Post)
+    walk : Made (x .now) → y < 2 ^ 32 → m < 2 ^ 32
+        → ent 𝓤 (onEntry 𝓤 H A it.signature (κ, tt) (q, tt) (x, (y, (m, tt))) at) (WpFn 𝓤 H 𝓒 Λ code.function (vptr (x .ptr .0) (x .ptr .1) ∷ vint w32 y ∷ vint w32 m ∷ []) (walkOf 𝓤 H A it.ended stayed (it.clauses 𝓤 H A at-mem run) .post ghosts))
     walk made gy gm =
-        qed W ((‵ (flft κ q) ⊛ ‵ ftrue) ∷ ‵ (owns (MutRef (named 0) κ T.the-row ∷ u32 ∷ u32 ∷ []) (x, (y, (m, tt))) at) ∷ []) ∵ enter ! 𝓒 Λ code.function (vptr b o ∷ vint w32 y ∷ vint w32 m ∷ []) _ $
+        qed W ((‵ (flft κ q) ⊛ raw (emp 𝓤)) ∷ ‵ (owns (MutRef (named 0) κ T.the-row ∷ u32 ∷ u32 ∷ []) (x, (y, (m, tt))) at) ∷ []) ∵ enter ! 𝓒 Λ code.function (vptr (x .ptr .0) (x .ptr .1) ∷ vint w32 y ∷ vint w32 m ∷ []) _ $
         alloc1 ! (λ l₀. alloc1 ! (λ l₁. alloc1 ! (λ l₂. alloc1 ! (λ l₃. alloc1 ! (λ l₄. alloc1 ! (λ l₅. alloc0 ! $ params1 ! $
         pass1 ! (init ! 8 refl (tt, tt)) $ pass1 ! (init ! 6 refl (tt, record { fits = gy })) $ pass1 ! (init ! 4 refl (tt, record { fits = gm })) $ pass0 ! $
-        move ! (13 ∷ []) $ fsplit ! $ move ! (14 ∷ []) $ split ! $ move ! (2 ∷ 0 ∷ 1 ∷ 4 ∷ 6 ∷ 12 ∷ 14 ∷ []) $
-        stored 𝓤 H A W κ q b o γ h l₀ l₁ 5 4 l₅ l₄ _ (‵ ftrue) (raw (sem 𝓤 H A ftrue)) _ 𝓒 Λ Post Said fm #inner _ (Inner 𝓤 H A at-mem run) known to-inner
-        (λ _. from ! (stop !)) (λ _. from ! (stop !)) (λ _. from ! (fld ! refl (stop !))) (λ _. from ! (fld ! refl (stop !)))
-        (and-then ! (load ! (from ! (stop !)) (look ! 6 refl)) (and-then ! (load ! (from ! (stop !)) (look ! 15 refl)) (and-then ! (load ! (from ! (stop !)) (look ! 13 refl)) (no-more !))))
-        (goes-inner made gy gm) (comes-by 𝓤 H A W κ q b o γ h (sem 𝓤 H A ftrue) _ Said inner-said)
-        (λ s p is. forget ! 10 refl $ forget ! 12 refl $ move ! (6 ∷ 15 ∷ []) $ free1 ! $ move ! (5 ∷ 13 ∷ []) $ free1 ! $ move ! (10 ∷ 11 ∷ []) $ free1 ! $ move ! (8 ∷ 9 ∷ []) $ free1 ! $ move ! (4 ∷ 7 ∷ []) $ free1 ! $ move ! (3 ∷ 5 ∷ []) $ free1 ! $ free0 ! $ by ! (exits s p is))))))))
+        move ! (12 ∷ []) $ split ! $ move ! (14 ∷ []) $ fsplit ! $ move ! (0 ∷ 2 ∷ 3 ∷ 1 ∷ 4 ∷ 6 ∷ 12 ∷ 14 ∷ []) $
+        stored 𝓤 H A W κ q x l₀ l₁ 5 4 l₅ l₄ _ (emp 𝓤) _ _ 𝓒 Λ _ #inner _ Said refl refl
+        (λ k. asks 𝓤 H A inner.ended (inner.clauses 𝓤 H A at-mem run) W (tt, tt, tt, (x .now, (y, (m, tt))), (clockVal (x .now) ∷ [], at .1)) tt (λ s ws. Said s) (factI 𝓤 (Made (x .now)) (emp 𝓤) made) (λ s ws. id⊢ 𝓤 _) fm known
+        (and-then ! (load ! (from ! (stop !)) (look ! 6 refl)) (and-then ! (load ! (from ! (stop !)) (look ! 14 refl)) (and-then ! (load ! (from ! (stop !)) (look ! 12 refl)) (no-more !))))
+        (λ v s ws. k v s _))
+        (λ s p. forget ! 10 refl $ forget ! 12 refl $ move ! (7 ∷ 15 ∷ []) $ free1 ! $ move ! (6 ∷ 13 ∷ []) $ free1 ! $ move ! (10 ∷ 11 ∷ []) $ free1 ! $ move ! (8 ∷ 9 ∷ []) $ free1 ! $ move ! (5 ∷ 7 ∷ []) $ free1 ! $ move ! (4 ∷ 5 ∷ []) $ free1 ! $ free0 ! $
+        suffices ! _ (ends-at 𝓤 H A it.ended stayed (it.clauses 𝓤 H A at-mem run) W ghosts (verdictVal s) (s .verdict) (s .clock, (tt, (tt, tt))) (tt, (tt, (tt, tt)))) $ says ! p $
+        move ! (2 ∷ 3 ∷ []) $ join ! $ frame ! $ nothing ! $ nothing ! $ fjoin ! $ nothing ! $ fjoin ! $ move ! (2 ∷ 0 ∷ []) $ fjoin ! $ frame ! $ done !)))))))
 
-module _ {M : Type 1} (𝓤 : URA M) (H : Heap 𝓤) (A : Atoms 𝓤) (W : Given 𝓤 H A) (at-mem : Memory → SProp 𝓤) (run : Routine → Fun 𝓤) (𝓣 : Tables 𝓤 H) (known : Triple 𝓤 (𝓣 .C #inner) (Inner 𝓤 H A at-mem run)) where
-  it-walks : Walks 𝓤 H A it.ended stayed (WpFn 𝓤 H (𝓣 .C) (𝓣 .Λ) code.function) (it.clauses 𝓤 H A at-mem run)
-  it-walks = walked 𝓤 H A it.ended stayed (it.clauses 𝓤 H A at-mem run) (WpFn 𝓤 H (𝓣 .C) (𝓣 .Λ) code.function)
+  walks : Walks 𝓤 H A it.ended stayed (WpFn 𝓤 H 𝓒 Λ code.function) (it.clauses 𝓤 H A at-mem run)
+  walks = walked 𝓤 H A it.ended stayed (it.clauses 𝓤 H A at-mem run) (WpFn 𝓤 H 𝓒 Λ code.function)
       (λ κs. (ptr-vals, (uint-vals w32, (uint-vals w32, tt)))) (λ κs. (mut-tells (named 0) (κs .0) T.the-row, (uint-tells w32, (uint-tells w32, tt))))
-      (λ κs qs bounds a g are. needs 𝓤 (Made (a .0 .now)) _ (λ made.
-      walk 𝓤 H A W at-mem run (κs .0) (qs .0) (a .0 .ptr .0) (a .0 .ptr .1) (a .0 .name) (a .0 .now) (a .1 .0) (a .1 .1 .0) (𝓣 .C) (𝓣 .Λ) (fmOf 𝓤 H (W .laws) 𝓣) known made (are .1 .0 .1) (are .1 .1 .0 .1)))
-
-  it-meets : Meets 𝓤 H A it.signature (WpFn 𝓤 H (𝓣 .C) (𝓣 .Λ) code.function) (it.spec 𝓤 H A at-mem run)
-  it-meets = walk-meets 𝓤 H A it.ended stayed W
-      (goes-ref 𝓤 H A W 1 0 tt (plain (λ _. T.the-row)), (goes-none 𝓤 H A W 1 (λ _. u32) yes (λ κs x f. refl), (goes-none 𝓤 H A W 1 (λ _. u32) yes (λ κs x f. refl), tt)))
-      (it.clauses 𝓤 H A at-mem run) (WpFn 𝓤 H (𝓣 .C) (𝓣 .Λ) code.function) (WpFn-mono 𝓤 H (W .laws) 𝓣 code.function) it-walks
+      (λ κs qs bounds a g are. needs 𝓤 (Made (a .0 .now)) _ (λ made. walk (κs .0) (qs .0) (a .0) (a .1 .0) (a .1 .1 .0) made (are .1 .0 .1) (are .1 .1 .0 .1)))
 
 pub cuvalimodo-set-date-spec : {M : Type 1} → stated.statement M
 unfolding code.routine tablesOf
 cuvalimodo-set-date-spec 𝓤 H 𝓜 𝓖 𝓡 =
-    entered 𝓤 H (tripleOf 𝓤 H (𝓖 .A) it.signature (it.spec 𝓤 H (𝓖 .A) (𝓜 .mem) (𝓡 .run)))
-    (tables 𝓤 H 𝓜 𝓡 code.env .C) (tables 𝓤 H 𝓜 𝓡 code.env .Λ) #it code.function (code.unfolded 𝓤 H 𝓜 𝓡)
-    (it-meets 𝓤 H (𝓖 .A) (givenOf 𝓤 H 𝓜 𝓖) (𝓜 .mem) (𝓡 .run) (tablesOf 𝓤 H 𝓜 (tables 𝓤 H 𝓜 𝓡 code.env))
-    (cited 𝓤 H (Inner 𝓤 H (𝓖 .A) (𝓜 .mem) (𝓡 .run)) 𝓜 𝓡 code.env #inner inner-def.routine code.calls-cuvalimodo-c·byvalue·set-date (inner-thm.met 𝓤 H 𝓜 𝓖 𝓡)))
+    let A = 𝓖 .A in
+    let W = givenOf 𝓤 H 𝓜 𝓖 in
+    walks-meet 𝓤 H 𝓜 𝓖 𝓡 code.env it.ended stayed (it.clauses 𝓤 H A (𝓜 .mem) (𝓡 .run)) #it code.function (code.unfolded 𝓤 H 𝓜 𝓡)
+    (goes-ref 𝓤 H A W 1 0 tt (plain (λ _. T.the-row)), (goes-dropped 𝓤 H A W 1 (plain (λ _. u32)) yes (λ κs x f. refl), (goes-dropped 𝓤 H A W 1 (plain (λ _. u32)) yes (λ κs x f. refl), tt)))
+    (walks 𝓤 H A W (𝓜 .mem) (𝓡 .run) (tables 𝓤 H 𝓜 𝓡 code.env .C) (tables 𝓤 H 𝓜 𝓡 code.env .Λ) (fmOf 𝓤 H (W .laws) (tablesOf 𝓤 H 𝓜 (tables 𝓤 H 𝓜 𝓡 code.env)))
+    (cited 𝓤 H _ 𝓜 𝓡 code.env #inner inner-def.routine code.calls-cuvalimodo-c·byvalue·set-date (inner-thm.met 𝓤 H 𝓜 𝓖 𝓡)))
