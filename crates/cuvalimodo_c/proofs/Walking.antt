@@ -85,8 +85,11 @@ module _ {M : Type 1} (𝓤 : URA M) (H : Heap 𝓤) (A : Atoms 𝓤) (T : Ended
 module _ {M : Type 1} (𝓤 : URA M) (H : Heap 𝓤) (𝓜 : Model 𝓤 H) (𝓖 : GhostRules 𝓤 H) (𝓡 : Running 𝓤 H 𝓜) (γ : Names) (T : Ended) (hs : Stays (T .signature .params) (T .kept)) (c : Clauses 𝓤 T) where
   pub walks-meet : (k : Name) (e : Fn) → Closed 𝓤 H (tables 𝓤 H 𝓜 𝓡 γ .C) (tables 𝓤 H 𝓜 𝓡 γ .Λ) k e
       → AllGo 𝓤 H (𝓖 .A) (givenOf 𝓤 H 𝓜 𝓖) (T .signature .lifetimes) (T .signature .params) (T .kept) hs
-      → Walks 𝓤 H (𝓖 .A) T hs (WpFn 𝓤 H (tables 𝓤 H 𝓜 𝓡 γ .C) (tables 𝓤 H 𝓜 𝓡 γ .Λ) e) c
+      → (FmC 𝓤 H (givenOf 𝓤 H 𝓜 𝓖 .laws) (tables 𝓤 H 𝓜 𝓡 γ .C) → Walks 𝓤 H (𝓖 .A) T hs (WpFn 𝓤 H (tables 𝓤 H 𝓜 𝓡 γ .C) (tables 𝓤 H 𝓜 𝓡 γ .Λ) e) c)
       → Triple 𝓤 (tables 𝓤 H 𝓜 𝓡 γ .C k) (Met 𝓤 H (𝓖 .A) T c)
   unfolding tablesOf
-  walks-meet k e closed gs walks = entered 𝓤 H (Met 𝓤 H (𝓖 .A) T c) (tables 𝓤 H 𝓜 𝓡 γ .C) (tables 𝓤 H 𝓜 𝓡 γ .Λ) k e closed
-      (walk-meets 𝓤 H (𝓖 .A) T hs (givenOf 𝓤 H 𝓜 𝓖) gs c (WpFn 𝓤 H (tables 𝓤 H 𝓜 𝓡 γ .C) (tables 𝓤 H 𝓜 𝓡 γ .Λ) e) (WpFn-mono 𝓤 H (givenOf 𝓤 H 𝓜 𝓖 .laws) (tablesOf 𝓤 H 𝓜 (tables 𝓤 H 𝓜 𝓡 γ)) e) walks)
+  walks-meet k e closed gs walks =
+      let W = givenOf 𝓤 H 𝓜 𝓖 in
+      let 𝓣 = tablesOf 𝓤 H 𝓜 (tables 𝓤 H 𝓜 𝓡 γ) in
+      entered 𝓤 H (Met 𝓤 H (𝓖 .A) T c) (tables 𝓤 H 𝓜 𝓡 γ .C) (tables 𝓤 H 𝓜 𝓡 γ .Λ) k e closed
+      (walk-meets 𝓤 H (𝓖 .A) T hs W gs c (WpFn 𝓤 H (tables 𝓤 H 𝓜 𝓡 γ .C) (tables 𝓤 H 𝓜 𝓡 γ .Λ) e) (WpFn-mono 𝓤 H (W .laws) 𝓣 e) (walks (fmOf 𝓤 H (W .laws) 𝓣)))

@@ -1,5 +1,5 @@
 -- `cuvalimodo_set_station` meets its contract: a walk of its MIR. The records lent are taken apart by `rows_of`, and the rest is by `Stored`. Assumes nothing.
-use Rattle.cuvalimodo_c.proofs.Walking.{_≡_, refl, List, [], _∷_, length, URA, named, w32, w64, Val, vint, vptr, SProp, ent, emp, id⊢, Lft, Share, flft, Memory, Routine, Heap, Calls, Loops, WpFn, Atoms, Fun, factI, givenOf, tables, tablesOf, fmOf, Given, ‵, raw, _⊛_, _$_, _∵_, !, qed, move, keep, use0, split, join, fsplit, fjoin, suffices, frame, done, whole, sub, look-in, look, init, forget, stop, fld, from, load, of-opd, and-then, no-more, assigns, land, enter, alloc1, alloc0, params1, pass1, pass0, free1, free0, FmC, yes, owns, Is, shows, uint-makes, usize, RefT, ptr-vals, plain, owned, peeks, nothing, Vals, onEntry, Triple, cited, says, needs, Stays, stay-dropped, goes-dropped, walkOf, Walks, ends-at, walked, Met, asks, walks-meet}
+use Rattle.cuvalimodo_c.proofs.Walking.{_≡_, refl, List, [], _∷_, length, URA, named, w32, w64, Val, vint, SProp, ent, emp, id⊢, Lft, Share, flft, Memory, Routine, Heap, Calls, Loops, WpFn, Atoms, Fun, factI, givenOf, tablesOf, Given, ‵, raw, _⊛_, _$_, _∵_, !, qed, move, keep, use0, split, join, fsplit, fjoin, suffices, frame, done, whole, sub, look-in, look, init, forget, stop, fld, from, load, of-opd, and-then, no-more, assigns, land, enter, alloc1, alloc0, params1, pass1, pass0, free1, free0, FmC, yes, owns, Is, shows, uint-makes, usize, RefT, ptr-vals, plain, owned, peeks, nothing, Vals, Contract, Triple, cited, says, needs, Stays, stay-dropped, goes-dropped, walkOf, Walks, ends-at, walked, Met, asks, walks-meet}
 use lib.IntN.{ℤ}
 use mir.Val.{ofZ}
 use contract.Lifetimes.{toks}
@@ -46,6 +46,9 @@ stayed = (stay-ref (0 ∷ []) tt (plain (λ _. T.the-row)), (stay-dropped (plain
 
 module _ {M : Type 1} (𝓤 : URA M) (H : Heap 𝓤) (A : Atoms 𝓤) (W : Given 𝓤 H A) (at-mem : Memory → SProp 𝓤) (run : Routine → Fun 𝓤) (𝓒 : Calls 𝓤 H) (Λ : Loops 𝓤 H) (fm : FmC 𝓤 H (W .laws) 𝓒)
     (known-rows : Triple 𝓤 (𝓒 #rows) (Met 𝓤 H A rows.ended (rows.clauses 𝓤 H A at-mem run))) (known : Triple 𝓤 (𝓒 #inner) (Met 𝓤 H A inner.ended (inner.clauses 𝓤 H A at-mem run))) where
+  abbrev Walk : Contract 𝓤
+  Walk = walkOf 𝓤 H A it.ended stayed (it.clauses 𝓤 H A at-mem run)
+
   module _ (κ κ₁ : Lft) (q q₁ : Share) (x : RefT Clock) (z : ℤ) (ys : RefT (List Record)) where
     abbrev zv : Val
     zv = vint w32 (ofZ w32 z)
@@ -59,13 +62,12 @@ module _ {M : Type 1} (𝓤 : URA M) (H : Heap 𝓤) (A : Atoms 𝓤) (W : Given
     abbrev Said : Rows → Left → Type 0
     Said r s = StationPost (x .now) z (recordsOf r (length (ys .now))) (verdictIn (s .verdict)) (s .clock) × Plain (s .verdict)
 
-    abbrev ghosts : walkOf 𝓤 H A it.ended stayed (it.clauses 𝓤 H A at-mem run) .Ghost
+    abbrev ghosts : Walk .Ghost
     ghosts = (((κ, (κ₁, tt)), (q, (q₁, tt)), tt, (x, (z, (ys, tt))), at), tt)
 
-    walk : Made (x .now) → Is i32 z (zv ∷ []) → Room N.the-row (length (ys .now))
-        → ent 𝓤 (onEntry 𝓤 H A it.signature (κ, (κ₁, tt)) (q, (q₁, tt)) (x, (z, (ys, tt))) at) (WpFn 𝓤 H 𝓒 Λ code.function (vptr (x .ptr .0) (x .ptr .1) ∷ zv ∷ sv ∷ []) (walkOf 𝓤 H A it.ended stayed (it.clauses 𝓤 H A at-mem run) .post ghosts))
-    walk made gz gn =
-        qed W ((‵ (flft κ q) ⊛ raw (toks 𝓤 A 1 (κ₁, tt) (q₁, tt))) ∷ ‵ (owns (MutRef (named 0) κ T.the-row ∷ i32 ∷ ShrSlice (named 1) κ₁ N.the-row ∷ []) (x, (z, (ys, tt))) at) ∷ []) ∵ enter ! 𝓒 Λ code.function (vptr (x .ptr .0) (x .ptr .1) ∷ zv ∷ sv ∷ []) _ $
+    walk : Is i32 z (zv ∷ []) → Room N.the-row (length (ys .now)) → ent 𝓤 (Walk .pre ghosts) (WpFn 𝓤 H 𝓒 Λ code.function (Walk .args ghosts) (Walk .post ghosts))
+    walk gz gn = needs 𝓤 (Made (x .now)) _ (λ made.
+        qed W ((‵ (flft κ q) ⊛ raw (toks 𝓤 A 1 (κ₁, tt) (q₁, tt))) ∷ ‵ (owns (MutRef (named 0) κ T.the-row ∷ i32 ∷ ShrSlice (named 1) κ₁ N.the-row ∷ []) (x, (z, (ys, tt))) at) ∷ []) ∵ enter ! 𝓒 Λ code.function (Walk .args ghosts) _ $
         alloc1 ! (λ l₀. alloc1 ! (λ l₁. alloc1 ! (λ l₂. alloc1 ! (λ l₃. alloc1 ! (λ l₄. alloc1 ! (λ l₅. alloc1 ! (λ l₆. alloc1 ! (λ l₇. alloc0 ! $ params1 ! $
         pass1 ! (init ! 12 refl (tt, tt)) $ pass1 ! (init ! 10 refl (sint-lawful 𝓤 H A W w32 .typed z _ gz .0)) $ pass1 ! (init ! 8 refl (tt, (tt, (record { fits = gn .0 }, tt)))) $ pass0 ! $
         assigns ! (of-opd ! (load ! (from ! (fld ! refl (stop !))) (look-in ! 8 (sub ! 1 refl (whole !))))) (from ! (stop !)) (init ! 6 refl (tt, record { fits = gn .0 })) $
@@ -84,12 +86,12 @@ module _ {M : Type 1} (𝓤 : URA M) (H : Heap 𝓤) (A : Atoms 𝓤) (W : Given
         (λ s p. forget ! 12 refl $ forget ! 14 refl $ forget ! 16 refl $ forget ! 18 refl $
         move ! (7 ∷ 21 ∷ []) $ free1 ! $ move ! (6 ∷ 19 ∷ []) $ free1 ! $ move ! (16 ∷ 17 ∷ []) $ free1 ! $ move ! (14 ∷ 15 ∷ []) $ free1 ! $ move ! (12 ∷ 13 ∷ []) $ free1 ! $ move ! (10 ∷ 11 ∷ []) $ free1 ! $ move ! (5 ∷ 9 ∷ []) $ free1 ! $ move ! (4 ∷ 7 ∷ []) $ free1 ! $ free0 ! $
         suffices ! _ (ends-at 𝓤 H A it.ended stayed (it.clauses 𝓤 H A at-mem run) W ghosts (verdictVal s) (s .verdict) (s .clock, (tt, (tt, tt))) (tt, (tt, (tt, tt)))) $ says ! (lent-post (x .now) z (ys .now) (verdictIn (s .verdict)) (s .clock) r e (p .0), p .1) $
-        move ! (2 ∷ 4 ∷ []) $ join ! $ frame ! $ keep ! (0 ∷ 1 ∷ []) $ nothing ! $ nothing ! $ fjoin ! $ nothing ! $ fjoin ! $ move ! (2 ∷ 0 ∷ []) $ fjoin ! $ frame ! $ done !)))))))))))
+        move ! (2 ∷ 4 ∷ []) $ join ! $ frame ! $ keep ! (0 ∷ 1 ∷ []) $ nothing ! $ nothing ! $ fjoin ! $ nothing ! $ fjoin ! $ move ! (2 ∷ 0 ∷ []) $ fjoin ! $ frame ! $ done !))))))))))))
 
   walks : Walks 𝓤 H A it.ended stayed (WpFn 𝓤 H 𝓒 Λ code.function) (it.clauses 𝓤 H A at-mem run)
   walks = walked 𝓤 H A it.ended stayed (it.clauses 𝓤 H A at-mem run) (WpFn 𝓤 H 𝓒 Λ code.function)
       (λ κs. (ptr-vals, (sint-vals w32, (slice-vals, tt)))) (λ κs. (mut-tells (named 0) (κs .0) T.the-row, (sint-tells w32, (shr-slice-tells (named 1) (κs .1 .0) N.the-row, tt))))
-      (λ κs qs bounds a g are. needs 𝓤 (Made (a .0 .now)) _ (λ made. walk (κs .0) (κs .1 .0) (qs .0) (qs .1 .0) (a .0) (a .1 .0) (a .1 .1 .0) made (are .1 .0) (are .1 .1 .0 .0 .1)))
+      (λ κs qs bounds a g are. walk (κs .0) (κs .1 .0) (qs .0) (qs .1 .0) (a .0) (a .1 .0) (a .1 .1 .0) (are .1 .0) (are .1 .1 .0 .0 .1))
 
 pub cuvalimodo-set-station-spec : {M : Type 1} → stated.statement M
 unfolding code.routine tablesOf
@@ -98,6 +100,6 @@ cuvalimodo-set-station-spec 𝓤 H 𝓜 𝓖 𝓡 =
     let W = givenOf 𝓤 H 𝓜 𝓖 in
     walks-meet 𝓤 H 𝓜 𝓖 𝓡 code.env it.ended stayed (it.clauses 𝓤 H A (𝓜 .mem) (𝓡 .run)) #it code.function (code.unfolded 𝓤 H 𝓜 𝓡)
     (goes-ref 𝓤 H A W 2 0 tt (plain (λ _. T.the-row)), (goes-dropped 𝓤 H A W 2 (plain (λ _. i32)) yes (λ κs x f. refl), (goes-dropped 𝓤 H A W 2 records yes (λ κs x f. refl), tt)))
-    (walks 𝓤 H A W (𝓜 .mem) (𝓡 .run) (tables 𝓤 H 𝓜 𝓡 code.env .C) (tables 𝓤 H 𝓜 𝓡 code.env .Λ) (fmOf 𝓤 H (W .laws) (tablesOf 𝓤 H 𝓜 (tables 𝓤 H 𝓜 𝓡 code.env)))
+    (λ fm. walks 𝓤 H A W (𝓜 .mem) (𝓡 .run) _ _ fm
     (cited 𝓤 H _ 𝓜 𝓡 code.env #rows rows-def.routine code.calls-station·records·rows-of (rows-thm.met 𝓤 H 𝓜 𝓖 𝓡))
     (cited 𝓤 H _ 𝓜 𝓡 code.env #inner inner-def.routine code.calls-cuvalimodo-c·byvalue·place-station (inner-thm.met 𝓤 H 𝓜 𝓖 𝓡)))
