@@ -7,7 +7,7 @@ use mathlib.Core.Path.{sym}
 use mir.Syntax.{Ty, Name, Step, Opd as Operand, Body, mut, tyRef, place, deref, field, copy, rvOpd, assign, call, seq, return}
 use base.Fml.{fsep, fat, froom, fobor, fobs, fauth}
 use prog.Wp.{Env, Spot, spotOf}
-use types.Kit.{Sq, Go, Goal, runs, lands, frees, prop, atRet}
+use types.Kit.{Sq, Go, runs, lands, frees, prop, atRet}
 use types.Run.{Finds, Walks}
 use types.SemTy.{Body as Held}
 use denote.Memory.{pointee, cellAt, mem}
