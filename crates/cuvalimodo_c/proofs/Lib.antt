@@ -1,1 +1,4 @@
 -- What the proofs of several functions use.
+pub mod Numbers
+pub mod Stored
+pub mod Walking
