@@ -31,6 +31,12 @@ pub struct Turnings {
     pub high: bool,
 }
 
+// The words of a refusal, with zeros behind them: a C string.
+#[repr(C)]
+pub struct Text {
+    pub text: [u8; 64],
+}
+
 // An answer in numbers.
 pub fn told(answer: Answer) -> Verdict
     ensures { λ r. ⌜ (verdictIn r ≡ outcomeOf answer) × Plain r ⌝ }

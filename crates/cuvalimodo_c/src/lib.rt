@@ -8,6 +8,7 @@
 ghost use mathlib.Core.Path.{_≡_};
 ghost use Rattle.card_file.specs.Cards.{cardsOutcome};
 ghost use Rattle.card_file.specs.Counts.{countsOf};
+ghost use Rattle.refusal_words.specs.Words.{wordsOf, bytesOf, zerosBehind};
 ghost use Rattle.clock.specs.View.{Made};
 ghost use Rattle.clock.specs.Posts.{NewPost, CardsPost, StationPost, DatePost, HeightPost, SeriesPost, TurnsPost};
 ghost use Rattle.cuvalimodo_c.specs.Answers.{verdictIn, readingIn, turningsIn, Plain, PlainReading, PlainTurnings};
@@ -16,9 +17,9 @@ mod answers; // what the calls say, in numbers
 mod byvalue; // the calls by value, in numbers
 
 use crate::answers::Reading;
+use crate::answers::Text;
 use crate::answers::Turnings;
 use crate::answers::Verdict;
-use crate::byvalue;
 use card_file::counts;
 use card_file::counts::Counts;
 use clock::Clock;
@@ -117,4 +118,13 @@ pub extern "C" fn cuvalimodo_turns(
     ensures { λ r. ⌜ TurnsPost (now (clock .entry)) first last (now (minutes .entry)) (now (minutes .exit)) (now (heights .entry)) (now (heights .exit)) (turningsIn r) × PlainTurnings r ⌝ }
 {
     byvalue::turns(*clock, first, last, minutes, heights)
+}
+
+// The words of the refusal that has a number; none for a number that no refusal has.
+#[no_mangle]
+pub extern "C" fn cuvalimodo_refusal_text(number: u32) -> Text
+    ensures { λ r. ⌜ r .text ≡ zerosBehind (bytesOf (wordsOf number)) ⌝ }
+{
+    let text = refusal_words::text_of(number);
+    Text { text }
 }

@@ -10,7 +10,6 @@ ghost use Rattle.station.specs.inner.Posts.{RecordsPost, StationPost};
 ghost use Rattle.station.specs.Records.{recordAt};
 
 pub mod records; // the lent row of records, taken apart
-pub mod recordarrays; // records in three arrays
 
 use crate::records::Rows;
 use limits::AMPLITUDE;
