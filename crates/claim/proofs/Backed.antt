@@ -161,6 +161,9 @@ held-date-there : (c c′ : Clock) (year month : ℕ) (r : Verdict) → DatePost
 held-date-there c c′ year month r p plain =
     Call.heldDates {κs = ([], tt)} {clock = lent c} {r = r} (record { bound = λ w. tt; contract = kept _ _ (p, plain) })
 
+lent-height-there : (c : Clock) (minute : ℕ) (answer : HeightAnswer) → HeightPost c minute (heightReturned answer) → Call c (Height minute) (predicted (heightReturned answer)) c
+lent-height-there c minute answer p = Call.lentHeights {κs = ([], tt)} {clock = lent c} {r = answer} (record { bound = λ w. tt; contract = kept _ _ p })
+
 held-height-there : (c : Clock) (minute : ℕ) (r : Reading) → HeightPost c minute (readingIn r) → PlainReading r → Call c (Height minute) (predicted (readingIn r)) c
 held-height-there c minute r p plain =
     Call.heldHeights {κs = ([], tt)} {clock = lent c} {r = r} (record { bound = λ w. tt; contract = kept _ _ (p, plain) })
@@ -190,6 +193,7 @@ each-kind c p =
     then held-height-there c 0 (readingOf (refused 21 0)) (no-height c p 0) refl
     then held-series-there c 0 1 (pos 5 ∷ []) (pos 5 ∷ []) (verdictOf (refused 21 0)) (no-series c p 0 1 (pos 5 ∷ [])) refl
     then held-turns-there c 0 1 (9 ∷ []) (9 ∷ []) (pos 5 ∷ []) (pos 5 ∷ []) (turningsOf (refused 21 0)) (no-turns c p 0 1 (9 ∷ []) (pos 5 ∷ [])) refl
+    then lent-height-there c 0 (height.Refused NoTable 0) (no-height c p 0)
     then placing-there c c (pos 0) 0 noRows (Refused NoTable 0) (no-station c p (pos 0) [])
     then names-there c (record { count = 0; bytes = [] }) (sym (ap namesIn (p .leaves)))
     then done
@@ -210,6 +214,7 @@ controls =
       held-cards = held-cards-there;
       held-station = held-station-there;
       held-date = held-date-there;
+      lent-height = lent-height-there;
       held-height = held-height-there;
       held-series = held-series-there;
       held-turns = held-turns-there;

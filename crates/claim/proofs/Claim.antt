@@ -147,6 +147,7 @@ call-agrees l h (Call.hands x) = ∥∥₁-map (holds (x .contract) (h .made)) (
 call-agrees l h (Call.heldLoads x) = ∥∥₁-map (holds (x .contract) (h .made)) (λ p. cards-follow l h (p .0))
 call-agrees l h (Call.heldStations x) = ∥∥₁-map (holds (x .contract) (h .made)) (λ p. station-follows l h (p .0))
 call-agrees l h (Call.heldDates x) = ∥∥₁-map (holds (x .contract) (h .made)) (λ p. date-follows l h (p .0))
+call-agrees l h (Call.lentHeights x) = ∥∥₁-map (holds (x .contract) (h .made)) (height-follows l h)
 call-agrees l h (Call.heldHeights x) = ∥∥₁-map (holds (x .contract) (h .made)) (λ p. height-follows l h (p .0))
 call-agrees l h (Call.heldSerieses x) = ∥∥₁-map (holds (x .contract) (h .made)) (λ p. series-follows l h (p .0))
 call-agrees l h (Call.heldSearches x) = ∥∥₁-map (holds (x .contract) (h .made)) (λ p. turns-follow l h (p .0))

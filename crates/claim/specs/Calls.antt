@@ -39,6 +39,7 @@ use Rattle.clock.proofs.set_station as station
 use Rattle.clock.proofs.place_station as placing
 use Rattle.clock.proofs.set_date as date
 use Rattle.clock.proofs.height as height
+use Rattle.clock.proofs.height_lent as heightLent
 use Rattle.clock.proofs.series as series
 use Rattle.clock.proofs.turns as turns
 use Rattle.clock.proofs.names as names
@@ -115,6 +116,9 @@ pub data Call : Clock → Request → Gave → Clock → Type 2 where
   heldDates : {κs : Lfts 1} {clock : RefT Clock} {year month : ℕ} {r : Verdict} {left : Clock}
       → Once heldDate.ended (λ M. heldDate.clauses) κs (clock, (year, (month, tt))) r (left, (tt, (tt, tt)))
       → Call (now clock) (Date year month) (told (verdictIn r)) left
+  lentHeights : {κs : Lfts 1} {clock : RefT Clock} {minute : ℕ} {r : HeightAnswer}
+      → Once heightLent.ended (λ M. heightLent.clauses) κs (clock, (minute, tt)) r (tt, (tt, tt))
+      → Call (now clock) (Height minute) (predicted (heightReturned r)) (now clock)
   heldHeights : {κs : Lfts 1} {clock : RefT Clock} {minute : ℕ} {r : Reading}
       → Once heldHeight.ended (λ M. heldHeight.clauses) κs (clock, (minute, tt)) r (tt, (tt, tt))
       → Call (now clock) (Height minute) (predicted (readingIn r)) (now clock)

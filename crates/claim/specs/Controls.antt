@@ -38,13 +38,13 @@ refusals =
     ∷ wrote (record { returned = refused 21 0; heights = pos 5 ∷ [] })
     ∷ found (record { returned = refused 21 0; minutes = 9 ∷ []; heights = pos 5 ∷ [] }) ∷ []
 
--- a list with each kind of call in it: a call of 01 with the clock by value, and with the clock lent; a station whose records are in arrays;
--- and the names, of which there are none
+-- a list with each kind of call in it: a call of 01 with the clock by value, and with the clock lent; a height of `clock::height_lent`, a
+-- station whose records are in arrays, and the names, of which there are none
 abbrev pub eachKind : List Request
-eachKind = each ++ each ++ Station (pos 0) [] ∷ Names ∷ []
+eachKind = each ++ each ++ Height 0 ∷ Station (pos 0) [] ∷ Names ∷ []
 
 abbrev pub eachRefused : List Gave
-eachRefused = refusals ++ refusals ++ told (refused 21 0) ∷ named [] ∷ []
+eachRefused = refusals ++ refusals ++ predicted (refused 21 0) ∷ told (refused 21 0) ∷ named [] ∷ []
 
 pub record Controls : Type 2 where
   pub new : (c : Clock) → NewPost c → New c
@@ -66,6 +66,7 @@ pub record Controls : Type 2 where
   pub held-station : (c c′ : Clock) (latitude : ℤ) (records : List Record) (r : Verdict) → StationPost c latitude records (verdictIn r) c′ → Plain r
       → Call c (Station latitude records) (told (verdictIn r)) c′
   pub held-date : (c c′ : Clock) (year month : ℕ) (r : Verdict) → DatePost c year month (verdictIn r) c′ → Plain r → Call c (Date year month) (told (verdictIn r)) c′
+  pub lent-height : (c : Clock) (minute : ℕ) (answer : HeightAnswer) → HeightPost c minute (heightReturned answer) → Call c (Height minute) (predicted (heightReturned answer)) c
   pub held-height : (c : Clock) (minute : ℕ) (r : Reading) → HeightPost c minute (readingIn r) → PlainReading r → Call c (Height minute) (predicted (readingIn r)) c
   pub held-series : (c : Clock) (start step : ℕ) (hs hs′ : List ℤ) (r : Verdict) → SeriesPost c start step hs hs′ (verdictIn r) → Plain r
       → Call c (Series start step hs) (wrote (record { returned = verdictIn r; heights = hs′ })) c
