@@ -21,9 +21,7 @@ use denote.Struct.Laws as LL
 use Rattle.clock.specs.declared.Clock.{Clock}
 use Rattle.clock.proofs.Clock as T
 use Rattle.clock.proofs.Clock.Laws as T′
-
-abbrev pub clockVal : Clock → Val
-clockVal = LL.val T.the-type T′.the-laws
+use Rattle.cuvalimodo_c.proofs.Stored.{clockVal}
 
 abbrev refTy : Ty
 refTy = tyRef (named 0) imm (pointee (T.the-row .written))

@@ -17,7 +17,8 @@ use Rattle.clock.specs.Posts.{SeriesPost}
 use Rattle.clock.proofs.Clock as T
 use Rattle.cuvalimodo_c.specs.declared.answers.Verdict.{Verdict}
 use Rattle.cuvalimodo_c.specs.Answers.{verdictIn, Plain}
-use Rattle.cuvalimodo_c.proofs.Copied.{clockVal, Own, copied}
+use Rattle.cuvalimodo_c.proofs.Stored.{clockVal}
+use Rattle.cuvalimodo_c.proofs.Copied.{Own, copied}
 use Rattle.cuvalimodo_c.proofs.answers.Verdict as R
 use Rattle.cuvalimodo_c.proofs.answers.Verdict.Laws as R′
 use Rattle.cuvalimodo_c.proofs.byvalue.series as inner

@@ -20,8 +20,9 @@ returns c = rw (c .before .answer .given .1) (refl, refl)
 
 returns-2 : tie.Need-returns-2
 returns-2 c =
-    let g = c .before .before .answer2 .given in
-    rw (g .1, c .number-of .ensures) (refusal-read (g .0 .0) (g .0 .1 .0) _, ap turningsOf (sym (refusal-read (g .0 .0) (g .0 .1 .0) _)))
+    let answer = c .before .before .answer2 .given in
+    let read = refusal-read (answer .0 .0) (answer .0 .1 .0) _ in
+    rw (answer .1, c .number-of .ensures) (read, ap turningsOf (sym read))
 
 pub told-turns-spec : {M : Type 1} → statement M
 told-turns-spec =
