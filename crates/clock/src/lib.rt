@@ -285,22 +285,22 @@ pub fn height(clock: Clock, minute: u32) -> HeightAnswer
 
 // The height of a lent clock, read where it lies: nothing of it is copied but five numbers.
 // (The thin function over the lent struct: its proof is a walk by hand.)
-pub fn height_lent(clock: &Clock, minute: u32) -> HeightAnswer
-    requires { ⌜ Made (now clock) ⌝ }
-    ensures { λ r. ⌜ HeightPost (now (clock .entry)) minute (heightReturned r) ⌝ }
+pub fn height_lent(lent: &Clock, minute: u32) -> HeightAnswer
+    requires { ⌜ Made (now lent) ⌝ }
+    ensures { λ r. ⌜ HeightPost (now (lent .entry)) minute (heightReturned r) ⌝ }
 {
     height_from(
-        &clock.cosines,
-        &clock.arguments,
-        &clock.lags,
-        &clock.frequencies,
-        &clock.ps,
-        &clock.qs,
-        clock.tabled,
-        clock.stationed,
-        clock.dated,
-        clock.last,
-        clock.count,
+        &lent.cosines,
+        &lent.arguments,
+        &lent.lags,
+        &lent.frequencies,
+        &lent.ps,
+        &lent.qs,
+        lent.tabled,
+        lent.stationed,
+        lent.dated,
+        lent.last,
+        lent.count,
         minute,
     )
 }
