@@ -1,5 +1,5 @@
 -- `cuvalimodo_height` meets its contract: a walk of its MIR. The reference goes on to `clock::height_lent` (`PassedOn`), and the answer to `told_height`. Assumes nothing.
-use Rattle.cuvalimodo_c.proofs.Walking.{_≡_, refl, subst, ℕ, _<_, _^_, [], _∷_, URA, named, w32, vint, vptr, SProp, ent, emp, id⊢, Lft, Share, Memory, Routine, Heap, Calls, Loops, WpFn, Atoms, Fun, factI, givenOf, tables, tablesOf, fmOf, Given, ‵, raw, _$_, _∵_, !, qed, move, keep, use0, fjoin, suffices, frame, done, look, init, forget, stop, from, load, and-then, no-more, land, returns, enter, alloc1, alloc0, params1, pass1, pass0, free1, free0, FmC, owns, Is, shows, uint-vals, uint-tells, u32, RefT, ptr-vals, peeks, nothing, Vals, onEntry, Triple, cited, says, needs, Stays, walkOf, Walks, ends-at, walked, Met, asks, walks-meet}
+use Rattle.cuvalimodo_c.proofs.Walking.{_≡_, refl, subst, ℕ, _<_, _^_, [], _∷_, URA, named, w32, vint, SProp, ent, emp, id⊢, Lft, Share, Memory, Routine, Heap, Calls, Loops, WpFn, Atoms, Fun, factI, givenOf, tablesOf, Given, ‵, raw, _$_, _∵_, !, qed, move, keep, use0, fjoin, suffices, frame, done, look, init, forget, stop, from, load, and-then, no-more, land, returns, enter, alloc1, alloc0, params1, pass1, pass0, free1, free0, FmC, owns, Is, shows, uint-vals, uint-tells, u32, RefT, ptr-vals, peeks, nothing, Vals, Contract, Triple, cited, says, needs, Stays, walkOf, Walks, ends-at, walked, Met, asks, walks-meet}
 use mathlib.Core.Path.{sym}
 use contract.Lifetimes.{toks}
 use denote.Ref.{ShrRef, shr-tells}
@@ -43,17 +43,19 @@ Told r d = (readingIn d ≡ heightReturned r) × PlainReading d
 
 module _ {M : Type 1} (𝓤 : URA M) (H : Heap 𝓤) (A : Atoms 𝓤) (W : Given 𝓤 H A) (at-mem : Memory → SProp 𝓤) (run : Routine → Fun 𝓤) (𝓒 : Calls 𝓤 H) (Λ : Loops 𝓤 H) (fm : FmC 𝓤 H (W .laws) 𝓒)
     (known-first : Triple 𝓤 (𝓒 #first) (Met 𝓤 H A first.ended (first.clauses 𝓤 H A at-mem run))) (known-then : Triple 𝓤 (𝓒 #then) (Met 𝓤 H A then.ended (then.clauses 𝓤 H A at-mem run))) where
+  abbrev Walk : Contract 𝓤
+  Walk = walkOf 𝓤 H A it.ended stayed (it.clauses 𝓤 H A at-mem run)
+
   module _ (κ : Lft) (q : Share) (x : RefT Clock) (m : ℕ) where
     abbrev at : Vals it.signature (κ, tt)
     at = (ptr-vals x, (vint w32 m ∷ [], tt))
 
-    abbrev ghosts : walkOf 𝓤 H A it.ended stayed (it.clauses 𝓤 H A at-mem run) .Ghost
+    abbrev ghosts : Walk .Ghost
     ghosts = (((κ, tt), (q, tt), tt, (x, (m, tt)), at), tt)
 
-    walk : Made (x .now) → m < 2 ^ 32
-        → ent 𝓤 (onEntry 𝓤 H A it.signature (κ, tt) (q, tt) (x, (m, tt)) at) (WpFn 𝓤 H 𝓒 Λ code.function (vptr (x .ptr .0) (x .ptr .1) ∷ vint w32 m ∷ []) (walkOf 𝓤 H A it.ended stayed (it.clauses 𝓤 H A at-mem run) .post ghosts))
-    walk made gm =
-        qed W (raw (toks 𝓤 A 1 (κ, tt) (q, tt)) ∷ ‵ (owns (ShrRef (named 0) κ T.the-row ∷ u32 ∷ []) (x, (m, tt)) at) ∷ []) ∵ enter ! 𝓒 Λ code.function (vptr (x .ptr .0) (x .ptr .1) ∷ vint w32 m ∷ []) _ $
+    walk : m < 2 ^ 32 → ent 𝓤 (Walk .pre ghosts) (WpFn 𝓤 H 𝓒 Λ code.function (Walk .args ghosts) (Walk .post ghosts))
+    walk gm = needs 𝓤 (Made (x .now)) _ (λ made.
+        qed W (raw (toks 𝓤 A 1 (κ, tt) (q, tt)) ∷ ‵ (owns (ShrRef (named 0) κ T.the-row ∷ u32 ∷ []) (x, (m, tt)) at) ∷ []) ∵ enter ! 𝓒 Λ code.function (Walk .args ghosts) _ $
         alloc1 ! (λ l₀. alloc1 ! (λ l₁. alloc1 ! (λ l₂. alloc1 ! (λ l₃. alloc0 ! $ params1 ! $
         pass1 ! (init ! 4 refl (tt, tt)) $ pass1 ! (init ! 2 refl (tt, record { fits = gm })) $ pass0 ! $ move ! (8 ∷ 9 ∷ []) $
         asks 𝓤 H A first.ended (first.clauses 𝓤 H A at-mem run) W ((κ, tt), (q, tt), tt, (x, (m, tt)), at) tt (λ r ws. Found (x .now) m r) (factI 𝓤 (Made (x .now)) (emp 𝓤) made) (λ r ws. id⊢ 𝓤 _) fm known-first
@@ -70,12 +72,12 @@ module _ {M : Type 1} (𝓤 : URA M) (H : Heap 𝓤) (A : Atoms 𝓤) (W : Given
         returns ! (look ! 11 refl) $ forget ! 5 refl $ forget ! 7 refl $ forget ! 9 refl $ forget ! 11 refl $
         move ! (11 ∷ 12 ∷ []) $ free1 ! $ move ! (9 ∷ 10 ∷ []) $ free1 ! $ move ! (7 ∷ 8 ∷ []) $ free1 ! $ move ! (5 ∷ 6 ∷ []) $ free1 ! $ free0 ! $
         suffices ! _ (ends-at 𝓤 H A it.ended stayed (it.clauses 𝓤 H A at-mem run) W ghosts u d ws (tt, (tt, tt))) $ says ! (subst (HeightPost (x .now) m) (sym (e .0)) p, e .1) $
-        keep ! (3 ∷ 4 ∷ 0 ∷ []) $ frame ! $ frame ! $ done !))))))))
+        keep ! (3 ∷ 4 ∷ 0 ∷ []) $ frame ! $ frame ! $ done !)))))))))
 
   walks : Walks 𝓤 H A it.ended stayed (WpFn 𝓤 H 𝓒 Λ code.function) (it.clauses 𝓤 H A at-mem run)
   walks = walked 𝓤 H A it.ended stayed (it.clauses 𝓤 H A at-mem run) (WpFn 𝓤 H 𝓒 Λ code.function)
       (λ κs. (ptr-vals, (uint-vals w32, tt))) (λ κs. (shr-tells (named 0) (κs .0) T.the-row, (uint-tells w32, tt)))
-      (λ κs qs bounds a g are. needs 𝓤 (Made (a .0 .now)) _ (λ made. walk (κs .0) (qs .0) (a .0) (a .1 .0) made (are .1 .0 .1)))
+      (λ κs qs bounds a g are. walk (κs .0) (qs .0) (a .0) (a .1 .0) (are .1 .0 .1))
 
 pub cuvalimodo-height-spec : {M : Type 1} → stated.statement M
 unfolding code.routine tablesOf
@@ -84,6 +86,6 @@ cuvalimodo-height-spec 𝓤 H 𝓜 𝓖 𝓡 =
     let W = givenOf 𝓤 H 𝓜 𝓖 in
     walks-meet 𝓤 H 𝓜 𝓖 𝓡 code.env it.ended stayed (it.clauses 𝓤 H A (𝓜 .mem) (𝓡 .run)) #it code.function (code.unfolded 𝓤 H 𝓜 𝓡)
     (all-go 𝓤 H A W 1 (it.ended .signature .params) (it.ended .kept))
-    (walks 𝓤 H A W (𝓜 .mem) (𝓡 .run) (tables 𝓤 H 𝓜 𝓡 code.env .C) (tables 𝓤 H 𝓜 𝓡 code.env .Λ) (fmOf 𝓤 H (W .laws) (tablesOf 𝓤 H 𝓜 (tables 𝓤 H 𝓜 𝓡 code.env)))
+    (λ fm. walks 𝓤 H A W (𝓜 .mem) (𝓡 .run) _ _ fm
     (cited 𝓤 H _ 𝓜 𝓡 code.env #first first-def.routine code.calls-clock·height-lent (first-thm.met 𝓤 H 𝓜 𝓖 𝓡))
     (cited 𝓤 H _ 𝓜 𝓡 code.env #then then-def.routine code.calls-cuvalimodo-c·answers·told-height (then-thm.met 𝓤 H 𝓜 𝓖 𝓡)))
