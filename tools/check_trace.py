@@ -49,7 +49,7 @@ def marked(piece):
 
 def is_declared(name, crate, pattern):
     """Whether a crate's files of a pattern declare a name: a function or type of the code, or what has a type in the proof language."""
-    code = r"^\s*(?:pub )?(?:fn|struct|enum|const) %s\b"
+    code = r'^\s*(?:pub )?(?:extern "C" )?(?:fn|struct|enum|const) %s\b'
     proof = r"^\s*(?:(?:pub|abbrev|unfoldable|data|record) )*%s(?: [({].*)? :"
     said = (code if pattern.endswith(".rt") else proof) % re.escape(name)
     return re.search(said, check_names.text_of(crate, pattern), re.M) is not None
