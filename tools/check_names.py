@@ -39,7 +39,7 @@ def is_file(path):
 
 def is_said(name, crate, patterns=("src/**/*.rt", "specs/**/*.antt", "proofs/**/*.antt")):
     """Whether a crate's files of some patterns have a line that begins with a name, behind the words of a declaration."""
-    begins = re.compile(r"^\s*(?:(?!use\b|//|--)[\w<>'("]+ )*%s(?![\w-])" % re.escape(name), re.M)
+    begins = re.compile(r"^\s*(?:(?!use\b|//|--)[\w<>'(\"]+ )*%s(?![\w-])" % re.escape(name), re.M)
     return any(begins.search(text_of(crate, pattern)) for pattern in patterns)
 
 
