@@ -36,7 +36,7 @@ use Rattle.claim_runs.specs.Values.{clockIn, answerIn, turnsIn}
 use Rattle.claim_runs.specs.Runs.{Run, loads, stations, placed, dates, heights, serieses, searches, hands, Gives, Started, Runs, done, _then_, GiveAll}
 use Rattle.claim_runs.specs.OnMachine.{OfAnyRuns, Returns, EveryCallEnds, AlwaysEnds}
 use Rattle.claim_runs.proofs.Handing.{Came, comes, every-comes}
-use Rattle.claim_runs.proofs.Parameters.{clock-makes, Callable, new-takes, load-call, station-call, placing-call, date-call, height-call, series-call, turns-call, names-call}
+use Rattle.claim_runs.proofs.Parameters.{Callable, new-takes, load-call, station-call, placing-call, date-call, height-call, series-call, turns-call, names-call}
 use Rattle.claim_runs.proofs.Loads.{heights-left, turns-left}
 use Rattle.claim_runs.proofs.Values.{answer-reads, height-reads, turns-reads, names-read, after-reads, clock-is}
 
@@ -52,10 +52,10 @@ asked h = factI (w₀ .𝓤) (Made (h .clock)) (emp (w₀ .𝓤)) (h .agrees .ma
 
 module _ {vc : Val} (l : Last) (h : Holds vc l) where
   -- a run of a function of the clock on this value
-  ran : {f : Routine} {hs : List Handed} (t : Callable (h .clock) vc f hs) (x : Ran f (vc ∷ []) hs)
-      → ∥ Came (t .ended) (t .clauses) (value ClockType.the-row (h .clock) vc ∷ hs) (t .takes) (x .value) (x .left) (x .rest) ∥₁
+  ran : {f : Routine} {hs : List Handed} (t : Callable (h .clock) f (value ClockType.the-row (h .clock) vc ∷ hs)) (x : Ran f (vc ∷ []) hs)
+      → ∥ Came (t .ended) (t .clauses) (value ClockType.the-row (h .clock) vc ∷ hs) (t .meant) (t .takes) (x .value) (x .left) (x .rest) ∥₁
   ran {f} {hs} t x =
-      every-comes (t .ended) (t .clauses) (value ClockType.the-row (h .clock) vc ∷ hs) (t .takes) f (t .met) (clock-makes, t .makes) (asked h) (h .is, x .fit) (x .before) (x .rest) (x .lent)
+      every-comes (t .ended) (t .clauses) (value ClockType.the-row (h .clock) vc ∷ hs) (t .meant) (t .takes) f (t .met) (t .makes) (asked h) (h .is, x .fit) (x .before) (x .rest) (x .lent)
       (x .routine) (x .below) (x .value) (x .left) (x .run)
 
   -- what a call gives is what the document gives; it leaves another clock, in what it returns, or the one that it got
@@ -108,9 +108,9 @@ module _ {vc : Val} (l : Last) (h : Holds vc l) where
       ∥∥₁-map (left-same (call.hands (k .once))) (λ a. ((k .leaves, a .0 ∙ ap named (sym (names-read (k .result) (x .value) (k .is)))), a .1)))
 
   -- a routine on this value returns
-  ends-on : {f : Routine} {hs : List Handed} → Callable (h .clock) vc f hs → Returns f (vc ∷ []) hs
+  ends-on : {f : Routine} {hs : List Handed} → Callable (h .clock) f (value ClockType.the-row (h .clock) vc ∷ hs) → Returns f (vc ∷ []) hs
   ends-on {f} {hs} t fit σ F s =
-      ∥∥₁-map (comes (t .ended) (t .clauses) (value ClockType.the-row (h .clock) vc ∷ hs) (t .takes) f (t .met) (clock-makes, t .makes) (asked h) (h .is, fit) σ F s) (λ k.
+      ∥∥₁-map (comes (t .ended) (t .clauses) (value ClockType.the-row (h .clock) vc ∷ hs) (t .meant) (t .takes) f (t .met) (t .makes) (asked h) (h .is, fit) σ F s) (λ k.
       (k .0, k .1, k .2))
 
   every-call-ends : EveryCallEnds vc
@@ -161,7 +161,7 @@ new-holds : {vc : Val} → Started vc → ∥ Holds vc nothing ∥₁
 unfolding new-takes
 new-holds {vc} s =
     let x : Ran newCode.routine [] [] = s .ran in
-    ∥∥₁-elim (every-comes new.ended (λ M. new.clauses) [] new-takes newCode.routine (λ M. newMet.met) tt (top (w₀ .𝓤) (emp (w₀ .𝓤))) tt (x .before) (x .rest) (x .lent) (x .routine) (x .below) (x .value) (x .left) (x .run)) ∥∥₁-prop (λ k.
+    ∥∥₁-elim (every-comes new.ended (λ M. new.clauses) [] tt new-takes newCode.routine (λ M. newMet.met) tt (top (w₀ .𝓤) (emp (w₀ .𝓤))) tt (x .before) (x .rest) (x .lent) (x .routine) (x .below) (x .value) (x .left) (x .run)) ∥∥₁-prop (λ k.
     ∥∥₁-map (new-agrees (call.news (k .once))) (λ a.
     record { clock = k .result; is = subst (λ (v : Val). Is ClockType.the-row (k .result) (v ∷ [])) (s .value-is) (k .is); agrees = a }))
 
@@ -172,6 +172,6 @@ on-machine vc vc′ qs started xs =
 pub always-ends : AlwaysEnds
 always-ends =
     record {
-      new = λ fit σ F s. ∥∥₁-map (comes new.ended (λ M. new.clauses) [] new-takes newCode.routine (λ M. newMet.met) tt (top (w₀ .𝓤) (emp (w₀ .𝓤))) tt σ F s) (λ k. (k .0, k .1, k .2));
+      new = λ fit σ F s. ∥∥₁-map (comes new.ended (λ M. new.clauses) [] tt new-takes newCode.routine (λ M. newMet.met) tt (top (w₀ .𝓤) (emp (w₀ .𝓤))) tt σ F s) (λ k. (k .0, k .1, k .2));
       then = λ vc vc′ qs started xs. ∥∥₁-elim (new-holds started) ∥∥₁-prop (λ h. ∥∥₁-map (runs-give nothing h xs) (λ k. every-call-ends (lastAfter nothing qs) (k .1)));
     }

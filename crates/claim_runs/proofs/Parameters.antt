@@ -52,7 +52,7 @@ use Rattle.clock.proofs.names.Met as namesMet
 use Rattle.claim.specs.Calls.{ClausesOf, clausesAt}
 use Rattle.claim_runs.specs.Handed.{Assertion, Handed, value, reads, writes}
 use Rattle.claim_runs.proofs.Lending as had
-use Rattle.claim_runs.proofs.Lending.{lifetimes, wholes, denotes, valuesOf}
+use Rattle.claim_runs.proofs.Lending.{Meant, lifetimes, wholes, denotes, valuesOf}
 use Rattle.claim_runs.proofs.Ran.{Theorem}
 use Rattle.claim_runs.proofs.Handing.{W₀, Takes}
 
@@ -73,14 +73,15 @@ usize-makes = uint-makes (w₀ .𝓤) (w₀ .H) (w₀ .𝓖 .A) W₀ w64
 pub i32-makes : Makes (w₀ .𝓤) (w₀ .H) (w₀ .𝓖 .A) i32 (Is i32)
 i32-makes = sint-makes (w₀ .𝓤) (w₀ .H) (w₀ .𝓖 .A) W₀ w32
 
--- A function of the clock and its routine f, which is handed the clock c, with the machine's value vc, and what else there is: it meets its
--- contract, and asks for a clock that a call made.
-pub record Callable (c : Clock) (vc : Val) (f : Routine) (hs : List Handed) : Type 2 where
+-- A function of the clock and its routine f, which is handed the clock c, in one way or another, and what else there is: it meets its contract,
+-- and asks for a clock that a call made.
+pub record Callable (c : Clock) (f : Routine) (hs : List Handed) : Type 2 where
   pub ended : Ended
   pub clauses : ClausesOf ended
   pub met : Theorem ended clauses f
+  pub meant : Meant hs
   pub makes : had.Made (w₀ .𝓤) (w₀ .H) (w₀ .𝓖 .A) hs
-  pub takes : Takes ended clauses (value ClockType.the-row c vc ∷ hs) (fact (w₀ .𝓤) (Made c))
+  pub takes : Takes ended clauses hs meant (fact (w₀ .𝓤) (Made c))
 
 -- ---- each function
 
@@ -88,97 +89,105 @@ pub record Callable (c : Clock) (vc : Val) (f : Routine) (hs : List Handed) : Ty
 abbrev pub new-asks : Assertion
 new-asks = clausesAt new.ended (λ M. new.clauses) tt tt w₀ .requires tt
 
-unfoldable pub new-takes : Takes new.ended (λ M. new.clauses) [] new-asks
+unfoldable pub new-takes : Takes new.ended (λ M. new.clauses) [] tt new-asks
 new-takes = record { enters = λ ns. ((tt, tt, tt, tt, tt), (λ w. tt), refl, refl, refl); writes = λ ns ws. (tt, refl) }
 
 module _ (c : Clock) (vc : Val) where
   abbrev clock : Handed
   clock = value ClockType.the-row c vc
 
-  unfoldable pub load-call : (file : List ℕ) (q : Share) (b o : ℕ) → Callable c vc loadCode.routine (reads u8 q file b o ∷ [])
+  unfoldable pub load-call : (file : List ℕ) (q : Share) (b o : ℕ) → Callable c loadCode.routine (clock ∷ reads u8 q file b o ∷ [])
   load-call file q b o =
       let all : List Handed = clock ∷ reads u8 q file b o ∷ [] in
       record {
         ended = load.ended;
         clauses = λ M. load.clauses;
         met = λ M. loadMet.met;
-        makes = tt;
-        takes = record { enters = λ ns. ((lifetimes all ns, wholes all, tt, denotes 0 all ns, valuesOf 0 all ns), (λ w. tt), refl, refl, refl); writes = λ ns ws. (tt, refl) };
+        meant = tt;
+        makes = (clock-makes, tt);
+        takes = record { enters = λ ns. ((lifetimes all ns, wholes all, tt, denotes 0 all tt ns, valuesOf 0 all ns), (λ w. tt), refl, refl, refl); writes = λ ns ws. (tt, refl) };
       }
 
-  unfoldable pub station-call : (latitude : ℤ) (vl : Val) (records : List Record) (q : Share) (b o : ℕ) → Callable c vc stationCode.routine (value i32 latitude vl ∷ reads RecordType.the-row q records b o ∷ [])
+  unfoldable pub station-call : (latitude : ℤ) (vl : Val) (records : List Record) (q : Share) (b o : ℕ) → Callable c stationCode.routine (clock ∷ value i32 latitude vl ∷ reads RecordType.the-row q records b o ∷ [])
   station-call latitude vl records q b o =
       let all : List Handed = clock ∷ value i32 latitude vl ∷ reads RecordType.the-row q records b o ∷ [] in
       record {
         ended = station.ended;
         clauses = λ M. station.clauses;
         met = λ M. stationMet.met;
-        makes = (i32-makes, tt);
-        takes = record { enters = λ ns. ((lifetimes all ns, wholes all, tt, denotes 0 all ns, valuesOf 0 all ns), (λ w. tt), refl, refl, refl); writes = λ ns ws. (tt, refl) };
+        meant = tt;
+        makes = (clock-makes, (i32-makes, tt));
+        takes = record { enters = λ ns. ((lifetimes all ns, wholes all, tt, denotes 0 all tt ns, valuesOf 0 all ns), (λ w. tt), refl, refl, refl); writes = λ ns ws. (tt, refl) };
       }
 
-  unfoldable pub placing-call : (latitude : ℤ) (n : ℕ) (rows : Rows) (vl vn vr : Val) → Callable c vc placingCode.routine (value i32 latitude vl ∷ value usize n vn ∷ value RowsType.the-row rows vr ∷ [])
+  unfoldable pub placing-call : (latitude : ℤ) (n : ℕ) (rows : Rows) (vl vn vr : Val) → Callable c placingCode.routine (clock ∷ value i32 latitude vl ∷ value usize n vn ∷ value RowsType.the-row rows vr ∷ [])
   placing-call latitude n rows vl vn vr =
       let all : List Handed = clock ∷ value i32 latitude vl ∷ value usize n vn ∷ value RowsType.the-row rows vr ∷ [] in
       record {
         ended = placing.ended;
         clauses = λ M. placing.clauses;
         met = λ M. placingMet.met;
-        makes = (i32-makes, (usize-makes, (rows-make, tt)));
-        takes = record { enters = λ ns. ((lifetimes all ns, wholes all, tt, denotes 0 all ns, valuesOf 0 all ns), (λ w. tt), refl, refl, refl); writes = λ ns ws. (tt, refl) };
+        meant = tt;
+        makes = (clock-makes, (i32-makes, (usize-makes, (rows-make, tt))));
+        takes = record { enters = λ ns. ((lifetimes all ns, wholes all, tt, denotes 0 all tt ns, valuesOf 0 all ns), (λ w. tt), refl, refl, refl); writes = λ ns ws. (tt, refl) };
       }
 
-  unfoldable pub date-call : (year month : ℕ) (vy vm : Val) → Callable c vc dateCode.routine (value u32 year vy ∷ value u32 month vm ∷ [])
+  unfoldable pub date-call : (year month : ℕ) (vy vm : Val) → Callable c dateCode.routine (clock ∷ value u32 year vy ∷ value u32 month vm ∷ [])
   date-call year month vy vm =
       let all : List Handed = clock ∷ value u32 year vy ∷ value u32 month vm ∷ [] in
       record {
         ended = date.ended;
         clauses = λ M. date.clauses;
         met = λ M. dateMet.met;
-        makes = (u32-makes, (u32-makes, tt));
-        takes = record { enters = λ ns. ((lifetimes all ns, wholes all, tt, denotes 0 all ns, valuesOf 0 all ns), (λ w. tt), refl, refl, refl); writes = λ ns ws. (tt, refl) };
+        meant = tt;
+        makes = (clock-makes, (u32-makes, (u32-makes, tt)));
+        takes = record { enters = λ ns. ((lifetimes all ns, wholes all, tt, denotes 0 all tt ns, valuesOf 0 all ns), (λ w. tt), refl, refl, refl); writes = λ ns ws. (tt, refl) };
       }
 
-  unfoldable pub height-call : (minute : ℕ) (vm : Val) → Callable c vc heightCode.routine (value u32 minute vm ∷ [])
+  unfoldable pub height-call : (minute : ℕ) (vm : Val) → Callable c heightCode.routine (clock ∷ value u32 minute vm ∷ [])
   height-call minute vm =
       let all : List Handed = clock ∷ value u32 minute vm ∷ [] in
       record {
         ended = height.ended;
         clauses = λ M. height.clauses;
         met = λ M. heightMet.met;
-        makes = (u32-makes, tt);
-        takes = record { enters = λ ns. ((lifetimes all ns, wholes all, tt, denotes 0 all ns, valuesOf 0 all ns), (λ w. tt), refl, refl, refl); writes = λ ns ws. (tt, refl) };
+        meant = tt;
+        makes = (clock-makes, (u32-makes, tt));
+        takes = record { enters = λ ns. ((lifetimes all ns, wholes all, tt, denotes 0 all tt ns, valuesOf 0 all ns), (λ w. tt), refl, refl, refl); writes = λ ns ws. (tt, refl) };
       }
 
-  unfoldable pub series-call : (start step : ℕ) (vs vt : Val) (hs : List ℤ) (b o : ℕ) → Callable c vc seriesCode.routine (value u32 start vs ∷ value u32 step vt ∷ writes i64 hs b o ∷ [])
+  unfoldable pub series-call : (start step : ℕ) (vs vt : Val) (hs : List ℤ) (b o : ℕ) → Callable c seriesCode.routine (clock ∷ value u32 start vs ∷ value u32 step vt ∷ writes i64 hs b o ∷ [])
   series-call start step vs vt hs b o =
       let all : List Handed = clock ∷ value u32 start vs ∷ value u32 step vt ∷ writes i64 hs b o ∷ [] in
       record {
         ended = series.ended;
         clauses = λ M. series.clauses;
         met = λ M. seriesMet.met;
-        makes = (u32-makes, (u32-makes, tt));
-        takes = record { enters = λ ns. ((lifetimes all ns, wholes all, tt, denotes 0 all ns, valuesOf 0 all ns), (λ w. tt), refl, refl, refl); writes = λ ns ws. ((ws .1 .1 .1 .0, tt), refl) };
+        meant = tt;
+        makes = (clock-makes, (u32-makes, (u32-makes, tt)));
+        takes = record { enters = λ ns. ((lifetimes all ns, wholes all, tt, denotes 0 all tt ns, valuesOf 0 all ns), (λ w. tt), refl, refl, refl); writes = λ ns ws. ((ws .1 .1 .1 .0, tt), refl) };
       }
 
-  unfoldable pub turns-call : (first last : ℕ) (vf vl : Val) (ms : List ℕ) (b o : ℕ) (hs : List ℤ) (b₁ o₁ : ℕ) → Callable c vc turnsCode.routine (value u32 first vf ∷ value u32 last vl ∷ writes u32 ms b o ∷ writes i64 hs b₁ o₁ ∷ [])
+  unfoldable pub turns-call : (first last : ℕ) (vf vl : Val) (ms : List ℕ) (b o : ℕ) (hs : List ℤ) (b₁ o₁ : ℕ) → Callable c turnsCode.routine (clock ∷ value u32 first vf ∷ value u32 last vl ∷ writes u32 ms b o ∷ writes i64 hs b₁ o₁ ∷ [])
   turns-call first last vf vl ms b o hs b₁ o₁ =
       let all : List Handed = clock ∷ value u32 first vf ∷ value u32 last vl ∷ writes u32 ms b o ∷ writes i64 hs b₁ o₁ ∷ [] in
       record {
         ended = turns.ended;
         clauses = λ M. turns.clauses;
         met = λ M. turnsMet.met;
-        makes = (u32-makes, (u32-makes, tt));
-        takes = record { enters = λ ns. ((lifetimes all ns, wholes all, tt, denotes 0 all ns, valuesOf 0 all ns), (λ w. tt), refl, refl, refl); writes = λ ns ws. ((ws .1 .1 .1 .0, (ws .1 .1 .1 .1 .0, tt)), refl) };
+        meant = tt;
+        makes = (clock-makes, (u32-makes, (u32-makes, tt)));
+        takes = record { enters = λ ns. ((lifetimes all ns, wholes all, tt, denotes 0 all tt ns, valuesOf 0 all ns), (λ w. tt), refl, refl, refl); writes = λ ns ws. ((ws .1 .1 .1 .0, (ws .1 .1 .1 .1 .0, tt)), refl) };
       }
 
-  unfoldable pub names-call : Callable c vc namesCode.routine ([])
+  unfoldable pub names-call : Callable c namesCode.routine (clock ∷ [])
   names-call =
       let all : List Handed = clock ∷ [] in
       record {
         ended = names.ended;
         clauses = λ M. names.clauses;
         met = λ M. namesMet.met;
-        makes = tt;
-        takes = record { enters = λ ns. ((lifetimes all ns, wholes all, tt, denotes 0 all ns, valuesOf 0 all ns), (λ w. tt), refl, refl, refl); writes = λ ns ws. (tt, refl) };
+        meant = tt;
+        makes = (clock-makes, tt);
+        takes = record { enters = λ ns. ((lifetimes all ns, wholes all, tt, denotes 0 all tt ns, valuesOf 0 all ns), (λ w. tt), refl, refl, refl); writes = λ ns ws. (tt, refl) };
       }
