@@ -13,6 +13,8 @@ use mir.Fields.{getV}
 use mir.Syntax.{Width, w32, w64, tyInt}
 use mir.Val.{Val, vunit, vbool, vint, vfloat, vptr, vstruct, Vals, vnil, vcons, asInt, asBool, toZ, bytes}
 use prog.Memory.{Memory, loadM}
+use denote.Memory.{rawAll, lone}
+use denote.RattleType.{RattleType}
 use Rattle.columns.specs.Names.{namesFrom}
 use Rattle.refusals.specs.Outcome.{Outcome, accepted, refused}
 use Rattle.turns.specs.Written.{TurnsFound}
@@ -92,3 +94,11 @@ minutesAt = elementsAt (λ (n : ℕ). n) w32
 
 abbrev pub heightsAt : Memory → ℕ → ℕ → ℕ → List ℤ
 heightsAt = elementsAt (toZ w64) w64
+
+-- the machine's value for a struct of the type R (`vunit` where none lies)
+abbrev pub valueIn : Option Val → Val
+valueIn none = vunit
+valueIn (some v) = v
+
+abbrev pub valueAt : Memory → RattleType → ℕ → ℕ → Val
+valueAt σ R b o = valueIn (loadM σ (lone (rawAll (R .mir))) b o)
