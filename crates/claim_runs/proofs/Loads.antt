@@ -30,10 +30,10 @@ use Rattle.claim_runs.proofs.Values.{first}
 -- ---- what lies beside what
 
 module _ (σ : Memory) (P Q F : Assertion) (s : σ ⊨ (P ∗ Q) ∗ F) where
-  in-front : σ ⊨ P ∗ (Q ∗ F)
+  pub in-front : σ ⊨ P ∗ (Q ∗ F)
   in-front = sat-weaken (w₀ .𝓤) (w₀ .H) (w₀ .𝓜) σ (assoc∗ (w₀ .𝓤) P Q F) s
 
-  behind : σ ⊨ Q ∗ (P ∗ F)
+  pub behind : σ ⊨ Q ∗ (P ∗ F)
   behind = sat-weaken (w₀ .𝓤) (w₀ .H) (w₀ .𝓜) σ (via (w₀ .𝓤) ((Q ∗ P) ∗ F) (monoL (w₀ .𝓤) F (comm∗ (w₀ .𝓤) P Q)) (assoc∗ (w₀ .𝓤) Q P F)) s
 
 -- ---- one value

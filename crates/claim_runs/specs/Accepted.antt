@@ -8,7 +8,12 @@ use lib.ListN.{replicate}
 use lib.IntN.{pos}
 use mir.Val.{Val}
 use Rattle.refusals.specs.Outcome.{accepted}
+use Rattle.clock.proofs.Clock as ClockType
+use Rattle.clock.proofs.new.Symbol as newCode
+use Rattle.cuvalimodo_c.proofs.cuvalimodo_new.Symbol as heldNewCode
 use Rattle.claim.specs.Document.{Request, Cards, Station, Date, Height, Series, Turns, Names, Gave, told, predicted, wrote, found, named, nothing, givesAll}
+use Rattle.claim_runs.specs.Handed.{changes, Ran}
+use Rattle.claim_runs.specs.Values.{clockAt, zeroMemory}
 use Rattle.claim_runs.specs.Runs.{Started, Runs, GiveAll}
 
 -- ---- a smallest card file: one constituent, Z0, and no other number but 0
@@ -55,7 +60,8 @@ smallFile = ended cardLines
 -- ---- the calls, and what the document gives for them
 
 -- Z0, 100 tenths of a millimetre high, on the equator, in July 1976. (A station twice: with no records, and with Z0's. Of the memory with which
--- a program begins only bytes are known, so no place for heights or turns is lent.)
+-- a program begins only bytes are known, so no place for heights or turns is lent.) As far as `Names` the clock is passed by value, and then it is
+-- lent.
 abbrev pub acceptedCalls : List Request
 acceptedCalls =
     Cards smallFile
@@ -66,6 +72,12 @@ acceptedCalls =
     ∷ Series 0 1 []
     ∷ Turns 0 360 [] []
     ∷ Names
+    ∷ Date 1976 7
+    ∷ Height 0
+    ∷ Series 0 1 []
+    ∷ Turns 0 360 [] []
+    ∷ Station (pos 0) []
+    ∷ Cards smallFile
     ∷ []
 
 -- Z0 is level: its height is its amplitude, and there is no turn
@@ -79,12 +91,24 @@ allAccepted =
     ∷ wrote (record { returned = accepted tt; heights = [] })
     ∷ found (record { returned = accepted (record { count = 0; high = false }); minutes = []; heights = [] })
     ∷ named (z0 ∷ [])
+    ∷ told (accepted tt)
+    ∷ predicted (accepted (pos 100))
+    ∷ wrote (record { returned = accepted tt; heights = [] })
+    ∷ found (record { returned = accepted (record { count = 0; high = false }); minutes = []; heights = [] })
+    ∷ told (accepted tt)
+    ∷ told (accepted tt)
     ∷ []
 
 abbrev pub AcceptedByTheDocument : Type 0
 AcceptedByTheDocument = givesAll nothing acceptedCalls ≡ allAccepted
 
--- There are runs of these calls, one after another from `new` on, and they give that: so the claim of the machine speaks of each kind of call,
--- accepted. (Whichever calls come next, `AlwaysEnds` says that they return.)
-abbrev pub AcceptedByTheMachine : Type 2
-AcceptedByTheMachine = ∥ ((vc : Val) × (vc′ : Val) × Started vc × (xs : Runs vc acceptedCalls vc′) × GiveAll xs allAccepted) ∥₁
+-- There are runs of these calls, one after another from a clock's value on, and they give that
+abbrev pub AcceptedFrom : Val → Type 2
+AcceptedFrom vc = Started vc × ∥ ((vc′ : Val) × (xs : Runs vc acceptedCalls vc′) × GiveAll xs allAccepted) ∥₁
+
+-- .. from a value that each of the two `new` gave, and from zeros: so the claim of the machine speaks of each kind of call, accepted. (Whichever
+-- calls come next, `AlwaysEnds` says that they return.)
+pub record AcceptedByTheMachine : Type 2 where
+  pub returned : ∥ ((x : Ran newCode.routine [] []) × AcceptedFrom (x .value)) ∥₁
+  pub left : ∥ ((vc : Val) × (b : ℕ) × (x : Ran heldNewCode.routine [] (changes ClockType.the-row vc b 0 ∷ [])) × AcceptedFrom (clockAt (x .left) b 0)) ∥₁
+  pub zeros : AcceptedFrom (clockAt zeroMemory 0 0)
