@@ -204,7 +204,7 @@ none-again = rw month-worked
 pub accepted-by-the-document : AcceptedByTheDocument
 unfolding givesAll gives after
 accepted-by-the-document =
-    rw (cards-accepted, none-accepted, station-accepted, date-accepted, height-given, series-given, turns-given, names-given, date-again, none-again)
+    rw (cards-accepted, none-accepted, station-accepted, date-accepted, date-again, height-given, series-given, turns-given, names-given, none-again)
 
 -- the machine's runs of these calls give what the document gives
 accepted-from : (vc : Val) → Started vc → AcceptedFrom vc

@@ -19,12 +19,16 @@ use contract.Adequate.{sat-weaken, sat-fact, sat-ex∗}
 use contract.Monad.{fact, guard→fact}
 use types.SemTy.{SemTy, cells}
 use denote.Builtin.{u32, i64}
+use denote.Laws.{Is}
 use denote.Memory.{mem, rawAll, cellRaw, lone, partOf}
 use denote.RattleType.{RattleType}
 use denote.Shadow.{shadow, shows-shadow}
 use borrow.Fn.World.{w₀}
+use Rattle.clock.proofs.Clock as ClockType
+use Rattle.claim.specs.Zeroed.{zeroed}
+use Rattle.claim.proofs.Zeros.{zeros-are-zeroed}
 use Rattle.claim_runs.specs.Handed.{Assertion, _∗_, ⟦_⟧₀, _⊨_, At}
-use Rattle.claim_runs.specs.Values.{numberIn, loadedIn, elementsAt, minutesAt, heightsAt, valueIn, valueAt}
+use Rattle.claim_runs.specs.Values.{numberIn, loadedIn, elementsAt, minutesAt, heightsAt, valueIn, valueAt, clockAt, zeroMemory}
 use Rattle.claim_runs.proofs.Values.{first}
 
 -- ---- what lies beside what
@@ -63,6 +67,7 @@ module _ (σ : Memory) where
 
 -- a struct's value
 pub value-loads : (σ : Memory) (R : RattleType) (q : Share) (v : Val) (b o : ℕ) (F : Assertion) → σ ⊨ ⟦ At R q v b o ⟧₀ ∗ F → ∥ (v ≡ valueAt σ R b o) ∥₁
+unfolding valueAt
 value-loads σ R q v b o F s = ∥∥₁-map (cell-loads σ q (rawAll (R .mir)) (v ∷ []) b o F s) (λ k. ap first (k .1) ∙ sym (ap valueIn (k .2)))
 
 -- ---- one number
@@ -122,3 +127,9 @@ turns-left σ ms ms′ b o hs hs′ b₁ o₁ F m n s =
     let Q : Assertion = ⟦ fsep (cells (mem i64) hs′ b₁ o₁) ftrue ⟧₀ in
     ∥∥₁-elim (minutes-read σ ms′ b o (Q ∗ F) (in-front σ P Q F s)) ∥∥₁-prop (λ d.
     ∥∥₁-map (heights-left σ hs hs′ b₁ o₁ (P ∗ F) n (behind σ P Q F s)) (λ e. (sym d ∙ ap (minutesAt σ b o) m, e)))
+
+-- ---- memory of nothing but zeros
+
+pub zeros-load : Is ClockType.the-row zeroed (clockAt zeroMemory 0 0 ∷ [])
+unfolding valueAt
+zeros-load = zeros-are-zeroed

@@ -4,7 +4,7 @@ use mathlib.Core.Path.{_≡_, refl, sym, ap, subst, _∙_}
 use Prim.Native.Nat.{ℕ, zero, suc}
 use mathlib.Core.Bool.{cond}
 use mathlib.Core.List.{List, [], _∷_, map}
-use lib.Dec.{eqb}
+use lib.Dec.{eqb, eqb·suc-zero}
 use lib.IntN.{ℤ}
 use lib.ListN.{getD}
 use mir.Syntax.{w8, w64}
@@ -117,7 +117,7 @@ names-read r v is = ap (λ (vs : List Val). tableNamesIn (first vs)) (NamesLaws.
 
 said-lowered : {A : Type 0} (number place : ℕ) (given : A) → cond (eqb number 0) (accepted given) (refused number place) ≡ outcomeIn number place given
 said-lowered zero place given = refl
-said-lowered (suc n) place given = refl
+said-lowered (suc n) place given = rw (eqb·suc-zero n)
 
 pub verdict-reads : (r : Verdict) (v : Val) → Is VerdictType.the-row r (v ∷ []) → verdictIn v ≡ answers.verdictIn r
 verdict-reads r v is = ap (λ (vs : List Val). verdictIn (first vs)) (VerdictLaws.lowers .val-is r (v ∷ []) is) ∙ said-lowered (r .number) (r .place) tt

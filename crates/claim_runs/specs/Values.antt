@@ -120,7 +120,7 @@ abbrev pub valueIn : Option Val → Val
 valueIn none = vunit
 valueIn (some v) = v
 
-abbrev pub valueAt : Memory → RattleType → ℕ → ℕ → Val
+unfoldable pub valueAt : Memory → RattleType → ℕ → ℕ → Val
 valueAt σ R b o = valueIn (loadM σ (lone (rawAll (R .mir))) b o)
 
 abbrev pub clockAt : Memory → ℕ → ℕ → Val
