@@ -40,6 +40,7 @@ int main(int argc, char **argv) {
     make_cosines();
     compare_all(file, length);
     if (argc > 3 && strcmp(argv[3], "--compare") == 0) return 0;
+    printf("\nThe clock's state: %zu bytes\n", sizeof(cuvalimodo_clock));
     print_times(file, length);
     print_growth(file, length);
     print_stack(file, length, deepest, deepest_length);

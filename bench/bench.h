@@ -4,7 +4,7 @@
 
 #include "doubles.h"
 #include "peer.h"
-#include "timed.h"
+#include "../bindings/c/cuvalimodo.h"
 
 enum { MONTH = 44640 };
 
@@ -12,10 +12,9 @@ enum { MONTH = 44640 };
 struct work {
     const char *file;
     size_t length;
-    uint8_t places[RECORDS];
-    uint32_t amplitudes[RECORDS];
-    uint32_t phases[RECORDS];
     uint32_t year, month;
+    cuvalimodo_record records[RECORDS];
+    cuvalimodo_clock clock;
     struct table table;
     struct station station;
     struct month prepared;
@@ -26,8 +25,5 @@ void compare_all(const char *file, size_t length);
 void print_times(const char *file, size_t length);
 void print_growth(const char *file, size_t length);
 void print_stack(const char *file, size_t length, const char *deepest, size_t deepest_length);
-
-// Our side's calls on a work.
-#define OURS(w) (w)->file, (w)->length, (w)->station.latitude, (size_t)(w)->station.count, (w)->places, (w)->amplitudes, (w)->phases, (w)->year
 
 #endif

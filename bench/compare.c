@@ -19,7 +19,7 @@ static void same(int64_t a, int64_t b, const char *what, const struct work *w, s
 static void compare_series(const struct work *w) {
     size_t places = w->prepared.last;
     memset(ours, 0x55, sizeof ours);
-    timed_series(OURS(w), w->month, 2, ours, places);
+    if (cuvalimodo_series(&w->clock, 1, 1, ours, places).number) exit(1);
     if (peer_series(&w->prepared, 1, 1, theirs, places).number) exit(1);
     for (size_t i = 0; i < places; i++) same(ours[i], theirs[i], "series, place", w, i);
 }
@@ -28,10 +28,10 @@ static void compare_heights(const struct work *w) {
     size_t places = 2000;
     for (size_t i = 0; i < places; i++) our_minutes[i] = (uint32_t)(i * 7919 % (w->prepared.last + 1));
     our_minutes[0] = w->prepared.last;
-    timed_heights(OURS(w), w->month, our_minutes, places, ours, places);
     for (size_t i = 0; i < places; i++) {
-        if (peer_height(&w->prepared, our_minutes[i], &theirs[i]).number) exit(1);
-        same(ours[i], theirs[i], "height at minute", w, our_minutes[i]);
+        cuvalimodo_reading our = cuvalimodo_height(&w->clock, our_minutes[i]);
+        if (our.number || peer_height(&w->prepared, our_minutes[i], &theirs[i]).number) exit(1);
+        same(our.height, theirs[i], "height at minute", w, our_minutes[i]);
     }
 }
 
@@ -42,9 +42,11 @@ static void compare_turns(const struct work *w) {
     memset(ours, 0x55, sizeof ours);
     memset(their_minutes, 0x55, sizeof their_minutes);
     memset(theirs, 0x55, sizeof theirs);
-    bool our_high = timed_turns(OURS(w), w->month, w->prepared.last, 0, our_minutes, MONTH, ours, MONTH);
+    cuvalimodo_turnings our = cuvalimodo_turns(&w->clock, 0, w->prepared.last, our_minutes, MONTH, ours, MONTH);
+    if (our.number) exit(1);
     if (peer_turns(&w->prepared, &w->table, &w->station, 0, w->prepared.last, their_minutes, MONTH, theirs, MONTH, &count, &high).number) exit(1);
-    same(our_high, high, "the first is high", w, 0);
+    same(our.high, high, "the first is high", w, 0);
+    same((int64_t)our.count, (int64_t)count, "how many turns", w, 0);
     for (size_t i = 0; i < MONTH; i++) {
         same(our_minutes[i], their_minutes[i], "turn's minute", w, i);
         same(ours[i], theirs[i], "turn's height", w, i);
@@ -52,9 +54,9 @@ static void compare_turns(const struct work *w) {
 }
 
 // The twelve months of a year, prepared one after the other: the heights of a day in the last.
-static void compare_dates(const struct work *w) {
+static void compare_dates(struct work *w) {
     for (uint32_t months = 1; months <= 12; months++) {
-        timed_dates(OURS(w), months, ours, 1440);
+        if (cuvalimodo_set_date(&w->clock, w->year, months).number || cuvalimodo_series(&w->clock, 0, 1, ours, 1440).number) exit(1);
         struct month last;
         if (peer_prepare(&last, &w->table, &w->station, w->year, months).number) exit(1);
         if (peer_series(&last, 0, 1, theirs, 1440).number) exit(1);

@@ -70,11 +70,30 @@ static void race(repeated **sides, int n, uint32_t repeats, double *times, doubl
     }
 }
 
-static void our_cards(uint32_t n) { timed_cards(OURS(&w), w.month, n, heights, 1); }
-static void our_dates(uint32_t n) { timed_dates(OURS(&w), n, heights, 1); }
-static void our_series(uint32_t n) { timed_series(OURS(&w), w.month, n, heights, MONTH); }
-static void our_heights(uint32_t n) { timed_heights(OURS(&w), w.month, minutes, n, heights, n); }
-static void our_turns(uint32_t n) { sink += timed_turns(OURS(&w), w.month, MONTH, n, minutes, MONTH, heights, MONTH); }
+static void our_cards(uint32_t n) {
+    static cuvalimodo_clock clock;
+    for (uint32_t i = 0; i < n; i++) sink += cuvalimodo_load_cards(&clock, (const uint8_t *)w.file, w.length).number;
+}
+
+static void our_dates(uint32_t n) {
+    for (uint32_t i = 0; i < n; i++) sink += cuvalimodo_set_date(&w.clock, w.year, 1 + i % 12).number;
+}
+
+static void our_series(uint32_t n) {
+    for (uint32_t i = 0; i < n; i++) sink += cuvalimodo_series(&w.clock, i % 2, 1, heights, MONTH).number;
+}
+
+static void our_heights(uint32_t n) {
+    for (uint32_t i = 0; i < n; i++) {
+        cuvalimodo_reading r = cuvalimodo_height(&w.clock, minutes[i]);
+        sink += r.number;
+        heights[i] = r.height;
+    }
+}
+
+static void our_turns(uint32_t n) {
+    for (uint32_t i = 0; i < n; i++) sink += cuvalimodo_turns(&w.clock, i % 2, MONTH, minutes, MONTH, heights, MONTH).number;
+}
 
 static void peer_cards(uint32_t n) {
     static struct table table;
@@ -163,7 +182,7 @@ void print_times(const char *file, size_t length) {
         time_series(sizes[i]);
     }
     set(file, length, 11);
-    time_two("a single height, 11 constituents", our_heights, peer_heights, 20000, 2);
+    time_two("a single height, 11 constituents", our_heights, peer_heights, 20000, 1.1);
     time_two("turns of a month, 11 constituents", our_turns, peer_turn_searches, 20, 1.1);
     time_two("preparing a month, 11 constituents", our_dates, peer_dates, 2000, 1.2);
     set(file, length, 145);
@@ -176,7 +195,9 @@ void print_times(const char *file, size_t length) {
 
 static size_t grown;
 
-static void grown_series(uint32_t n) { timed_series(OURS(&w), w.month, n, heights, grown); }
+static void grown_series(uint32_t n) {
+    for (uint32_t i = 0; i < n; i++) sink += cuvalimodo_series(&w.clock, 0, 1, heights, grown).number;
+}
 
 static const int counts[] = {0, 11, 37, 73, 145};
 static const size_t days[] = {1, 7, 31};

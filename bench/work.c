@@ -33,9 +33,10 @@ static uint32_t spread(uint32_t seed) {
 static void add(struct work *w, int place, unsigned amplitude) {
     struct station *s = &w->station;
     int k = s->count++;
-    w->places[k] = s->place[k] = (uint8_t)place;
-    w->amplitudes[k] = s->amplitude[k] = (uint16_t)amplitude;
-    w->phases[k] = s->lag[k] = (uint16_t)(spread((uint32_t)place + 1) % 36000);
+    s->place[k] = (uint8_t)place;
+    s->amplitude[k] = (uint16_t)amplitude;
+    s->lag[k] = (uint16_t)(spread((uint32_t)place + 1) % 36000);
+    w->records[k] = (cuvalimodo_record){s->place[k], s->amplitude[k], s->lag[k]};
 }
 
 static bool has(const struct station *s, int place) {
@@ -57,4 +58,7 @@ void set_work(struct work *w, const char *file, size_t length, int latitude, int
         if (!has(&w->station, place)) add(w, place, spread(1000 + (uint32_t)place) % 400);
     if (w->station.count < count) fail("the card file has too few constituents");
     if (peer_prepare(&w->prepared, &w->table, &w->station, year, month).number) fail("the peer refuses the month");
+    if (cuvalimodo_load_cards(&w->clock, (const uint8_t *)file, length).number) fail("the clock refuses the card file");
+    if (cuvalimodo_set_station(&w->clock, latitude, w->records, (size_t)w->station.count).number) fail("the clock refuses the station");
+    if (cuvalimodo_set_date(&w->clock, year, month).number) fail("the clock refuses the month");
 }

@@ -14,29 +14,70 @@ import sys
 HERE = os.path.dirname(os.path.abspath(__file__))
 sys.path.insert(0, os.path.join(HERE, "..", "second"))
 
+import clock  # noqa: E402
 import generate  # noqa: E402
+import heights  # noqa: E402
 from replay import replay  # noqa: E402
+
+
+def keep(module, name, key):
+    """Has a function of the second code keep its answers, by a key of the arguments; where it keeps them."""
+    function, answers = getattr(module, name), {}
+
+    def kept(*arguments):
+        asked = key(*arguments)
+        if asked not in answers:
+            answers[asked] = function(*arguments)
+        return answers[asked]
+
+    setattr(module, name, kept)
+    return answers
+
+
+# What making a script and answering it ask for again and again; a third of the time is left.
+KEPT = [
+    keep(heights, "slope", lambda month, minute: (id(month), minute)),
+    keep(clock, "prepare", lambda table, station, *date: (id(table), station.latitude, tuple(station.records), *date)),
+    keep(clock, "read_card_file", lambda data: data),
+]
+
+
+def answers(script):
+    """The second code's answers to a script."""
+    lines = list(replay(script))
+    for kept in KEPT:
+        kept.clear()
+    return lines
+
+
+def answered(seed, count):
+    """So many scripts from a seed, each with the second code's answers."""
+    with open(generate.STANDARD_PATH, "rb") as file:
+        standard = file.read()
+    for index in range(count):
+        script = generate.script(random.Random("scripts %d %d" % (seed, index)), index, standard)
+        yield script, answers(script)
+
+
+def kind(line):
+    """What an answer is: its word, and of a refusal the number."""
+    parts = line.split()
+    return " ".join(parts[:2]) if parts[0] == "refused" else parts[0]
 
 
 def main():
     program, seed, count = sys.argv[1], int(sys.argv[2]), int(sys.argv[3])
-    with open(generate.STANDARD_PATH, "rb") as file:
-        standard = file.read()
-    words = collections.Counter()
-    lines = differing = 0
-    for index in range(count):
-        script = generate.script(random.Random("scripts %d %d" % (seed, index)), index, standard)
-        wanted = list(replay(script))
+    kinds = collections.Counter()
+    differing = 0
+    for index, (script, wanted) in enumerate(answered(seed, count)):
         got = subprocess.run([program], input=script, capture_output=True, check=True).stdout.decode().split("\n")[:-1]
-        lines += len(wanted)
-        for line in wanted:
-            parts = line.split()
-            words[" ".join(parts[:2]) if parts[0] == "refused" else parts[0]] += 1
+        kinds.update(map(kind, wanted))
         if got != wanted:
             differing += 1
             print("differs: seed %d script %d" % (seed, index))
+    lines = sum(kinds.values())
     print("%d scripts, %d lines compared, %d scripts differ" % (count, lines, differing))
-    print(", ".join("%s: %d" % pair for pair in sorted(words.items())))
+    print(", ".join("%s: %d" % pair for pair in sorted(kinds.items())))
     sys.exit(1 if differing or not lines else 0)
 
 

@@ -1,18 +1,26 @@
 /*
- * Cuvalimodo from C: check a card file, a series of heights, high and low waters, each in one call from a card file, a station and a month.
+ * Cuvalimodo from C: a berth clock in your own memory, and a function for each of its calls.
  *
- * The functions are those of crates/cuvalimodo_c, proved for every input: what they return and write follows document 01, or is a refusal
- * with 01's number and place. Link target/staticlib/libcuvalimodo_c.a (`rt staticlib cuvalimodo_c`; x86-64 Linux).
- * Nothing checks these declarations against the Rattle source but bindings/c/test.c: change both together.
+ *     static cuvalimodo_clock berth;                          all zeros: a clock without a table
+ *     cuvalimodo_load_cards(&berth, cards, cards_length);     then set_station and set_date, each accepted or refused
+ *     cuvalimodo_height(&berth, minute).height
  *
- * An array is a pointer and a length, counted in its elements. What the proofs assume of a caller:
- *   - a pointer is never NULL and is aligned for its type, also where the length is 0 (nothing is then read or written through it);
- *   - so many elements may be read, or for a buffer written, until the call returns;
- *   - the buffers that a call writes overlap neither each other nor what it reads.
+ * The functions are those of crates/cuvalimodo_c, proved for every input: what they return, write and leave in the clock follows document 01.
+ * A refused call returns 01's number and place, and leaves the clock and the lent buffers as they were.
+ * Link target/staticlib/libcuvalimodo_c.a (`rt staticlib cuvalimodo_c`; x86-64 Linux).
+ * Nothing checks these declarations against the Rattle source but bindings/test: change both together.
+ *
+ * What the proofs assume of a caller:
+ *   - a clock is CUVALIMODO_CLOCK_SIZE bytes at an address that 8 divides, all zeros or as a call left them. You may copy it, byte by byte, and
+ *     use the copy as another clock. Nobody else writes to it, and no buffer that is lent to a call lies in it;
+ *   - while a call changes a clock (it takes no `const`), no other call uses that clock;
+ *   - an array is a pointer and a length, counted in its elements. The pointer is never NULL and is aligned for its type, also where the length
+ *     is 0; so many elements may be read, or for a buffer written, until the call returns;
+ *   - the buffers that a call writes overlap neither each other nor anything else that it is lent.
  * The numbers in the arrays, and all other arguments, may be anything: each is checked.
  *
- * A call keeps nothing and uses no memory but its stack: it may be made from any thread. A call takes less than 1 MiB of stack.
- * A refused call leaves the lent buffers as they were.
+ * A call uses no memory but what it is lent and its stack, and keeps nothing elsewhere. Threads may so use a clock each, or read one together
+ * (`const`). `height` takes less than 1 KB of stack; every other call less than 1 MiB, since it works on copies of the clock.
  *
  * Units
  *   latitude    minutes of arc, north positive, -5,400 to 5,400
@@ -28,6 +36,8 @@
 #ifndef CUVALIMODO_H
 #define CUVALIMODO_H
 
+#include <assert.h>
+#include <stdalign.h>
 #include <stdbool.h>
 #include <stddef.h>
 #include <stdint.h>
@@ -50,9 +60,23 @@ enum cuvalimodo_refusal {
     CUVALIMODO_BAD_MINUTES = 9,     /* minutes outside the month or reversed, or step out of range */
     CUVALIMODO_TOO_MANY_TURNS = 10, /* more turns than one of the lent buffers holds */
     CUVALIMODO_TOO_LARGE = 11,      /* a nodal correction too large; place: the station's record */
-    CUVALIMODO_UNEVEN = 100         /* not of 01: the three arrays of records differ in length; place: the first record that one of them lacks.
-                                       It comes before all else. */
+    CUVALIMODO_NO_TABLE = 21,       /* the clock has no table: load_cards comes first */
+    CUVALIMODO_NO_STATION = 22,     /* no station: set_station comes before */
+    CUVALIMODO_NO_MONTH = 23        /* no month: set_date comes before */
 };
+
+/* A clock: a table of constituents, a station and a month, each there or not. What is inside is the library's own. */
+#define CUVALIMODO_CLOCK_SIZE 16824
+typedef struct cuvalimodo_clock {
+    alignas(8) unsigned char inside[CUVALIMODO_CLOCK_SIZE];
+} cuvalimodo_clock;
+
+/* One of a station's constituents. */
+typedef struct cuvalimodo_record {
+    uint8_t place;
+    uint32_t amplitude;
+    uint32_t phase;
+} cuvalimodo_record;
 
 /* What a card file comes to: the counts of an accepted one, or the refusal's number and line (from 1), and counts of 0. */
 typedef struct cuvalimodo_counts {
@@ -64,11 +88,18 @@ typedef struct cuvalimodo_counts {
     size_t shallows;
 } cuvalimodo_counts;
 
-/* What a series comes to: accepted, or the refusal's number and place (a card's line or a station's record, from 1; else 0). */
+/* What a call comes to: accepted, or the refusal's number and place (a card's line or a station's record, from 1; else 0). */
 typedef struct cuvalimodo_verdict {
     uint32_t number; /* CUVALIMODO_ACCEPTED, or why not */
     size_t place;
 } cuvalimodo_verdict;
+
+/* A height; or a refusal, and height 0. */
+typedef struct cuvalimodo_reading {
+    uint32_t number; /* CUVALIMODO_ACCEPTED, or why not */
+    size_t place;
+    int64_t height;
+} cuvalimodo_reading;
 
 /* What a search for turns comes to: how many were written, and whether the first is a high water (they alternate); or a refusal, and 0 turns. */
 typedef struct cuvalimodo_turnings {
@@ -78,35 +109,47 @@ typedef struct cuvalimodo_turnings {
     bool high;
 } cuvalimodo_turnings;
 
-/* Checks a card file: frequencies, longitudes, main and shallow-water constituents. */
+/* Words, with a NUL behind them. */
+typedef struct cuvalimodo_text {
+    char text[64];
+} cuvalimodo_text;
+
+static_assert(sizeof(cuvalimodo_clock) == CUVALIMODO_CLOCK_SIZE && alignof(cuvalimodo_clock) == 8, "a clock lies as in the library");
+static_assert(sizeof(cuvalimodo_record) == 12 && offsetof(cuvalimodo_record, amplitude) == 4, "a record lies as in the library");
+static_assert(sizeof(cuvalimodo_counts) == 48 && sizeof(cuvalimodo_verdict) == 16, "results lie as in the library");
+static_assert(sizeof(cuvalimodo_reading) == 24 && sizeof(cuvalimodo_turnings) == 32 && sizeof(bool) == 1, "results lie as in the library");
+
+/* Checks a card file: frequencies, longitudes, main and shallow-water constituents. No clock is asked for. */
 cuvalimodo_counts cuvalimodo_check_cards(const uint8_t *file, size_t file_length);
 
-/*
- * Heights of a station in a month: heights[n] is that at minute start + n * step, for all of heights_length places.
- * The station's record k is places[k], amplitudes[k], phases[k]; at most 146, and the three lengths are the same.
- */
-cuvalimodo_verdict cuvalimodo_series(const uint8_t *file, size_t file_length,
-                                     int32_t latitude,
-                                     const uint8_t *places, size_t places_length,
-                                     const uint32_t *amplitudes, size_t amplitudes_length,
-                                     const uint32_t *phases, size_t phases_length,
-                                     uint32_t year, uint32_t month,
-                                     uint32_t start, uint32_t step,
-                                     int64_t *heights, size_t heights_length);
+/* Puts a clock with no table, station or month in the place of whatever clock is there. */
+void cuvalimodo_new(cuvalimodo_clock *clock);
+
+/* Takes a card file's table in place of the old one. Station and month go. */
+cuvalimodo_verdict cuvalimodo_load_cards(cuvalimodo_clock *clock, const uint8_t *file, size_t file_length);
+
+/* Takes a station, at most 146 records, in place of the old one. The table stays; the month goes. */
+cuvalimodo_verdict cuvalimodo_set_station(cuvalimodo_clock *clock, int32_t latitude, const cuvalimodo_record *records, size_t records_length);
+
+/* Prepares a month, in place of the old one. Table and station stay. */
+cuvalimodo_verdict cuvalimodo_set_date(cuvalimodo_clock *clock, uint32_t year, uint32_t month);
+
+/* The height at a minute of the month. */
+cuvalimodo_reading cuvalimodo_height(const cuvalimodo_clock *clock, uint32_t minute);
+
+/* Heights of the month: heights[n] is that at minute start + n * step, for all of heights_length places. */
+cuvalimodo_verdict cuvalimodo_series(const cuvalimodo_clock *clock, uint32_t start, uint32_t step, int64_t *heights, size_t heights_length);
 
 /*
- * The high and low waters of a station from minute `first` to minute `last` of a month. Turn n is minutes[n] with heights[n]; places past the
- * last turn are left as they were. The two buffers may differ in length; each must hold all turns (250 places are plenty for a month).
+ * The high and low waters from minute `first` to minute `last` of the month. Turn n is minutes[n] with heights[n]; places past the last turn are
+ * left as they were. The two buffers may differ in length; each must hold all turns (250 places are plenty for a month).
  */
-cuvalimodo_turnings cuvalimodo_turns(const uint8_t *file, size_t file_length,
-                                     int32_t latitude,
-                                     const uint8_t *places, size_t places_length,
-                                     const uint32_t *amplitudes, size_t amplitudes_length,
-                                     const uint32_t *phases, size_t phases_length,
-                                     uint32_t year, uint32_t month,
-                                     uint32_t first, uint32_t last,
+cuvalimodo_turnings cuvalimodo_turns(const cuvalimodo_clock *clock, uint32_t first, uint32_t last,
                                      uint32_t *minutes, size_t minutes_length,
                                      int64_t *heights, size_t heights_length);
+
+/* The words of a refusal; none for a number that is no refusal's. printf("%s\n", cuvalimodo_refusal_text(6).text) */
+cuvalimodo_text cuvalimodo_refusal_text(uint32_t number);
 
 #ifdef __cplusplus
 }

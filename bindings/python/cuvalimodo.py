@@ -1,22 +1,60 @@
-"""Cuvalimodo from Python: check a card file, a series of heights, high and low waters.
+"""Cuvalimodo from Python: a berth clock, and its calls as methods.
 
-Each function takes a card file, a station and a month, and answers by the proved clock, or raises Refused with document 01's number and place.
+    clock = Clock()
+    clock.load_cards(cards)                       # bytes of a card file
+    clock.set_station(2905, [Record(place_of(cards, "M2"), 12130, 8700)])
+    clock.set_date(1976, 7)
+    clock.height(510)
+
+The calls are those of the proved library (crates/cuvalimodo_c). One that is turned down raises Refused, with document 01's number and place, and
+leaves the clock and the lent buffers as they were.
 It loads target/staticlib/libcuvalimodo_c.so (bindings/build makes it), or the file that the environment variable CUVALIMODO_LIBRARY names.
 
 Units: latitude in minutes of arc, north positive; amplitudes and heights in tenths of a millimetre; phase lags in hundredths of a degree; minutes
 after 00:00 GMT on the 1st of the month; a place is the position of a constituent among the card file's frequencies, from 0 (see place_of).
 A number that its C type cannot hold (place: one byte; latitude: 32 bits, signed; all others: 32 bits) raises OverflowError and reaches no call.
+
+The interpreter's lock is held during a call, so threads may share a clock.
 """
+
+from __future__ import annotations
 
 import ctypes
 import os
 from array import array
-from collections import namedtuple
 from enum import IntEnum
+from operator import index
+from typing import TYPE_CHECKING, Iterable, NamedTuple, SupportsIndex, Tuple
 
-Counts = namedtuple("Counts", "frequencies mains satellites shallows")
-Record = namedtuple("Record", "place amplitude phase")
-Turn = namedtuple("Turn", "minute height high")
+if TYPE_CHECKING:
+    from _typeshed import ReadableBuffer, WriteableBuffer
+
+CLOCK_SIZE = 16824
+
+
+class Counts(NamedTuple):
+    """How much an accepted card file has of each kind."""
+
+    frequencies: int
+    mains: int
+    satellites: int
+    shallows: int
+
+
+class Record(NamedTuple):
+    """One of a station's constituents."""
+
+    place: int
+    amplitude: int
+    phase: int
+
+
+class Turn(NamedTuple):
+    """A high or a low water."""
+
+    minute: int
+    height: int
+    high: bool
 
 
 class Refusal(IntEnum):
@@ -33,117 +71,149 @@ class Refusal(IntEnum):
     BAD_MINUTES = 9
     TOO_MANY_TURNS = 10
     TOO_LARGE = 11
-    UNEVEN = 100
-
-
-WORDS = {
-    Refusal.BAD_LINE: "a line over 80 columns, or a byte outside 32 to 126",
-    Refusal.MALFORMED: "a malformed number",
-    Refusal.OUT_OF_RANGE: "a number outside its range",
-    Refusal.BAD_NAME: "a name blank or twice, or a place twice",
-    Refusal.MISSING: "a definition, main or frequency missing, or a place not in the table",
-    Refusal.TOO_MANY: "more entries or records than there may be",
-    Refusal.ENDED: "the card file ends inside a part",
-    Refusal.BAD_DATE: "year or month out of range",
-    Refusal.BAD_MINUTES: "minutes outside the month or reversed, or step out of range",
-    Refusal.TOO_MANY_TURNS: "more turns than there is room for",
-    Refusal.TOO_LARGE: "a nodal correction too large",
-    Refusal.UNEVEN: "the three arrays of records differ in length",
-}
+    NO_TABLE = 21
+    NO_STATION = 22
+    NO_MONTH = 23
 
 
 class Refused(Exception):
-    """A refused call: its reason, and its place (a card's line or a station's record, from 1; else 0)."""
+    """A refused call: its number, its place (a card's line or a station's record, from 1; else 0) and the library's words for it."""
 
-    def __init__(self, number, place):
-        self.reason = Refusal(number)
+    def __init__(self, number: int, place: int) -> None:
+        super().__init__(number, place)
+        self.number = Refusal(number)
         self.place = place
-        super().__init__("%s (refusal %d) at %d" % (WORDS[self.reason], number, place))
+        self.text = refusal_text(number)
+
+    def __str__(self) -> str:
+        return "%s (refusal %d at %d)" % (self.text, self.number, self.place)
 
 
 # The declarations of bindings/c/cuvalimodo.h.
 
 
-class CountsResult(ctypes.Structure):
-    _fields_ = [
-        ("number", ctypes.c_uint32),
-        ("line", ctypes.c_size_t),
-        ("frequencies", ctypes.c_size_t),
-        ("mains", ctypes.c_size_t),
-        ("satellites", ctypes.c_size_t),
-        ("shallows", ctypes.c_size_t),
-    ]
+class _Record(ctypes.Structure):
+    _fields_ = [("place", ctypes.c_uint8), ("amplitude", ctypes.c_uint32), ("phase", ctypes.c_uint32)]
 
 
-class Verdict(ctypes.Structure):
+class _Counts(ctypes.Structure):
+    _fields_ = [("number", ctypes.c_uint32), ("line", ctypes.c_size_t)] + [(name, ctypes.c_size_t) for name in Counts._fields]
+
+
+class _Verdict(ctypes.Structure):
     _fields_ = [("number", ctypes.c_uint32), ("place", ctypes.c_size_t)]
 
 
-class Turnings(ctypes.Structure):
+class _Reading(ctypes.Structure):
+    _fields_ = [("number", ctypes.c_uint32), ("place", ctypes.c_size_t), ("height", ctypes.c_int64)]
+
+
+class _Turnings(ctypes.Structure):
     _fields_ = [("number", ctypes.c_uint32), ("place", ctypes.c_size_t), ("count", ctypes.c_size_t), ("high", ctypes.c_bool)]
 
 
-def _load():
+class _Text(ctypes.Structure):
+    _fields_ = [("text", ctypes.c_char * 64)]
+
+
+def _load() -> ctypes.PyDLL:
     here = os.path.dirname(os.path.abspath(__file__))
     default = os.path.join(here, "..", "..", "target", "staticlib", "libcuvalimodo_c.so")
-    library = ctypes.CDLL(os.environ.get("CUVALIMODO_LIBRARY", default))
-    u32, size = ctypes.c_uint32, ctypes.c_size_t
-    pointer = ctypes.c_void_p
-    station = [ctypes.c_int32] + [pointer, size] * 3
-    library.cuvalimodo_check_cards.argtypes = [pointer, size]
-    library.cuvalimodo_check_cards.restype = CountsResult
-    library.cuvalimodo_series.argtypes = [pointer, size] + station + [u32] * 4 + [pointer, size]
-    library.cuvalimodo_series.restype = Verdict
-    library.cuvalimodo_turns.argtypes = [pointer, size] + station + [u32] * 4 + [pointer, size] * 2
-    library.cuvalimodo_turns.restype = Turnings
+    library = ctypes.PyDLL(os.environ.get("CUVALIMODO_LIBRARY", default))
+    clock, u32, lent = ctypes.c_void_p, ctypes.c_uint32, [ctypes.c_void_p, ctypes.c_size_t]
+    for name, result, arguments in (
+        ("check_cards", _Counts, lent),
+        ("new", None, [clock]),
+        ("load_cards", _Verdict, [clock, *lent]),
+        ("set_station", _Verdict, [clock, ctypes.c_int32, *lent]),
+        ("set_date", _Verdict, [clock, u32, u32]),
+        ("height", _Reading, [clock, u32]),
+        ("series", _Verdict, [clock, u32, u32, *lent]),
+        ("turns", _Turnings, [clock, u32, u32, *lent, *lent]),
+        ("refusal_text", _Text, [u32]),
+    ):
+        function = getattr(library, "cuvalimodo_" + name)
+        function.restype, function.argtypes = result, arguments
     return library
 
 
 _library = _load()
 
 
-def _lent(numbers):
-    """A ctypes array as the two arguments that an array crosses as; its pointer is never NULL."""
-    return ctypes.addressof(numbers), len(numbers)
+# How things cross
 
 
-def _buffer(ctype, numbers):
-    """The same of a buffer that is written: TypeError where it is no ctypes array of that type, which a call would write past."""
-    if not isinstance(numbers, ctypes.Array) or numbers._type_ is not ctype:
-        raise TypeError("a ctypes array of %s is asked for" % ctype.__name__)
-    return _lent(numbers)
+def _fits(number: SupportsIndex, lowest: int, highest: int) -> int:
+    """A number that its C type holds; ctypes alone would cut it."""
+    value = index(number)
+    if not lowest <= value <= highest:
+        raise OverflowError("%d is not from %d to %d" % (value, lowest, highest))
+    return value
 
 
-def _bytes(data):
-    return (ctypes.c_uint8 * len(data)).from_buffer_copy(data)
+def _u32(number: SupportsIndex) -> int:
+    return _fits(number, 0, 2**32 - 1)
 
 
-def _array(ctype, code, numbers):
-    """A ctypes array; OverflowError where a number does not fit (ctypes alone would cut it)."""
-    checked = array(code, numbers)
-    assert checked.itemsize == ctypes.sizeof(ctype)
-    return (ctype * len(checked)).from_buffer_copy(checked)
+def _lent(numbers: ctypes.Array) -> Tuple[ctypes.Array, int]:
+    """A ctypes array as the two arguments that an array crosses as. (Not its address, which would not keep it alive.)"""
+    return numbers, len(numbers)
 
 
-def _scalars(latitude, *numbers):
-    array("i", [latitude])
-    array("I", numbers)
+def _bytes(data: ReadableBuffer) -> ctypes.Array:
+    return (ctypes.c_uint8 * memoryview(data).nbytes).from_buffer_copy(data)
 
 
-def _station(places, amplitudes, phases):
-    return _array(ctypes.c_uint8, "B", places), _array(ctypes.c_uint32, "I", amplitudes), _array(ctypes.c_uint32, "I", phases)
+def _buffer(ctype: type, codes: str, lent: WriteableBuffer) -> ctypes.Array:
+    """A lent buffer of numbers of one type, to be written where it lies: TypeError or ValueError where it is none that a call may be lent."""
+    view = memoryview(lent)
+    size = ctypes.sizeof(ctype)
+    if view.itemsize != size or view.format.lstrip("@=<") not in codes:
+        raise TypeError("a buffer of %s is asked for, this one has the format %s" % (ctype.__name__, view.format))
+    if view.nbytes == 0:
+        return (ctype * 0)()
+    numbers = (ctype * (view.nbytes // size)).from_buffer(lent)
+    if ctypes.addressof(numbers) % size:
+        raise ValueError("the buffer is not aligned for its numbers")
+    return numbers
 
 
-def check_cards(cards):
+def _heights(lent: WriteableBuffer) -> ctypes.Array:
+    return _buffer(ctypes.c_int64, "ql", lent)
+
+
+def _minutes(lent: WriteableBuffer) -> ctypes.Array:
+    return _buffer(ctypes.c_uint32, "IL", lent)
+
+
+def _apart(one: ctypes.Array, other: ctypes.Array) -> None:
+    first, second = sorted((ctypes.addressof(each), ctypes.sizeof(each)) for each in (one, other))
+    if first[0] + first[1] > second[0]:
+        raise ValueError("the buffers overlap")
+
+
+def _accept(result: ctypes.Structure) -> None:
+    if result.number:
+        raise Refused(result.number, result.place)
+
+
+# The calls
+
+
+def refusal_text(number: SupportsIndex) -> str:
+    """The words of a refusal; none for a number that is no refusal's."""
+    return _library.cuvalimodo_refusal_text(_u32(number)).text.decode("ascii")
+
+
+def check_cards(file: ReadableBuffer) -> Counts:
     """The Counts of a card file, given as bytes; Refused with number and line where it is none."""
-    file = _bytes(cards)
-    result = _library.cuvalimodo_check_cards(*_lent(file))
+    result = _library.cuvalimodo_check_cards(*_lent(_bytes(file)))
     if result.number:
         raise Refused(result.number, result.line)
-    return Counts(result.frequencies, result.mains, result.satellites, result.shallows)
+    return Counts(*(getattr(result, name) for name in Counts._fields))
 
 
-def place_of(cards, name):
+def place_of(cards: bytes, name: str) -> int | None:
     """The place of a constituent in a card file that check_cards accepts: where its name stands in part 1; None where it does not."""
     wanted = name.encode().ljust(5)
     for place, card in enumerate(cards.split(b"\n")):
@@ -154,42 +224,70 @@ def place_of(cards, name):
     return None
 
 
-def series_into(heights, cards, latitude, places, amplitudes, phases, year, month, start, step):
-    """Fills heights, a ctypes array of c_int64, with the heights at start, start + step and so on; it is as it was where this raises."""
-    _scalars(latitude, year, month, start, step)
-    file, row = _bytes(cards), _station(places, amplitudes, phases)
-    lent = [word for numbers in row for word in _lent(numbers)]
-    result = _library.cuvalimodo_series(*_lent(file), latitude, *lent, year, month, start, step, *_buffer(ctypes.c_int64, heights))
-    if result.number:
-        raise Refused(result.number, result.place)
+class Clock:
+    """A berth clock, at first without table, station and month. Its bytes are bytes(clock)."""
 
+    def __init__(self) -> None:
+        self._memory = (ctypes.c_uint64 * (CLOCK_SIZE // 8))()
+        self.reset()
 
-def turns_into(minutes, heights, cards, latitude, places, amplitudes, phases, year, month, first, last):
-    """Writes the turns from first to last to the fronts of two ctypes arrays, c_uint32 and c_int64, that lie apart; how many, and whether the first
-    is high. They are as they were where this raises."""
-    _scalars(latitude, year, month, first, last)
-    file, row = _bytes(cards), _station(places, amplitudes, phases)
-    lent = [word for numbers in row for word in _lent(numbers)]
-    result = _library.cuvalimodo_turns(*_lent(file), latitude, *lent, year, month, first, last, *_buffer(ctypes.c_uint32, minutes), *_buffer(ctypes.c_int64, heights))
-    if result.number:
-        raise Refused(result.number, result.place)
-    return result.count, result.high
+    def __bytes__(self) -> bytes:
+        return bytes(self._memory)
 
+    def copy(self) -> Clock:
+        """Another clock in the same state."""
+        other = Clock()
+        ctypes.memmove(other._memory, self._memory, CLOCK_SIZE)
+        return other
 
-def _columns(records):
-    """Records, each (place, amplitude, phase), as three lists."""
-    return [[record[k] for record in records] for k in range(3)]
+    __copy__ = copy
 
+    def reset(self) -> None:
+        """Drops table, station and month."""
+        _library.cuvalimodo_new(self._memory)
 
-def series(cards, latitude, records, year, month, start, step, count):
-    """A list of so many heights, at the minutes start, start + step and so on."""
-    heights = (ctypes.c_int64 * count)()
-    series_into(heights, cards, latitude, *_columns(records), year, month, start, step)
-    return list(heights)
+    def load_cards(self, file: ReadableBuffer) -> None:
+        """Takes a card file's table in place of the old one. Station and month go."""
+        _accept(_library.cuvalimodo_load_cards(self._memory, *_lent(_bytes(file))))
 
+    def set_station(self, latitude: SupportsIndex, records: Iterable[Tuple[SupportsIndex, SupportsIndex, SupportsIndex]]) -> None:
+        """Takes a station, at most 146 records (place, amplitude, phase), in place of the old one. The table stays; the month goes."""
+        row = [(_fits(place, 0, 255), _u32(amplitude), _u32(phase)) for place, amplitude, phase in records]
+        lent = (_Record * len(row))(*row)
+        _accept(_library.cuvalimodo_set_station(self._memory, _fits(latitude, -(2**31), 2**31 - 1), *_lent(lent)))
 
-def turns(cards, latitude, records, year, month, first, last, room=1500):
-    """The high and low waters from minute first to minute last, a list of Turn; Refused 10 where there are more than room."""
-    minutes, heights = (ctypes.c_uint32 * room)(), (ctypes.c_int64 * room)()
-    count, high = turns_into(minutes, heights, cards, latitude, *_columns(records), year, month, first, last)
-    return [Turn(minutes[n], heights[n], (n % 2 == 0) == high) for n in range(count)]
+    def set_date(self, year: SupportsIndex, month: SupportsIndex) -> None:
+        """Prepares a month, in place of the old one. Table and station stay."""
+        _accept(_library.cuvalimodo_set_date(self._memory, _u32(year), _u32(month)))
+
+    def height(self, minute: SupportsIndex) -> int:
+        """The height at a minute of the month."""
+        result = _library.cuvalimodo_height(self._memory, _u32(minute))
+        _accept(result)
+        return result.height
+
+    def series_into(self, heights: WriteableBuffer, start: SupportsIndex, step: SupportsIndex) -> None:
+        """Fills a buffer of 64-bit signed numbers (an array("q"), a memoryview, a numpy array of int64) with the heights at start, start + step
+        and so on."""
+        _accept(_library.cuvalimodo_series(self._memory, _u32(start), _u32(step), *_lent(_heights(heights))))
+
+    def series(self, start: SupportsIndex, step: SupportsIndex, count: int) -> array[int]:
+        """So many heights, at the minutes start, start + step and so on, as an array("q")."""
+        heights = array("q", bytes(8 * count))
+        self.series_into(heights, start, step)
+        return heights
+
+    def turns_into(self, minutes: WriteableBuffer, heights: WriteableBuffer, first: SupportsIndex, last: SupportsIndex) -> Tuple[int, bool]:
+        """Writes the turns from first to last to the fronts of two buffers, of 32-bit unsigned and of 64-bit signed numbers, that lie apart: how
+        many, and whether the first is high (they alternate)."""
+        lent_minutes, lent_heights = _minutes(minutes), _heights(heights)
+        _apart(lent_minutes, lent_heights)
+        result = _library.cuvalimodo_turns(self._memory, _u32(first), _u32(last), *_lent(lent_minutes), *_lent(lent_heights))
+        _accept(result)
+        return result.count, result.high
+
+    def turns(self, first: SupportsIndex, last: SupportsIndex, room: int = 1500) -> list[Turn]:
+        """The high and low waters from minute first to minute last; Refused 10 where there are more than room."""
+        minutes, heights = array("I", bytes(4 * room)), array("q", bytes(8 * room))
+        count, high = self.turns_into(minutes, heights, first, last)
+        return [Turn(minutes[n], heights[n], (n % 2 == 0) == high) for n in range(count)]

@@ -1,155 +1,164 @@
-"""Holds cuvalimodo.py to the cases of bindings/cases.py: python3 bindings/python/test.py CASES
+"""What cuvalimodo.py does beyond the calls that play.py plays: which buffers and numbers it takes, copies, words, and its hints.
 
-Buffers are lent as parts of longer arrays, whose other numbers must stay as they are.
+Usage: python3 bindings/python/test.py
 """
 
+import copy
 import ctypes
-import sys
+import inspect
+import os
+import re
+import unittest
+from array import array
 
-import cuvalimodo
-from cuvalimodo import Refused
+from cuvalimodo import Clock, Counts, Refusal, Refused, Turn, check_cards, place_of, refusal_text
+from incident import LATITUDE, VICTORIA
 
-MINUTE = 4_000_000_000
-HEIGHT = -1_000_000_000_000
-GUARD = 77
-
-
-class Case:
-    """The numbers of a case, taken from the front."""
-
-    def __init__(self, words):
-        self.numbers = [int(word) for word in words]
-        self.at = 0
-
-    def take(self, count):
-        self.at += count
-        assert self.at <= len(self.numbers), "a number is missing"
-        return self.numbers[self.at - count : self.at]
-
-    def number(self):
-        return self.take(1)[0]
-
-    def array(self):
-        return self.take(self.number())
-
-    def rest(self):
-        return self.take(len(self.numbers) - self.at)
+ROOT = os.path.join(os.path.dirname(os.path.abspath(__file__)), "..", "..")
+LAST = 31 * 1440
 
 
-class Lent:
-    """A buffer between guards."""
-
-    def __init__(self, ctype, numbers):
-        self.space = (ctype * (len(numbers) + 2))(GUARD, *numbers, GUARD)
-        self.buffer = (ctype * len(numbers)).from_buffer(self.space, ctypes.sizeof(ctype))
-
-    def left(self):
-        first, *numbers, last = self.space
-        assert first == last == GUARD, "written past the buffer"
-        return numbers
+def read(name):
+    with open(os.path.join(ROOT, name), "rb") as file:
+        return file.read()
 
 
-def told(call, *arguments):
-    """What a call says: number, place and what it gives."""
-    try:
-        return 0, 0, call(*arguments)
-    except Refused as refused:
-        return int(refused.reason), refused.place, None
+CARDS = read("data/standard-cards.txt")
 
 
-def check_case(case, deck):
-    number, line, counts = told(cuvalimodo.check_cards, deck)
-    assert [number, line, *(counts or (0, 0, 0, 0))] == case.rest()
+def victoria():
+    clock = Clock()
+    clock.load_cards(CARDS)
+    clock.set_station(LATITUDE, [(place_of(CARDS, name), amplitude, phase) for name, amplitude, phase in VICTORIA])
+    clock.set_date(1976, 7)
+    return clock
 
 
-def place_case(case, deck):
-    name = bytes(case.take(5)).decode()
-    assert cuvalimodo.place_of(deck, name) == case.number()
+class Index:
+    """A number that is no int, as numpy's are."""
+
+    def __init__(self, value):
+        self.value = value
+
+    def __index__(self):
+        return self.value
 
 
-def series_case(case, deck):
-    latitude, row = case.number(), [case.array(), case.array(), case.array()]
-    year, month, start, step = case.take(4)
-    wanted = case.array()
-    lent = Lent(ctypes.c_int64, [HEIGHT - i for i in range(len(wanted))])
-    number, place, _ = told(cuvalimodo.series_into, lent.buffer, deck, latitude, *row, year, month, start, step)
-    assert [number, place] == case.rest()
-    assert lent.left() == wanted
-    if len(row[0]) == len(row[1]) == len(row[2]):
-        got = told(cuvalimodo.series, deck, latitude, list(zip(*row)), year, month, start, step, len(wanted))
-        assert got == (number, place, None if number else wanted)
+class Buffers(unittest.TestCase):
+    def setUp(self):
+        self.clock = victoria()
+        self.wanted = self.clock.series(0, 60, 4)
+
+    def test_kinds_that_are_taken(self):
+        # numpy's int64 has the format "l", its uint32 "I"
+        numbers = [array("q", bytes(32)), memoryview(bytearray(32)).cast("q"), memoryview(bytearray(32)).cast("l"), (ctypes.c_int64 * 4)()]
+        numbers.append(memoryview(bytearray(32)).cast("q", (2, 2)))
+        for heights in numbers:
+            self.clock.series_into(heights, 0, 60)
+            self.assertEqual(bytes(heights), bytes(self.wanted))
+
+    def test_a_part_of_a_buffer(self):
+        heights = array("q", [7] * 6)
+        self.clock.series_into(memoryview(heights)[1:5], 0, 60)
+        self.assertEqual(heights, array("q", [7, *self.wanted, 7]))
+
+    def test_kinds_that_are_not(self):
+        wrong = [array("i", bytes(16)), array("d", bytes(32)), array("Q", bytes(32)), bytearray(32), [0] * 4, memoryview(bytes(32)).cast("q")]
+        wrong.append(memoryview(array("q", bytes(64)))[::2])
+        wrong.append((ctypes.c_int64.__ctype_be__ * 4)())
+        for heights in wrong:
+            with self.assertRaises((TypeError, BufferError)):
+                self.clock.series_into(heights, 0, 60)
+            with self.assertRaises((TypeError, BufferError)):
+                self.clock.turns_into(array("I", bytes(16)), heights, 0, LAST)
+        with self.assertRaises(TypeError):
+            self.clock.turns_into(array("q", bytes(32)), array("q", bytes(32)), 0, LAST)
+
+    def test_places_that_are_not(self):
+        memory = memoryview(bytearray(4000))
+        with self.assertRaises(ValueError):
+            self.clock.series_into(memory[1:33].cast("q"), 0, 60)
+        with self.assertRaises(ValueError):
+            self.clock.turns_into(memory[:2000].cast("I"), memory[1992:].cast("q"), 0, LAST)
+        count, _ = self.clock.turns_into(memory[:1200].cast("I"), memory[1200:3600].cast("q"), 0, LAST)
+        self.assertEqual(count, 103)
+
+    def test_empty(self):
+        self.clock.series_into(array("q"), 0, 60)
+        self.assertEqual(self.clock.series(0, 60, 0), array("q"))
+        self.assertEqual(self.clock.turns(0, 0, room=0), [])
+
+    def test_a_list_of_turns(self):
+        turns = self.clock.turns(0, LAST)
+        self.assertEqual((len(turns), turns[0], turns[1].high), (103, Turn(202, 79445, True), False))
+        with self.assertRaises(Refused) as caught:
+            self.clock.turns(0, LAST, room=102)
+        self.assertEqual(caught.exception.number, Refusal.TOO_MANY_TURNS)
 
 
-def turns_case(case, deck):
-    latitude, row = case.number(), [case.array(), case.array(), case.array()]
-    year, month, first, last = case.take(4)
-    wanted_minutes, wanted_heights = case.array(), case.array()
-    minutes = Lent(ctypes.c_uint32, [MINUTE - i for i in range(len(wanted_minutes))])
-    heights = Lent(ctypes.c_int64, [HEIGHT - i for i in range(len(wanted_heights))])
-    number, place, found = told(cuvalimodo.turns_into, minutes.buffer, heights.buffer, deck, latitude, *row, year, month, first, last)
-    count, high = found or (0, False)
-    assert [number, place, count, int(high)] == case.rest()
-    assert minutes.left() == wanted_minutes
-    assert heights.left() == wanted_heights
-
-
-def raises(error, call, *arguments):
-    try:
-        call(*arguments)
-    except error:
-        return
-    raise AssertionError("taken: %r" % (arguments[1:],))
-
-
-def overflows(call, *arguments):
-    raises(OverflowError, call, *arguments)
-
-
-def check_buffers(deck):
-    """Buffers of another type, which a call would write past."""
-    rest = deck, 0, [0], [1], [2], 1976, 7, 0, 60
-    for wrong in ((ctypes.c_int32 * 4)(), (ctypes.c_double * 4)(), [0] * 4, bytearray(32)):
-        raises(TypeError, cuvalimodo.series_into, wrong, *rest)
-        raises(TypeError, cuvalimodo.turns_into, wrong, (ctypes.c_int64 * 4)(), *rest)
-        raises(TypeError, cuvalimodo.turns_into, (ctypes.c_uint32 * 4)(), wrong, *rest)
-
-
-def check_overflows(deck):
+class Numbers(unittest.TestCase):
     """Numbers that ctypes alone would cut to 32 or 8 bits, and so take for others."""
-    good = [(0, 1, 2)]
-    for latitude in (2**31, -(2**31) - 1, 2**32 + 5):
-        overflows(cuvalimodo.series, deck, latitude, good, 1976, 7, 0, 60, 1)
-    for record in ((256, 1, 2), (-1, 1, 2), (0, 2**32, 2), (0, -1, 2), (0, 1, 2**32)):
-        overflows(cuvalimodo.series, deck, 0, [record], 1976, 7, 0, 60, 1)
-    for year, month, start, step in ((2**32 + 1976, 7, 0, 60), (1976, 2**32 + 7, 0, 60), (1976, 7, 2**32, 60), (1976, 7, 0, 2**32 + 60), (-1, 7, 0, 60)):
-        overflows(cuvalimodo.series, deck, 0, good, year, month, start, step, 1)
-        overflows(cuvalimodo.turns, deck, 0, good, year, month, start, step)
+
+    def overflows(self, call, *arguments):
+        before = bytes(self.clock)
+        with self.assertRaises(OverflowError):
+            call(*arguments)
+        self.assertEqual(bytes(self.clock), before)
+
+    def test_overflow(self):
+        self.clock = clock = victoria()
+        for latitude in (2**31, -(2**31) - 1, 2**32 + 5):
+            self.overflows(clock.set_station, latitude, [])
+        for record in ((256, 1, 2), (-1, 1, 2), (0, 2**32, 2), (0, -1, 2), (0, 1, 2**32)):
+            self.overflows(clock.set_station, 0, [record])
+        for wrong in (2**32, -1, 2**64 + 7):
+            for call in (clock.height, lambda n: clock.set_date(n, 7), lambda n: clock.set_date(1976, n), lambda n: clock.series(n, 60, 1)):
+                self.overflows(call, wrong)
+            for call in (lambda n: clock.series(0, n, 1), lambda n: clock.turns(n, 9), lambda n: clock.turns(0, n), refusal_text):
+                self.overflows(call, wrong)
+
+    def test_kinds(self):
+        clock = victoria()
+        self.assertEqual(clock.height(Index(510)), clock.height(510))
+        for wrong in (5.0, "5", None):
+            with self.assertRaises(TypeError):
+                clock.height(wrong)
 
 
-KINDS = {"check": check_case, "place": place_case, "series": series_case, "turns": turns_case}
+class Others(unittest.TestCase):
+    def test_copies_are_clocks_of_their_own(self):
+        clock = victoria()
+        height = clock.height(510)
+        for other in (clock.copy(), copy.copy(clock), copy.deepcopy(clock)):
+            self.assertEqual(other.height(510), height)
+            other.reset()
+            self.assertEqual(clock.height(510), height)
+            with self.assertRaises(Refused) as caught:
+                other.height(510)
+            self.assertEqual((caught.exception.number, caught.exception.place), (Refusal.NO_TABLE, 0))
 
+    def test_words(self):
+        listed = dict(re.findall(r"^    (\d+) (.+)$", read("docs/FORMATS.md").decode(), re.M))
+        self.assertEqual(sorted(map(int, listed)), [int(refusal) for refusal in Refusal])
+        for number in range(30):
+            self.assertEqual(refusal_text(number), listed.get(str(number), ""))
+        with self.assertRaises(Refused) as caught:
+            Clock().set_date(1976, 7)
+        self.assertEqual((caught.exception.text, str(caught.exception)), ("no table", "no table (refusal 21 at 0)"))
 
-def main():
-    deck = None
-    counts = dict.fromkeys(KINDS, 0)
-    with open(sys.argv[1]) as cases:
-        for at, line in enumerate(cases, 1):
-            kind, *words = line.split()
-            case = Case(words)
-            if kind == "deck":
-                deck = bytes(case.array())
-                continue
-            try:
-                KINDS[kind](case, deck)
-            except AssertionError:
-                print("line %d of the cases differs" % at)
-                raise
-            counts[kind] += 1
-    check_overflows(deck)
-    check_buffers(deck)
-    print("Python: %(check)d card files, %(series)d series and %(turns)d searches for turns as the second code has them" % counts)
-    sys.exit(0 if all(counts.values()) else 1)
+    def test_cards(self):
+        self.assertEqual(check_cards(memoryview(CARDS)), Counts(145, 45, 162, 100))
+        self.assertEqual((place_of(CARDS, "Z0"), place_of(CARDS, "none")), (0, None))
+        with self.assertRaises(TypeError):
+            Clock().load_cards("no bytes")
+
+    def test_hints(self):
+        methods = [value for name, value in vars(Clock).items() if callable(value) and name != "__copy__"]
+        for function in (check_cards, place_of, refusal_text, *methods):
+            signature = inspect.signature(function)
+            hints = [signature.return_annotation] + [p.annotation for p in signature.parameters.values() if p.name != "self"]
+            self.assertNotIn(inspect.Signature.empty, hints, function.__name__)
 
 
 if __name__ == "__main__":
-    main()
+    unittest.main()

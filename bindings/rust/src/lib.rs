@@ -1,119 +1,104 @@
-//! Tidal heights, and high and low waters, from a card file of constituents, a station and a month, by the proved clock of Cuvalimodo.
+//! A berth clock: tidal heights, and high and low waters, from a card file of constituents, a station and a month.
 //!
-//! Every function is safe: the library under it (`crates/cuvalimodo_c`, proved in Rattle for every input) asks nothing of the numbers that it
-//! is lent. A call keeps nothing, so it may be made from any thread; it takes less than 1 MiB of stack.
+//! The calls are those of the proved library of Cuvalimodo (`crates/cuvalimodo_c`). One that is turned down gives a [`Refusal`], with document 01's
+//! number and place, and leaves the clock and the lent buffers as they were.
 //!
 //! Units: latitude in minutes of arc, north positive; amplitudes and heights in tenths of a millimetre; phase lags in hundredths of a degree;
 //! minutes after 00:00 GMT on the 1st of the month.
 //!
 //! ```
-//! use cuvalimodo::{check_cards, Error, Refusal};
-//! let nothing = check_cards(b"");
-//! assert_eq!(nothing, Err(Error { refusal: Refusal::Ended, place: 1 }));
+//! use cuvalimodo::{place_of, Clock, Record, Refusal};
+//! # fn main() -> Result<(), Refusal> {
+//! let cards = include_bytes!(concat!(env!("CARGO_MANIFEST_DIR"), "/../../data/standard-cards.txt"));
+//! let mut clock = Clock::new();
+//! clock.load_cards(cards)?;
+//! let mean = Record { place: place_of(cards, "Z0").unwrap(), amplitude: 6067, phase: 0 };
+//! clock.set_station(2905, &[mean])?;
+//! clock.set_date(1976, 7)?;
+//! assert_eq!(clock.height(510), Ok(6067));
+//!
+//! // An update that is refused leaves the clock as it was: station, month and heights.
+//! let refused = clock.set_station(2905, &[mean; 147]).unwrap_err();
+//! assert_eq!(refused, Refusal { number: Refusal::TOO_MANY, place: 147 });
+//! assert_eq!(clock.height(510), Ok(6067));
+//! # Ok(())
+//! # }
 //! ```
+#![deny(unsafe_code)]
 #![warn(missing_docs)]
 
-pub mod sys;
+#[allow(unsafe_code, missing_docs)]
+mod sys;
 
 use std::fmt;
+pub use sys::{Record, CLOCK_SIZE};
 
-/// Why a call is refused. The numbers are document 01's.
+/// A refused call: why, by document 01's number, and its place (a card's line or a station's record, from 1; else 0).
 #[derive(Clone, Copy, Debug, PartialEq, Eq, Hash)]
-#[repr(u32)]
-pub enum Refusal {
-    /// A line over 80 columns, or a byte outside 32 to 126.
-    BadLine = 1,
-    /// A malformed number.
-    Malformed = 2,
-    /// A number outside its range.
-    OutOfRange = 3,
-    /// A name blank or twice, or a station's place twice.
-    BadName = 4,
-    /// A definition, main or frequency missing, or a place not in the table.
-    Missing = 5,
-    /// More entries or records than there may be.
-    TooMany = 6,
-    /// The card file ends inside a part.
-    Ended = 7,
-    /// Year or month out of range.
-    BadDate = 8,
-    /// Minutes outside the month or reversed, or step out of range.
-    BadMinutes = 9,
-    /// More turns than one of the lent buffers holds.
-    TooManyTurns = 10,
-    /// A nodal correction too large.
-    TooLarge = 11,
-    /// The three arrays of records differ in length. Not document 01's; records given to this crate's functions never do.
-    Uneven = 100,
+pub struct Refusal {
+    /// Why: one of the constants below.
+    pub number: u32,
+    /// Where.
+    pub place: usize,
 }
 
 impl Refusal {
-    /// The refusal of a number, as [`sys`] returns it; nothing for 0, which is no refusal.
-    fn of(number: u32) -> Option<Refusal> {
-        Some(match number {
-            0 => return None,
-            1 => Refusal::BadLine,
-            2 => Refusal::Malformed,
-            3 => Refusal::OutOfRange,
-            4 => Refusal::BadName,
-            5 => Refusal::Missing,
-            6 => Refusal::TooMany,
-            7 => Refusal::Ended,
-            8 => Refusal::BadDate,
-            9 => Refusal::BadMinutes,
-            10 => Refusal::TooManyTurns,
-            11 => Refusal::TooLarge,
-            100 => Refusal::Uneven,
-            _ => unreachable!("refusal {number} is not one of a call from cards, station and date"),
-        })
-    }
+    /// A line over 80 columns, or a byte outside 32 to 126.
+    pub const BAD_LINE: u32 = 1;
+    /// A malformed number.
+    pub const MALFORMED: u32 = 2;
+    /// A number outside its range.
+    pub const OUT_OF_RANGE: u32 = 3;
+    /// A name blank or twice, or a station's place twice.
+    pub const BAD_NAME: u32 = 4;
+    /// A definition, main or frequency missing, or a place not in the table.
+    pub const MISSING: u32 = 5;
+    /// More entries or records than there may be.
+    pub const TOO_MANY: u32 = 6;
+    /// The card file ends inside a part.
+    pub const ENDED: u32 = 7;
+    /// Year or month out of range.
+    pub const BAD_DATE: u32 = 8;
+    /// Minutes outside the month or reversed, or step out of range.
+    pub const BAD_MINUTES: u32 = 9;
+    /// More turns than one of the lent buffers holds.
+    pub const TOO_MANY_TURNS: u32 = 10;
+    /// A nodal correction too large.
+    pub const TOO_LARGE: u32 = 11;
+    /// The clock has no table.
+    pub const NO_TABLE: u32 = 21;
+    /// The clock has no station.
+    pub const NO_STATION: u32 = 22;
+    /// The clock has no month.
+    pub const NO_MONTH: u32 = 23;
 
-    /// Document 01's number.
-    pub fn number(self) -> u32 {
-        self as u32
+    /// The library's words for it.
+    ///
+    /// ```
+    /// use cuvalimodo::Refusal;
+    /// let refusal = Refusal { number: Refusal::NO_MONTH, place: 0 };
+    /// assert_eq!(refusal.text(), "no month");
+    /// assert_eq!(refusal.to_string(), "no month (refusal 23 at 0)");
+    /// ```
+    pub fn text(&self) -> String {
+        let text = sys::refusal_text(self.number).text;
+        text.iter().take_while(|&&byte| byte != 0).map(|&byte| char::from(byte)).collect()
     }
 }
 
 impl fmt::Display for Refusal {
     fn fmt(&self, f: &mut fmt::Formatter<'_>) -> fmt::Result {
-        f.write_str(match self {
-            Refusal::BadLine => "a line over 80 columns, or a byte outside 32 to 126",
-            Refusal::Malformed => "a malformed number",
-            Refusal::OutOfRange => "a number outside its range",
-            Refusal::BadName => "a name blank or twice, or a place twice",
-            Refusal::Missing => "a definition, main or frequency missing, or a place not in the table",
-            Refusal::TooMany => "more entries or records than there may be",
-            Refusal::Ended => "the card file ends inside a part",
-            Refusal::BadDate => "year or month out of range",
-            Refusal::BadMinutes => "minutes outside the month or reversed, or step out of range",
-            Refusal::TooManyTurns => "more turns than there is room for",
-            Refusal::TooLarge => "a nodal correction too large",
-            Refusal::Uneven => "the three arrays of records differ in length",
-        })
+        write!(f, "{} (refusal {} at {})", self.text(), self.number, self.place)
     }
 }
 
-/// A refused call: why, and its place (a card's line or a station's record, from 1; else 0).
-#[derive(Clone, Copy, Debug, PartialEq, Eq, Hash)]
-pub struct Error {
-    /// Why.
-    pub refusal: Refusal,
-    /// Where.
-    pub place: usize,
-}
+impl std::error::Error for Refusal {}
 
-impl fmt::Display for Error {
-    fn fmt(&self, f: &mut fmt::Formatter<'_>) -> fmt::Result {
-        write!(f, "{} (refusal {}) at {}", self.refusal, self.refusal.number(), self.place)
-    }
-}
-
-impl std::error::Error for Error {}
-
-fn accepted(number: u32, place: usize) -> Result<(), Error> {
-    match Refusal::of(number) {
-        None => Ok(()),
-        Some(refusal) => Err(Error { refusal, place }),
+fn accepted(number: u32, place: usize) -> Result<(), Refusal> {
+    if number == 0 {
+        Ok(())
+    } else {
+        Err(Refusal { number, place })
     }
 }
 
@@ -128,35 +113,6 @@ pub struct Counts {
     pub satellites: usize,
     /// Shallow-water constituents.
     pub shallows: usize,
-}
-
-/// One of a station's constituents.
-#[derive(Clone, Copy, Debug, PartialEq, Eq)]
-pub struct Record {
-    /// Its position among the card file's frequencies, from 0: see [`place_of`].
-    pub place: u8,
-    /// Tenths of a millimetre, 0 to 65,535.
-    pub amplitude: u32,
-    /// Phase lag in hundredths of a degree, 0 to 35,999.
-    pub phase: u32,
-}
-
-/// A station: at most 146 constituents.
-#[derive(Clone, Copy, Debug)]
-pub struct Station<'a> {
-    /// Minutes of arc, north positive, -5,400 to 5,400.
-    pub latitude: i32,
-    /// Its constituents.
-    pub records: &'a [Record],
-}
-
-/// A month of the years 1950 to 2049.
-#[derive(Clone, Copy, Debug, PartialEq, Eq)]
-pub struct Month {
-    /// The year.
-    pub year: u32,
-    /// 1 to 12.
-    pub month: u32,
 }
 
 /// How many turns were written, and whether the first is a high water; they alternate.
@@ -175,110 +131,117 @@ impl Turns {
     }
 }
 
-/// The records taken apart, as they cross.
-struct Row {
-    places: Vec<u8>,
-    amplitudes: Vec<u32>,
-    phases: Vec<u32>,
-}
-
-impl Row {
-    fn of(records: &[Record]) -> Row {
-        Row {
-            places: records.iter().map(|r| r.place).collect(),
-            amplitudes: records.iter().map(|r| r.amplitude).collect(),
-            phases: records.iter().map(|r| r.phase).collect(),
-        }
-    }
-}
-
-/// Checks a card file; an error's place is its line.
-pub fn check_cards(cards: &[u8]) -> Result<Counts, Error> {
-    // SAFETY: the slice is lent for the call.
-    let got = unsafe { sys::cuvalimodo_check_cards(cards.as_ptr(), cards.len()) };
-    accepted(got.number, got.line)?;
-    Ok(Counts {
-        frequencies: got.frequencies,
-        mains: got.mains,
-        satellites: got.satellites,
-        shallows: got.shallows,
-    })
+/// Checks a card file; a refusal's place is its line.
+///
+/// ```
+/// use cuvalimodo::{check_cards, Refusal};
+/// let cards = include_bytes!(concat!(env!("CARGO_MANIFEST_DIR"), "/../../data/standard-cards.txt"));
+/// let counts = check_cards(cards)?;
+/// assert_eq!((counts.frequencies, counts.mains, counts.satellites, counts.shallows), (145, 45, 162, 100));
+/// assert_eq!(check_cards(b""), Err(Refusal { number: Refusal::ENDED, place: 1 }));
+/// # Ok::<(), Refusal>(())
+/// ```
+pub fn check_cards(file: &[u8]) -> Result<Counts, Refusal> {
+    let sys::Counts { number, line, frequencies, mains, satellites, shallows } = sys::check_cards(file);
+    accepted(number, line)?;
+    Ok(Counts { frequencies, mains, satellites, shallows })
 }
 
 /// The place of a constituent in a card file that [`check_cards`] accepts: where its name stands in part 1.
+///
+/// ```
+/// let cards = b"    Z0       0.0000000000\n    M2       0.0805114007\n\n    S2       0.0833333333\n";
+/// assert_eq!(cuvalimodo::place_of(cards, "M2"), Some(1));
+/// assert_eq!(cuvalimodo::place_of(cards, "S2"), None);
+/// ```
 pub fn place_of(cards: &[u8], name: &str) -> Option<u8> {
     let column = |text: &[u8], k: usize| text.get(k).copied().unwrap_or(b' ');
-    let lines = cards.split(|&byte| byte == b'\n');
-    for (place, line) in lines.enumerate() {
-        if line.iter().all(|&byte| byte == b' ') {
-            return None;
-        }
-        if name.len() <= 5 && (0..5).all(|k| column(line, 4 + k) == column(name.as_bytes(), k)) {
-            return u8::try_from(place).ok();
-        }
+    let part = cards.split(|&byte| byte == b'\n').take_while(|line| line.iter().any(|&byte| byte != b' '));
+    let is_it = |line: &[u8]| name.len() <= 5 && (0..5).all(|k| column(line, 4 + k) == column(name.as_bytes(), k));
+    let place = part.map(is_it).position(|found| found)?;
+    u8::try_from(place).ok()
+}
+
+/// A berth clock: a table of constituents, a station and a month, each there or not.
+///
+/// It has [`CLOCK_SIZE`] bytes and lies where you put it. Methods of `&self` may be called from several threads at once. [`Clock::height`] takes less than
+/// 1 KB of stack, every other call less than 1 MiB.
+///
+/// ```
+/// use cuvalimodo::{Clock, Refusal};
+/// use std::sync::RwLock;
+/// static BERTH: RwLock<Clock> = RwLock::new(Clock::new());
+/// assert_eq!(BERTH.read().unwrap().height(0), Err(Refusal { number: Refusal::NO_TABLE, place: 0 }));
+/// assert!(BERTH.write().unwrap().load_cards(b"no cards").is_err());
+/// ```
+#[derive(Clone)]
+pub struct Clock(sys::Clock);
+
+impl Clock {
+    /// A clock with no table, station or month.
+    pub const fn new() -> Clock {
+        Clock(sys::Clock::zeroed())
     }
-    None
+
+    /// Drops table, station and month.
+    pub fn reset(&mut self) {
+        sys::new(&mut self.0);
+    }
+
+    /// Takes a card file's table in place of the old one. Station and month go.
+    pub fn load_cards(&mut self, file: &[u8]) -> Result<(), Refusal> {
+        let said = sys::load_cards(&mut self.0, file);
+        accepted(said.number, said.place)
+    }
+
+    /// Takes a station, at most 146 records, in place of the old one. The table stays; the month goes.
+    pub fn set_station(&mut self, latitude: i32, records: &[Record]) -> Result<(), Refusal> {
+        let said = sys::set_station(&mut self.0, latitude, records);
+        accepted(said.number, said.place)
+    }
+
+    /// Prepares a month, in place of the old one. Table and station stay.
+    pub fn set_date(&mut self, year: u32, month: u32) -> Result<(), Refusal> {
+        let said = sys::set_date(&mut self.0, year, month);
+        accepted(said.number, said.place)
+    }
+
+    /// The height at a minute of the month.
+    pub fn height(&self, minute: u32) -> Result<i64, Refusal> {
+        let said = sys::height(&self.0, minute);
+        accepted(said.number, said.place)?;
+        Ok(said.height)
+    }
+
+    /// Fills `heights`: the height n, from 0, is that at minute `start + n * step`.
+    pub fn series(&self, start: u32, step: u32, heights: &mut [i64]) -> Result<(), Refusal> {
+        let said = sys::series(&self.0, start, step, heights);
+        accepted(said.number, said.place)
+    }
+
+    /// Writes the high and low waters from minute `first` to minute `last` to the fronts of the two buffers; what is past them stays. 250 places are
+    /// plenty for a month.
+    pub fn turns(&self, first: u32, last: u32, minutes: &mut [u32], heights: &mut [i64]) -> Result<Turns, Refusal> {
+        let said = sys::turns(&self.0, first, last, minutes, heights);
+        accepted(said.number, said.place)?;
+        Ok(Turns { count: said.count, first_high: said.high })
+    }
+
+    /// The clock's bytes. A refused call leaves every one as it was. (Two clocks in one state may differ in bytes that mean nothing.)
+    pub fn bytes(&self) -> &[u8; CLOCK_SIZE] {
+        self.0.bytes()
+    }
 }
 
-/// A function of the library with what sets the clock before what is asked of it: card file, station and month.
-macro_rules! ask {
-    ($function:path, $cards:expr, $station:expr, $month:expr, $($asked:expr),+) => {{
-        let row = Row::of($station.records);
-        $function(
-            $cards.as_ptr(),
-            $cards.len(),
-            $station.latitude,
-            row.places.as_ptr(),
-            row.places.len(),
-            row.amplitudes.as_ptr(),
-            row.amplitudes.len(),
-            row.phases.as_ptr(),
-            row.phases.len(),
-            $month.year,
-            $month.month,
-            $($asked),+
-        )
-    }};
+impl Default for Clock {
+    fn default() -> Clock {
+        Clock::new()
+    }
 }
 
-/// Fills `heights`: the height n, from 0, is that at minute `start + n * step`. An error leaves it as it was.
-pub fn series(cards: &[u8], station: Station<'_>, month: Month, start: u32, step: u32, heights: &mut [i64]) -> Result<(), Error> {
-    // SAFETY: the slices are lent for the call, and `heights` alone is written.
-    let got = unsafe {
-        ask!(sys::cuvalimodo_series, cards, station, month, start, step, heights.as_mut_ptr(), heights.len())
-    };
-    accepted(got.number, got.place)
-}
-
-/// Writes the high and low waters from minute `first` to minute `last` to the fronts of the two buffers; what is past them stays. An error leaves
-/// both as they were. 250 places are plenty for a month.
-pub fn turns(
-    cards: &[u8],
-    station: Station<'_>,
-    month: Month,
-    first: u32,
-    last: u32,
-    minutes: &mut [u32],
-    heights: &mut [i64],
-) -> Result<Turns, Error> {
-    // SAFETY: the slices are lent for the call, and the two buffers, which are apart, alone are written.
-    let got = unsafe {
-        ask!(
-            sys::cuvalimodo_turns,
-            cards,
-            station,
-            month,
-            first,
-            last,
-            minutes.as_mut_ptr(),
-            minutes.len(),
-            heights.as_mut_ptr(),
-            heights.len()
-        )
-    };
-    accepted(got.number, got.place)?;
-    Ok(Turns {
-        count: got.count,
-        first_high: got.high,
-    })
+/// Tells the clock's state by what it answers to minute 0.
+impl fmt::Debug for Clock {
+    fn fmt(&self, f: &mut fmt::Formatter<'_>) -> fmt::Result {
+        f.debug_struct("Clock").field("height_at_0", &self.height(0)).finish_non_exhaustive()
+    }
 }

@@ -1,92 +1,88 @@
-//! The declarations of `bindings/c/cuvalimodo.h`, which says what each is. Nothing checks them against the Rattle source but the tests.
+//! The declarations of `bindings/c/cuvalimodo.h`, which says what each is, and a safe function over each. Nothing checks the declarations against the
+//! Rattle source but `bindings/test`.
+//!
+//! All `unsafe` of this crate stands here, and for one reason: the library asks of its caller what references and slices are. A pointer is aligned
+//! and not null, also that of an empty slice; what `&mut` lends overlaps nothing else; and a [`Clock`] is all zeros or as a call left it, since
+//! nothing outside this module can write to one.
 
-/// What a card file comes to.
+/// How many bytes a clock has.
+pub const CLOCK_SIZE: usize = 16824;
+
+#[repr(C, align(8))]
+#[derive(Clone)]
+pub struct Clock {
+    inside: [u8; CLOCK_SIZE],
+}
+
+impl Clock {
+    /// All zeros: a clock without a table.
+    pub const fn zeroed() -> Clock {
+        Clock { inside: [0; CLOCK_SIZE] }
+    }
+
+    pub fn bytes(&self) -> &[u8; CLOCK_SIZE] {
+        &self.inside
+    }
+}
+
+/// One of a station's constituents.
 #[repr(C)]
-#[derive(Clone, Copy, Debug, PartialEq, Eq)]
+#[derive(Clone, Copy, Debug, PartialEq, Eq, Hash)]
+pub struct Record {
+    /// Its position among the card file's frequencies, from 0: see [`crate::place_of`].
+    pub place: u8,
+    /// Tenths of a millimetre, 0 to 65,535.
+    pub amplitude: u32,
+    /// Phase lag in hundredths of a degree, 0 to 35,999.
+    pub phase: u32,
+}
+
+#[repr(C)]
 pub struct Counts {
-    /// 0, or the refusal's number.
     pub number: u32,
-    /// The refused line.
     pub line: usize,
-    /// Entries of part 1.
     pub frequencies: usize,
-    /// Main constituents.
     pub mains: usize,
-    /// Satellites of all mains together.
     pub satellites: usize,
-    /// Shallow-water constituents.
     pub shallows: usize,
 }
 
-/// What a series comes to.
 #[repr(C)]
-#[derive(Clone, Copy, Debug, PartialEq, Eq)]
 pub struct Verdict {
-    /// 0, or the refusal's number.
     pub number: u32,
-    /// The refusal's place.
     pub place: usize,
 }
 
-/// What a search for turns comes to.
 #[repr(C)]
-#[derive(Clone, Copy, Debug, PartialEq, Eq)]
-pub struct Turnings {
-    /// 0, or the refusal's number.
+pub struct Reading {
     pub number: u32,
-    /// The refusal's place.
     pub place: usize,
-    /// How many turns.
+    pub height: i64,
+}
+
+#[repr(C)]
+pub struct Turnings {
+    pub number: u32,
+    pub place: usize,
     pub count: usize,
-    /// Whether the first is high.
     pub high: bool,
 }
 
+#[repr(C)]
+pub struct Text {
+    pub text: [u8; 64],
+}
+
 extern "C" {
-    /// Checks a card file.
-    ///
-    /// # Safety
-    /// The pointer is not null, and so many bytes may be read.
-    pub fn cuvalimodo_check_cards(file: *const u8, file_length: usize) -> Counts;
-
-    /// Fills `heights`.
-    ///
-    /// # Safety
-    /// No pointer is null; so many elements may be read, or written for `heights`, which overlaps nothing else.
-    pub fn cuvalimodo_series(
-        file: *const u8,
-        file_length: usize,
-        latitude: i32,
-        places: *const u8,
-        places_length: usize,
-        amplitudes: *const u32,
-        amplitudes_length: usize,
-        phases: *const u32,
-        phases_length: usize,
-        year: u32,
-        month: u32,
-        start: u32,
-        step: u32,
-        heights: *mut i64,
-        heights_length: usize,
-    ) -> Verdict;
-
-    /// Writes turns to the fronts of `minutes` and `heights`.
-    ///
-    /// # Safety
-    /// No pointer is null; so many elements may be read, or written for `minutes` and `heights`, which overlap nothing else.
-    pub fn cuvalimodo_turns(
-        file: *const u8,
-        file_length: usize,
-        latitude: i32,
-        places: *const u8,
-        places_length: usize,
-        amplitudes: *const u32,
-        amplitudes_length: usize,
-        phases: *const u32,
-        phases_length: usize,
-        year: u32,
-        month: u32,
+    fn cuvalimodo_check_cards(file: *const u8, file_length: usize) -> Counts;
+    fn cuvalimodo_new(clock: &mut Clock);
+    fn cuvalimodo_load_cards(clock: &mut Clock, file: *const u8, file_length: usize) -> Verdict;
+    fn cuvalimodo_set_station(clock: &mut Clock, latitude: i32, records: *const Record, records_length: usize) -> Verdict;
+    fn cuvalimodo_set_date(clock: &mut Clock, year: u32, month: u32) -> Verdict;
+    fn cuvalimodo_height(clock: &Clock, minute: u32) -> Reading;
+    fn cuvalimodo_series(clock: &Clock, start: u32, step: u32, heights: *mut i64, heights_length: usize) -> Verdict;
+    fn cuvalimodo_turns(
+        clock: &Clock,
         first: u32,
         last: u32,
         minutes: *mut u32,
@@ -94,4 +90,50 @@ extern "C" {
         heights: *mut i64,
         heights_length: usize,
     ) -> Turnings;
+    fn cuvalimodo_refusal_text(number: u32) -> Text;
+}
+
+pub fn check_cards(file: &[u8]) -> Counts {
+    // SAFETY: see the head of this file.
+    unsafe { cuvalimodo_check_cards(file.as_ptr(), file.len()) }
+}
+
+pub fn new(clock: &mut Clock) {
+    // SAFETY: see the head of this file.
+    unsafe { cuvalimodo_new(clock) }
+}
+
+pub fn load_cards(clock: &mut Clock, file: &[u8]) -> Verdict {
+    // SAFETY: see the head of this file.
+    unsafe { cuvalimodo_load_cards(clock, file.as_ptr(), file.len()) }
+}
+
+pub fn set_station(clock: &mut Clock, latitude: i32, records: &[Record]) -> Verdict {
+    // SAFETY: see the head of this file.
+    unsafe { cuvalimodo_set_station(clock, latitude, records.as_ptr(), records.len()) }
+}
+
+pub fn set_date(clock: &mut Clock, year: u32, month: u32) -> Verdict {
+    // SAFETY: see the head of this file.
+    unsafe { cuvalimodo_set_date(clock, year, month) }
+}
+
+pub fn height(clock: &Clock, minute: u32) -> Reading {
+    // SAFETY: see the head of this file.
+    unsafe { cuvalimodo_height(clock, minute) }
+}
+
+pub fn series(clock: &Clock, start: u32, step: u32, heights: &mut [i64]) -> Verdict {
+    // SAFETY: see the head of this file.
+    unsafe { cuvalimodo_series(clock, start, step, heights.as_mut_ptr(), heights.len()) }
+}
+
+pub fn turns(clock: &Clock, first: u32, last: u32, minutes: &mut [u32], heights: &mut [i64]) -> Turnings {
+    // SAFETY: see the head of this file.
+    unsafe { cuvalimodo_turns(clock, first, last, minutes.as_mut_ptr(), minutes.len(), heights.as_mut_ptr(), heights.len()) }
+}
+
+pub fn refusal_text(number: u32) -> Text {
+    // SAFETY: it takes any number.
+    unsafe { cuvalimodo_refusal_text(number) }
 }

@@ -2,21 +2,19 @@
 use mathlib.Core.Path.{_≡_}
 use Prim.Native.Nat.{ℕ}
 use mathlib.Core.List.{List}
-use mathlib.Core.Bool.{true, false}
+use mathlib.Core.Bool.{true}
 use Rattle.refusals.specs.Outcome.{accepted, refused}
 use Rattle.table.specs.Table.{Table}
-use Rattle.station.specs.Station.{Station}
 use Rattle.card_file.specs.Cards.{cardsOutcome}
-use Rattle.calls.specs.State.{Month, State}
-use Rattle.calls.specs.inner.Flags.{stateOf}
+use Rattle.calls.specs.State.{State}
+use Rattle.calls.specs.inner.Flags.{tabledOnly}
 use Rattle.calls.specs.Calls.{cardsReturns, cardsLeaves}
 
 module _ (k : State) (file : List ℕ) where
   -- its table is there, and no station and no month
-  pub file-accepted : (table : Table) → cardsOutcome file ≡ accepted table → (station : Station) (month : Month)
-      → (accepted tt ≡ cardsReturns file) × (stateOf true table false station false month ≡ cardsLeaves k file)
+  pub file-accepted : (table : Table) → cardsOutcome file ≡ accepted table → (accepted tt ≡ cardsReturns file) × (tabledOnly true table ≡ cardsLeaves k file)
   unfolding cardsReturns cardsLeaves
-  file-accepted table e station month = (rw e, rw e)
+  file-accepted table e = (rw e, rw e)
 
   -- everything is as it was
   pub file-refused : (number line : ℕ) → cardsOutcome file ≡ refused number line → (refused number line ≡ cardsReturns file) × (k ≡ cardsLeaves k file)

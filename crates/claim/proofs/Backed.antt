@@ -35,6 +35,10 @@ use Rattle.calls.specs.Names.{namesIn}
 use Rattle.clock.specs.Returned.{heightReturned, turnsReturned}
 use Rattle.calls.specs.Calls.{cardsReturns, cardsLeaves, stationReturns, stationLeaves, dateGives, dateReturns, dateLeaves, heightReturns, seriesHeights, seriesGives, turnsGives}
 use Rattle.clock.specs.Posts.{NewPost, CardsPost, StationPost, DatePost, HeightPost, SeriesPost, TurnsPost}
+use Rattle.cuvalimodo_c.specs.declared.answers.Verdict.{Verdict}
+use Rattle.cuvalimodo_c.specs.declared.answers.Reading.{Reading}
+use Rattle.cuvalimodo_c.specs.declared.answers.Turnings.{Turnings}
+use Rattle.cuvalimodo_c.specs.Answers.{verdictIn, readingIn, turningsIn, verdictOf, readingOf, turningsOf, Plain, PlainReading, PlainTurnings}
 use Rattle.claim.specs.Document.{Cards, Station, Date, Height, Series, Turns, Names, told, predicted, wrote, found, named}
 use Rattle.claim.specs.Calls.{Keeps, New, Call, Calls, done, _then_}
 use Rattle.claim.specs.Controls.{Controls, eachKind, eachRefused}
@@ -52,9 +56,9 @@ backed P Q σ F s =
 kept : (P : (w : World) → SProp (w .𝓤)) (χ : Type 0) → χ → Keeps P (λ w. fact (w .𝓤) χ)
 kept P χ y = record { keeps = λ φ ψ p q x. ∥∥₁-map (q w₀ .apply (w₀ .𝓤 .one) ∣ (y, tt) ∣₁) (λ t. t .0) }
 
--- a lent buffer, by what it holds
-abbrev lent : {X : Type 0} → List X → RefT (List X)
-lent xs = record { ptr = (0, 0); name = 0; now = xs }
+-- a reference to what is lent, by what it holds
+abbrev lent : {X : Type 0} → X → RefT X
+lent x = record { ptr = (0, 0); name = 0; now = x }
 
 -- ---- what a clock with no table says
 
@@ -66,73 +70,127 @@ no-file-leaves : (k : State) → cardsLeaves k [] ≡ k
 unfolding cardsLeaves cardsOutcome readCards linesOf frequenciesFrom
 no-file-leaves k = refl
 
-no-station : (c : Clock) (latitude : ℤ) (records : List Record) → NewPost c → StationPost c latitude records (Refused NoTable 0) c
-unfolding stationReturns stationLeaves
-no-station c latitude records p =
-    record {
-      made = p .made;
-      returns = sym (ap (λ (k : State). stationReturns k latitude records) (p .leaves));
-      leaves = p .leaves ∙ sym (ap (λ (k : State). stationLeaves k latitude records) (p .leaves));
-    }
+module _ (c : Clock) (p : NewPost c) where
+  no-cards : CardsPost c [] (refused 7 1) c
+  no-cards = record { made = p .made; returns = sym no-file; leaves = sym (no-file-leaves _) }
 
-no-month : (c : Clock) (year month : ℕ) → NewPost c → DatePost c year month (Refused NoTable 0) c
-unfolding dateGives dateReturns dateLeaves
-no-month c year month p =
-    record {
-      made = p .made;
-      returns = sym (ap (λ (k : State). dateReturns k year month) (p .leaves));
-      leaves = p .leaves ∙ sym (ap (λ (k : State). dateLeaves k year month) (p .leaves));
-    }
+  no-station : (latitude : ℤ) (records : List Record) → StationPost c latitude records (refused 21 0) c
+  unfolding stationReturns stationLeaves
+  no-station latitude records =
+      record {
+        made = p .made;
+        returns = sym (ap (λ (k : State). stationReturns k latitude records) (p .leaves));
+        leaves = p .leaves ∙ sym (ap (λ (k : State). stationLeaves k latitude records) (p .leaves));
+      }
+
+  no-month : (year month : ℕ) → DatePost c year month (refused 21 0) c
+  unfolding dateGives dateReturns dateLeaves
+  no-month year month =
+      record {
+        made = p .made;
+        returns = sym (ap (λ (k : State). dateReturns k year month) (p .leaves));
+        leaves = p .leaves ∙ sym (ap (λ (k : State). dateLeaves k year month) (p .leaves));
+      }
+
+  no-height : (minute : ℕ) → HeightPost c minute (refused 21 0)
+  unfolding heightReturns
+  no-height minute = record { returns = sym (ap (λ (k : State). heightReturns k minute) (p .leaves)) }
+
+  no-series : (start step : ℕ) (hs : List ℤ) → SeriesPost c start step hs hs (refused 21 0)
+  unfolding seriesHeights seriesGives
+  no-series start step hs = record { gives = sym (ap (λ (k : State). seriesGives k start step hs) (p .leaves)) }
+
+  no-turns : (first last : ℕ) (ms : List ℕ) (hs : List ℤ) → TurnsPost c first last ms ms hs hs (refused 21 0)
+  unfolding turnsGives
+  no-turns first last ms hs = record { gives = sym (ap (λ (k : State). turnsGives k first last ms hs) (p .leaves)) }
 
 -- ---- each kind of call is there
 
 new-there : (c : Clock) → NewPost c → New c
-new-there c p = New.news (record { bound = λ w. tt; contract = kept _ (NewPost c) p })
+new-there c p = New.news (record { bound = λ w. tt; contract = kept _ _ p })
 
-cards-there : (c c′ : Clock) (file : List ℕ) (answer : Answer) → CardsPost c file answer c′ → Call c (Cards file) (told (outcomeOf answer)) c′
+cards-there : (c c′ : Clock) (file : List ℕ) (answer : Answer) → CardsPost c file (outcomeOf answer) c′ → Call c (Cards file) (told (outcomeOf answer)) c′
 cards-there c c′ file answer p =
-    Call.loads {κs = ([], tt)} {file = lent file} {r = record { answer = answer; clock = c′ }} (record { bound = λ w. tt; contract = kept _ (CardsPost c file answer c′) p })
+    Call.loads {κs = ([], tt)} {file = lent file} {r = record { answer = answer; clock = c′ }} (record { bound = λ w. tt; contract = kept _ _ p })
 
-station-there : (c c′ : Clock) (latitude : ℤ) (records : List Record) (answer : Answer) → StationPost c latitude records answer c′
+station-there : (c c′ : Clock) (latitude : ℤ) (records : List Record) (answer : Answer) → StationPost c latitude records (outcomeOf answer) c′
     → Call c (Station latitude records) (told (outcomeOf answer)) c′
 station-there c c′ latitude records answer p =
-    Call.stations {κs = ([], tt)} {records = lent records} {r = record { answer = answer; clock = c′ }} (record { bound = λ w. tt; contract = kept _ (StationPost c latitude records answer c′) p })
+    Call.stations {κs = ([], tt)} {records = lent records} {r = record { answer = answer; clock = c′ }} (record { bound = λ w. tt; contract = kept _ _ p })
 
-placing-there : (c c′ : Clock) (latitude : ℤ) (n : ℕ) (rows : Rows) (answer : Answer) → StationPost c latitude (recordsOf rows n) answer c′
+placing-there : (c c′ : Clock) (latitude : ℤ) (n : ℕ) (rows : Rows) (answer : Answer) → StationPost c latitude (recordsOf rows n) (outcomeOf answer) c′
     → Call c (Station latitude (recordsOf rows n)) (told (outcomeOf answer)) c′
 placing-there c c′ latitude n rows answer p =
-    Call.placed {n = n} {rows = rows} {r = record { answer = answer; clock = c′ }} (record { bound = λ w. tt; contract = kept _ (StationPost c latitude (recordsOf rows n) answer c′) p })
+    Call.placed {n = n} {rows = rows} {r = record { answer = answer; clock = c′ }} (record { bound = λ w. tt; contract = kept _ _ p })
 
-date-there : (c c′ : Clock) (year month : ℕ) (answer : Answer) → DatePost c year month answer c′ → Call c (Date year month) (told (outcomeOf answer)) c′
+date-there : (c c′ : Clock) (year month : ℕ) (answer : Answer) → DatePost c year month (outcomeOf answer) c′ → Call c (Date year month) (told (outcomeOf answer)) c′
 date-there c c′ year month answer p =
-    Call.dates {r = record { answer = answer; clock = c′ }} (record { bound = λ w. tt; contract = kept _ (DatePost c year month answer c′) p })
+    Call.dates {r = record { answer = answer; clock = c′ }} (record { bound = λ w. tt; contract = kept _ _ p })
 
-height-there : (c : Clock) (minute : ℕ) (answer : HeightAnswer) → HeightPost c minute answer → Call c (Height minute) (predicted (heightReturned answer)) c
-height-there c minute answer p = Call.heights (record { bound = λ w. tt; contract = kept _ (HeightPost c minute answer) p })
+height-there : (c : Clock) (minute : ℕ) (answer : HeightAnswer) → HeightPost c minute (heightReturned answer) → Call c (Height minute) (predicted (heightReturned answer)) c
+height-there c minute answer p = Call.heights {r = answer} (record { bound = λ w. tt; contract = kept _ _ p })
 
-series-there : (c : Clock) (start step : ℕ) (hs hs′ : List ℤ) (answer : Answer) → SeriesPost c start step hs hs′ answer
+series-there : (c : Clock) (start step : ℕ) (hs hs′ : List ℤ) (answer : Answer) → SeriesPost c start step hs hs′ (outcomeOf answer)
     → Call c (Series start step hs) (wrote (record { returned = outcomeOf answer; heights = hs′ })) c
 series-there c start step hs hs′ answer p =
-    Call.serieses {κs = ([], tt)} {before = lent hs} (record { bound = λ w. tt; contract = kept _ (SeriesPost c start step hs hs′ answer) p })
+    Call.serieses {κs = ([], tt)} {before = lent hs} {r = answer} (record { bound = λ w. tt; contract = kept _ _ p })
 
-turns-there : (c : Clock) (first last : ℕ) (ms ms′ : List ℕ) (hs hs′ : List ℤ) (answer : TurnsAnswer) → TurnsPost c first last ms ms′ hs hs′ answer
+turns-there : (c : Clock) (first last : ℕ) (ms ms′ : List ℕ) (hs hs′ : List ℤ) (answer : TurnsAnswer) → TurnsPost c first last ms ms′ hs hs′ (turnsReturned answer)
     → Call c (Turns first last ms hs) (found (record { returned = turnsReturned answer; minutes = ms′; heights = hs′ })) c
 turns-there c first last ms ms′ hs hs′ answer p =
-    Call.searches {κs = ([], ([], tt))} {ms = lent ms} {hs = lent hs} (record { bound = λ w. tt; contract = kept _ (TurnsPost c first last ms ms′ hs hs′ answer) p })
+    Call.searches {κs = ([], ([], tt))} {ms = lent ms} {hs = lent hs} {r = answer} (record { bound = λ w. tt; contract = kept _ _ p })
 
 names-there : (c : Clock) (r : TableNames) → namesFrom (r .bytes) 0 (r .count) ≡ namesIn (view c) → Call c Names (named (namesFrom (r .bytes) 0 (r .count))) c
-names-there c r p = Call.hands (record { bound = λ w. tt; contract = kept _ (namesFrom (r .bytes) 0 (r .count) ≡ namesIn (view c)) p })
+names-there c r p = Call.hands {r = r} (record { bound = λ w. tt; contract = kept _ _ p })
+
+-- ---- .. with the clock lent
+
+held-new-there : (c c′ : Clock) → NewPost c′ → New c′
+held-new-there c c′ p = New.heldNews {κs = ([], tt)} {clock = lent c} (record { bound = λ w. tt; contract = kept _ _ p })
+
+held-cards-there : (c c′ : Clock) (file : List ℕ) (r : Verdict) → CardsPost c file (verdictIn r) c′ → Plain r → Call c (Cards file) (told (verdictIn r)) c′
+held-cards-there c c′ file r p plain =
+    Call.heldLoads {κs = ([], ([], tt))} {clock = lent c} {file = lent file} {r = r} (record { bound = λ w. tt; contract = kept _ _ (p, plain) })
+
+held-station-there : (c c′ : Clock) (latitude : ℤ) (records : List Record) (r : Verdict) → StationPost c latitude records (verdictIn r) c′ → Plain r
+    → Call c (Station latitude records) (told (verdictIn r)) c′
+held-station-there c c′ latitude records r p plain =
+    Call.heldStations {κs = ([], ([], tt))} {clock = lent c} {records = lent records} {r = r} (record { bound = λ w. tt; contract = kept _ _ (p, plain) })
+
+held-date-there : (c c′ : Clock) (year month : ℕ) (r : Verdict) → DatePost c year month (verdictIn r) c′ → Plain r → Call c (Date year month) (told (verdictIn r)) c′
+held-date-there c c′ year month r p plain =
+    Call.heldDates {κs = ([], tt)} {clock = lent c} {r = r} (record { bound = λ w. tt; contract = kept _ _ (p, plain) })
+
+held-height-there : (c : Clock) (minute : ℕ) (r : Reading) → HeightPost c minute (readingIn r) → PlainReading r → Call c (Height minute) (predicted (readingIn r)) c
+held-height-there c minute r p plain =
+    Call.heldHeights {κs = ([], tt)} {clock = lent c} {r = r} (record { bound = λ w. tt; contract = kept _ _ (p, plain) })
+
+held-series-there : (c : Clock) (start step : ℕ) (hs hs′ : List ℤ) (r : Verdict) → SeriesPost c start step hs hs′ (verdictIn r) → Plain r
+    → Call c (Series start step hs) (wrote (record { returned = verdictIn r; heights = hs′ })) c
+held-series-there c start step hs hs′ r p plain =
+    Call.heldSerieses {κs = ([], ([], tt))} {clock = lent c} {before = lent hs} {r = r} (record { bound = λ w. tt; contract = kept _ _ (p, plain) })
+
+held-turns-there : (c : Clock) (first last : ℕ) (ms ms′ : List ℕ) (hs hs′ : List ℤ) (r : Turnings) → TurnsPost c first last ms ms′ hs hs′ (turningsIn r) → PlainTurnings r
+    → Call c (Turns first last ms hs) (found (record { returned = turningsIn r; minutes = ms′; heights = hs′ })) c
+held-turns-there c first last ms ms′ hs hs′ r p plain =
+    Call.heldSearches {κs = ([], ([], ([], tt)))} {clock = lent c} {ms = lent ms} {hs = lent hs} {r = r} (record { bound = λ w. tt; contract = kept _ _ (p, plain) })
 
 each-kind : (c : Clock) → NewPost c → Calls c eachKind eachRefused c
-unfolding heightReturns seriesHeights seriesGives turnsGives recordsFrom namesFrom
+unfolding recordsFrom namesFrom
 each-kind c p =
-    cards-there c c [] (Refused Ended 1) (record { made = p .made; returns = sym no-file; leaves = sym (no-file-leaves _) })
-    then station-there c c (pos 0) [] (Refused NoTable 0) (no-station c (pos 0) [] p)
-    then placing-there c c (pos 0) 0 noRows (Refused NoTable 0) (no-station c (pos 0) [] p)
-    then date-there c c 1976 7 (Refused NoTable 0) (no-month c 1976 7 p)
-    then height-there c 0 (height.Refused NoTable 0) (record { returns = sym (ap (λ (k : State). heightReturns k 0) (p .leaves)) })
-    then series-there c 0 1 (pos 5 ∷ []) (pos 5 ∷ []) (Refused NoTable 0) (record { gives = sym (ap (λ (k : State). seriesGives k 0 1 (pos 5 ∷ [])) (p .leaves)) })
-    then turns-there c 0 1 (9 ∷ []) (9 ∷ []) (pos 5 ∷ []) (pos 5 ∷ []) (turns.Refused NoTable 0) (record { gives = sym (ap (λ (k : State). turnsGives k 0 1 (9 ∷ []) (pos 5 ∷ [])) (p .leaves)) })
+    cards-there c c [] (Refused Ended 1) (no-cards c p)
+    then station-there c c (pos 0) [] (Refused NoTable 0) (no-station c p (pos 0) [])
+    then date-there c c 1976 7 (Refused NoTable 0) (no-month c p 1976 7)
+    then height-there c 0 (height.Refused NoTable 0) (no-height c p 0)
+    then series-there c 0 1 (pos 5 ∷ []) (pos 5 ∷ []) (Refused NoTable 0) (no-series c p 0 1 (pos 5 ∷ []))
+    then turns-there c 0 1 (9 ∷ []) (9 ∷ []) (pos 5 ∷ []) (pos 5 ∷ []) (turns.Refused NoTable 0) (no-turns c p 0 1 (9 ∷ []) (pos 5 ∷ []))
+    then held-cards-there c c [] (verdictOf (refused 7 1)) (no-cards c p) refl
+    then held-station-there c c (pos 0) [] (verdictOf (refused 21 0)) (no-station c p (pos 0) []) refl
+    then held-date-there c c 1976 7 (verdictOf (refused 21 0)) (no-month c p 1976 7) refl
+    then held-height-there c 0 (readingOf (refused 21 0)) (no-height c p 0) refl
+    then held-series-there c 0 1 (pos 5 ∷ []) (pos 5 ∷ []) (verdictOf (refused 21 0)) (no-series c p 0 1 (pos 5 ∷ [])) refl
+    then held-turns-there c 0 1 (9 ∷ []) (9 ∷ []) (pos 5 ∷ []) (pos 5 ∷ []) (turningsOf (refused 21 0)) (no-turns c p 0 1 (9 ∷ []) (pos 5 ∷ [])) refl
+    then placing-there c c (pos 0) 0 noRows (Refused NoTable 0) (no-station c p (pos 0) [])
     then names-there c (record { count = 0; bytes = [] }) (sym (ap namesIn (p .leaves)))
     then done
 
@@ -148,5 +206,12 @@ controls =
       series = series-there;
       turns = turns-there;
       names = names-there;
+      held-new = held-new-there;
+      held-cards = held-cards-there;
+      held-station = held-station-there;
+      held-date = held-date-there;
+      held-height = held-height-there;
+      held-series = held-series-there;
+      held-turns = held-turns-there;
       each-kind = each-kind;
     }

@@ -3,28 +3,27 @@
 -- distance of each height (`Points`). Assumes nothing.
 use Prim.{Unit}
 use Prim.Native.Nat.{ℕ}
+use mathlib.Core.Bool.{false≢true}
 use mathlib.Core.List.{List, _∷_}
 use mathlib.Core.Path.{_≡_, refl, ap, ap₂, sym, subst, _∙_}
 use mathlib.Core.Logic.{∥∥₁-map, ∥∥₁-elim, ∥∥₁-prop}
-use base.Logic.{id⊢}
+use base.Logic.{emp, id⊢}
 use contract.Monad.{top, fact}
-use denote.Ref.{now}
 use lib.IntN.{ℤ}
-use Rattle.refusals.specs.Outcome.{Outcome, accepted, refused, onAccepted, answered, outcomeOf}
-use Rattle.refusals.specs.declared.Answer.{Answer}
+use Rattle.refusals.specs.Outcome.{Outcome, accepted, refused, onAccepted, answered}
 use Rattle.table.specs.Table.{Table}
 use Rattle.card_file.specs.Cards.{cardsOutcome}
 use Rattle.station.specs.declared.records.Record.{Record}
-use Rattle.station.specs.Records.{recordsOf}
 use Rattle.clock.specs.declared.Clock.{Clock}
 use Rattle.calls.specs.State.{Month, State, some, none}
-use Rattle.columns.specs.Names.{namesFrom}
 use Rattle.calls.specs.Names.{namesIn}
 use Rattle.calls.specs.Calls.{cardsReturns, cardsLeaves, stationReturns, stationLeaves, dateGives, dateReturns, dateLeaves, heightReturns, seriesGives, turnsGives}
+use Rattle.turns.specs.Written.{TurnsFound}
 use Rattle.clock.specs.View.{view, Made}
 use Rattle.clock.specs.Posts.{NewPost, CardsPost, StationPost, DatePost, HeightPost, SeriesPost, TurnsPost}
+use Rattle.claim.specs.Zeroed.{zeroed}
 use Rattle.claim.specs.Calls.{Keeps, New, Call, Calls, done, _then_}
-use Rattle.claim.specs.Document.{Request, Cards, Station, Date, Gave, told, predicted, wrote, found, named, Last, nothing, tableOfCards, workedOut, after, gives, givesAll, lastAfter, EachNear}
+use Rattle.claim.specs.Document.{Request, Cards, Station, Date, Height, Series, Turns, Names, Gave, told, predicted, wrote, found, named, Last, nothing, tableOfCards, workedOut, after, gives, givesAll, lastAfter, EachNear}
 use Rattle.claim.specs.Claim.{OfAnyCalls}
 use Rattle.claim.proofs.Points.{near-calls}
 use Rattle.claim.proofs.Decided.{same-once}
@@ -73,48 +72,84 @@ date-works l year month = by (dateGives (tableOfCards (l .cards)) (l .station) y
 holds : {φ ψ : Type 0} → Keeps (λ w. fact (w .𝓤) φ) (λ w. fact (w .𝓤) ψ) → φ → ∥ ψ ∥₁
 holds {φ} {ψ} k = k .keeps φ ψ (λ w. id⊢ (w .𝓤) (fact (w .𝓤) φ)) (λ w. id⊢ (w .𝓤) (fact (w .𝓤) ψ))
 
-pub new-agrees : {c : Clock} → New c → ∥ Agrees c nothing ∥₁
+-- the contract of a call that asks nothing
+always : {ψ : Type 0} → Keeps (λ w. emp (w .𝓤)) (λ w. fact (w .𝓤) ψ) → ∥ ψ ∥₁
+always {ψ} k = k .keeps (Unit {0}) ψ (λ w. top (w .𝓤) _) (λ w. id⊢ (w .𝓤) _) tt
+
+-- memory of nothing but zeros holds a clock with no table, station or month
+zeroed-new : NewPost zeroed
+unfolding view
+zeroed-new = record { made = λ e. absurd (false≢true e); leaves = refl }
+
+new-follows : {c : Clock} → NewPost c → Agrees c nothing
 unfolding workedOut
-new-agrees (New.news {r} x) =
-    ∥∥₁-map (x .contract .keeps (Unit {0}) (NewPost r) (λ w. top (w .𝓤) _) (λ w. id⊢ (w .𝓤) _) tt) (λ p. record { made = p .made; keeps = p .leaves })
+new-follows p = record { made = p .made; keeps = p .leaves }
 
-pub station-agrees : {c c′ : Clock} {latitude : ℤ} {records : List Record} {answer : Answer} (l : Last) → Agrees c l → ∥ StationPost c latitude records answer c′ ∥₁
-    → ∥ ((told (outcomeOf answer) ≡ gives l (Station latitude records)) × Agrees c′ (after l (Station latitude records))) ∥₁
+pub new-agrees : {c : Clock} → New c → ∥ Agrees c nothing ∥₁
+new-agrees (New.news x) = ∥∥₁-map (always (x .contract)) new-follows
+new-agrees (New.heldNews x) = ∥∥₁-map (always (x .contract)) new-follows
+new-agrees New.zeros = ∣ new-follows zeroed-new ∣₁
+
+-- a call q gave g and left c′, after l: it gave what the document gives, and c′ agrees with what is then last accepted
+abbrev pub Follows : Last → Request → Gave → Clock → Type 0
+Follows l q g c′ = (g ≡ gives l q) × Agrees c′ (after l q)
+
+cards-follow : {c c′ : Clock} {file : List ℕ} {returned : Outcome Unit} (l : Last) → Agrees c l → CardsPost c file returned c′ → Follows l (Cards file) (told returned) c′
 unfolding gives
-station-agrees {latitude = latitude} {records = records} l h post =
-    ∥∥₁-map post (λ p. (
-      ap told (p .returns ∙ ap (λ (k : State). stationReturns k latitude records) (h .keeps)),
-      record { made = p .made; keeps = p .leaves ∙ ap (λ (k : State). stationLeaves k latitude records) (h .keeps) ∙ station-works l latitude records },
-    ))
+cards-follow {file = file} l h p = (
+  ap told (p .returns),
+  record { made = p .made; keeps = p .leaves ∙ ap (λ (k : State). cardsLeaves k file) (h .keeps) ∙ cards-works l file },
+)
 
-pub call-agrees : {c c′ : Clock} {q : Request} {g : Gave} (l : Last) → Agrees c l → Call c q g c′ → ∥ ((g ≡ gives l q) × Agrees c′ (after l q)) ∥₁
+station-follows : {c c′ : Clock} {latitude : ℤ} {records : List Record} {returned : Outcome Unit} (l : Last) → Agrees c l → StationPost c latitude records returned c′
+    → Follows l (Station latitude records) (told returned) c′
+unfolding gives
+station-follows {latitude = latitude} {records = records} l h p = (
+  ap told (p .returns ∙ ap (λ (k : State). stationReturns k latitude records) (h .keeps)),
+  record { made = p .made; keeps = p .leaves ∙ ap (λ (k : State). stationLeaves k latitude records) (h .keeps) ∙ station-works l latitude records },
+)
+
+date-follows : {c c′ : Clock} {year month : ℕ} {returned : Outcome Unit} (l : Last) → Agrees c l → DatePost c year month returned c′ → Follows l (Date year month) (told returned) c′
+unfolding gives
+date-follows {year = year} {month = month} l h p = (
+  ap told (p .returns ∙ ap (λ (k : State). dateReturns k year month) (h .keeps)),
+  record { made = p .made; keeps = p .leaves ∙ ap (λ (k : State). dateLeaves k year month) (h .keeps) ∙ date-works l year month },
+)
+
+height-follows : {c : Clock} {minute : ℕ} {returned : Outcome ℤ} (l : Last) → Agrees c l → HeightPost c minute returned → Follows l (Height minute) (predicted returned) c
 unfolding gives after
-call-agrees l h (Call.loads {c = c} {file = file} {r = r} x) =
-    ∥∥₁-map (holds {φ = Made c} {ψ = CardsPost c (now file) (r .answer) (r .clock)} (x .contract) (h .made)) (λ p. (
-      ap told (p .returns),
-      record { made = p .made; keeps = p .leaves ∙ ap (λ (k : State). cardsLeaves k (now file)) (h .keeps) ∙ cards-works l (now file) },
-    ))
-call-agrees l h (Call.stations {c = c} {latitude = latitude} {records = records} {r = r} x) =
-    station-agrees l h (holds {φ = Made c} {ψ = StationPost c latitude (now records) (r .answer) (r .clock)} (x .contract) (h .made))
-call-agrees l h (Call.placed {c = c} {latitude = latitude} {n = n} {rows = rows} {r = r} x) =
-    station-agrees l h (holds {φ = Made c} {ψ = StationPost c latitude (recordsOf rows n) (r .answer) (r .clock)} (x .contract) (h .made))
-call-agrees l h (Call.dates {c = c} {year = year} {month = month} {r = r} x) =
-    ∥∥₁-map (holds {φ = Made c} {ψ = DatePost c year month (r .answer) (r .clock)} (x .contract) (h .made)) (λ p. (
-      ap told (p .returns ∙ ap (λ (k : State). dateReturns k year month) (h .keeps)),
-      record { made = p .made; keeps = p .leaves ∙ ap (λ (k : State). dateLeaves k year month) (h .keeps) ∙ date-works l year month },
-    ))
-call-agrees l h (Call.heights {c = c} {minute = minute} {r = r} x) =
-    ∥∥₁-map (holds {φ = Made c} {ψ = HeightPost c minute r} (x .contract) (h .made)) (λ p.
-    (ap predicted (p .returns ∙ ap (λ (k : State). heightReturns k minute) (h .keeps)), h))
-call-agrees l h (Call.serieses {c = c} {start = start} {step = step} {before = hs} {after = hs′} {r = r} x) =
-    ∥∥₁-map (holds {φ = Made c} {ψ = SeriesPost c start step (now hs) hs′ r} (x .contract) (h .made)) (λ p.
-    (ap wrote (p .gives ∙ ap (λ (k : State). seriesGives k start step (now hs)) (h .keeps)), h))
-call-agrees l h (Call.searches {c = c} {first = first} {last = last} {ms = ms} {hs = hs} {ms′ = ms′} {hs′ = hs′} {r = r} x) =
-    ∥∥₁-map (holds {φ = Made c} {ψ = TurnsPost c first last (now ms) ms′ (now hs) hs′ r} (x .contract) (h .made)) (λ p.
-    (ap found (p .gives ∙ ap (λ (k : State). turnsGives k first last (now ms) (now hs)) (h .keeps)), h))
-call-agrees l h (Call.hands {c = c} {r = r} x) =
-    ∥∥₁-map (holds {φ = Made c} {ψ = namesFrom (r .bytes) 0 (r .count) ≡ namesIn (view c)} (x .contract) (h .made)) (λ p.
-    (ap named (p ∙ ap namesIn (h .keeps)), h))
+height-follows {minute = minute} l h p = (ap predicted (p .returns ∙ ap (λ (k : State). heightReturns k minute) (h .keeps)), h)
+
+series-follows : {c : Clock} {start step : ℕ} {hs hs′ : List ℤ} {returned : Outcome Unit} (l : Last) → Agrees c l → SeriesPost c start step hs hs′ returned
+    → Follows l (Series start step hs) (wrote (record { returned = returned; heights = hs′ })) c
+unfolding gives after
+series-follows {start = start} {step = step} {hs = hs} l h p = (ap wrote (p .gives ∙ ap (λ (k : State). seriesGives k start step hs) (h .keeps)), h)
+
+turns-follow : {c : Clock} {first last : ℕ} {ms ms′ : List ℕ} {hs hs′ : List ℤ} {returned : Outcome TurnsFound} (l : Last) → Agrees c l → TurnsPost c first last ms ms′ hs hs′ returned
+    → Follows l (Turns first last ms hs) (found (record { returned = returned; minutes = ms′; heights = hs′ })) c
+unfolding gives after
+turns-follow {first = first} {last = last} {ms = ms} {hs = hs} l h p = (ap found (p .gives ∙ ap (λ (k : State). turnsGives k first last ms hs) (h .keeps)), h)
+
+names-follow : {c : Clock} {names : List (List ℕ)} (l : Last) → Agrees c l → names ≡ namesIn (view c) → Follows l Names (named names) c
+unfolding gives after
+names-follow l h p = (ap named (p ∙ ap namesIn (h .keeps)), h)
+
+-- by value and by reference alike: what a call promises of what it gives and leaves is one record, over whatever it promises beside
+pub call-agrees : {c c′ : Clock} {q : Request} {g : Gave} (l : Last) → Agrees c l → Call c q g c′ → ∥ Follows l q g c′ ∥₁
+call-agrees l h (Call.loads x) = ∥∥₁-map (holds (x .contract) (h .made)) (cards-follow l h)
+call-agrees l h (Call.stations x) = ∥∥₁-map (holds (x .contract) (h .made)) (station-follows l h)
+call-agrees l h (Call.placed x) = ∥∥₁-map (holds (x .contract) (h .made)) (station-follows l h)
+call-agrees l h (Call.dates x) = ∥∥₁-map (holds (x .contract) (h .made)) (date-follows l h)
+call-agrees l h (Call.heights x) = ∥∥₁-map (holds (x .contract) (h .made)) (height-follows l h)
+call-agrees l h (Call.serieses x) = ∥∥₁-map (holds (x .contract) (h .made)) (series-follows l h)
+call-agrees l h (Call.searches x) = ∥∥₁-map (holds (x .contract) (h .made)) (turns-follow l h)
+call-agrees l h (Call.hands x) = ∥∥₁-map (holds (x .contract) (h .made)) (names-follow l h)
+call-agrees l h (Call.heldLoads x) = ∥∥₁-map (holds (x .contract) (h .made)) (λ p. cards-follow l h (p .0))
+call-agrees l h (Call.heldStations x) = ∥∥₁-map (holds (x .contract) (h .made)) (λ p. station-follows l h (p .0))
+call-agrees l h (Call.heldDates x) = ∥∥₁-map (holds (x .contract) (h .made)) (λ p. date-follows l h (p .0))
+call-agrees l h (Call.heldHeights x) = ∥∥₁-map (holds (x .contract) (h .made)) (λ p. height-follows l h (p .0))
+call-agrees l h (Call.heldSerieses x) = ∥∥₁-map (holds (x .contract) (h .made)) (λ p. series-follows l h (p .0))
+call-agrees l h (Call.heldSearches x) = ∥∥₁-map (holds (x .contract) (h .made)) (λ p. turns-follow l h (p .0))
 
 calls-agree : {c c′ : Clock} {qs : List Request} {gs : List Gave} (l : Last) → Agrees c l → Calls c qs gs c′ → ∥ ((gs ≡ givesAll l qs) × Agrees c′ (lastAfter l qs)) ∥₁
 unfolding givesAll lastAfter

@@ -2,4 +2,5 @@ pub mod Points
 pub mod Decided
 pub mod Backed
 pub mod AtEachHeight
+pub mod Zeros
 pub mod Claim

@@ -1,5 +1,5 @@
 -- A list of calls of the clock. "The claim knows what a call gives and leaves only from that call's contract": from the clauses of the
--- function's own module, as the built crate clock has them.
+-- function's own module, as the built crates have them: clock, whose calls take a clock by value, and cuvalimodo_c, whose calls are lent one.
 -- Assumes nothing.
 use Prim.Native.Nat.{ℕ}
 use mathlib.Core.List.{List, [], _∷_}
@@ -27,7 +27,12 @@ use Rattle.clock.specs.declared.HeightAnswer.{HeightAnswer}
 use Rattle.clock.specs.declared.TurnsAnswer.{TurnsAnswer}
 use Rattle.clock.specs.declared.TableNames.{TableNames}
 use Rattle.clock.specs.Returned.{heightReturned, turnsReturned}
+use Rattle.cuvalimodo_c.specs.declared.answers.Verdict.{Verdict}
+use Rattle.cuvalimodo_c.specs.declared.answers.Reading.{Reading}
+use Rattle.cuvalimodo_c.specs.declared.answers.Turnings.{Turnings}
+use Rattle.cuvalimodo_c.specs.Answers.{verdictIn, readingIn, turningsIn}
 use Rattle.claim.specs.Document.{Request, Cards, Station, Date, Height, Series, Turns, Names, Gave, told, predicted, wrote, found, named}
+use Rattle.claim.specs.Zeroed.{zeroed}
 use Rattle.clock.proofs.new as new
 use Rattle.clock.proofs.load_cards as load
 use Rattle.clock.proofs.set_station as station
@@ -37,6 +42,13 @@ use Rattle.clock.proofs.height as height
 use Rattle.clock.proofs.series as series
 use Rattle.clock.proofs.turns as turns
 use Rattle.clock.proofs.names as names
+use Rattle.cuvalimodo_c.proofs.cuvalimodo_new as heldNew
+use Rattle.cuvalimodo_c.proofs.cuvalimodo_load_cards as heldLoad
+use Rattle.cuvalimodo_c.proofs.cuvalimodo_set_station as heldStation
+use Rattle.cuvalimodo_c.proofs.cuvalimodo_set_date as heldDate
+use Rattle.cuvalimodo_c.proofs.cuvalimodo_height as heldHeight
+use Rattle.cuvalimodo_c.proofs.cuvalimodo_series as heldSeries
+use Rattle.cuvalimodo_c.proofs.cuvalimodo_turns as heldTurns
 
 -- What is known of a call whose `requires` is P and whose `ensures` is Q, at every model of the logic: where a plain fact φ gives P, and Q
 -- gives a plain fact ψ, φ gives that ψ holds. (`∥ ψ ∥₁`: a fact of the logic is truncated, and to hand over an element of every ψ would be
@@ -59,12 +71,14 @@ pub record Once (T : Ended) (C : ClausesOf T) (κs : Lfts (T .signature .lifetim
   pub bound : (w : World) → clausesAt T C κs given w .ghost
   pub contract : Keeps (λ w. clausesAt T C κs given w .requires (bound w)) (λ w. clausesAt T C κs given w .ensures (bound w) result (atExit T κs given last))
 
--- "a clock with no table, station or month"
+-- "a clock with no table, station or month": as `new` returns it, as it is left behind a reference, or as memory that is all zeros holds it
 pub data New : Clock → Type 2 where
   news : {r : Clock} → Once new.ended (λ M. new.clauses) tt tt r tt → New r
+  heldNews : {κs : Lfts 1} {clock : RefT Clock} {left : Clock} → Once heldNew.ended (λ M. heldNew.clauses) κs (clock, tt) tt (left, tt) → New left
+  zeros : New zeroed
 
 -- One call: the clock that it gets, the call with all that is lent to it, what it gives, and the clock that it leaves. (Heights, series,
--- turns and names take the clock by value and give none back: what they leave is what they got.)
+-- turns and names take the clock by value, or are lent it to be read, and give none back: what they leave is what they got.)
 pub data Call : Clock → Request → Gave → Clock → Type 2 where
   loads : {κs : Lfts 1} {c : Clock} {file : RefT (List ℕ)} {r : After}
       → Once load.ended (λ M. load.clauses) κs (c, (file, tt)) r (tt, (tt, tt))
@@ -91,6 +105,25 @@ pub data Call : Clock → Request → Gave → Clock → Type 2 where
   hands : {c : Clock} {r : TableNames}
       → Once names.ended (λ M. names.clauses) tt (c, tt) r (tt, tt)
       → Call c Names (named (namesFrom (r .bytes) 0 (r .count))) c
+  -- the clock is lent: the call gets what is behind the reference, and leaves what is behind it at the end
+  heldLoads : {κs : Lfts 2} {clock : RefT Clock} {file : RefT (List ℕ)} {r : Verdict} {left : Clock}
+      → Once heldLoad.ended (λ M. heldLoad.clauses) κs (clock, (file, tt)) r (left, (tt, tt))
+      → Call (now clock) (Cards (now file)) (told (verdictIn r)) left
+  heldStations : {κs : Lfts 2} {clock : RefT Clock} {latitude : ℤ} {records : RefT (List Record)} {r : Verdict} {left : Clock}
+      → Once heldStation.ended (λ M. heldStation.clauses) κs (clock, (latitude, (records, tt))) r (left, (tt, (tt, tt)))
+      → Call (now clock) (Station latitude (now records)) (told (verdictIn r)) left
+  heldDates : {κs : Lfts 1} {clock : RefT Clock} {year month : ℕ} {r : Verdict} {left : Clock}
+      → Once heldDate.ended (λ M. heldDate.clauses) κs (clock, (year, (month, tt))) r (left, (tt, (tt, tt)))
+      → Call (now clock) (Date year month) (told (verdictIn r)) left
+  heldHeights : {κs : Lfts 1} {clock : RefT Clock} {minute : ℕ} {r : Reading}
+      → Once heldHeight.ended (λ M. heldHeight.clauses) κs (clock, (minute, tt)) r (tt, (tt, tt))
+      → Call (now clock) (Height minute) (predicted (readingIn r)) (now clock)
+  heldSerieses : {κs : Lfts 2} {clock : RefT Clock} {start step : ℕ} {before : RefT (List ℤ)} {after : List ℤ} {r : Verdict}
+      → Once heldSeries.ended (λ M. heldSeries.clauses) κs (clock, (start, (step, (before, tt)))) r (tt, (tt, (tt, (after, tt))))
+      → Call (now clock) (Series start step (now before)) (wrote (record { returned = verdictIn r; heights = after })) (now clock)
+  heldSearches : {κs : Lfts 3} {clock : RefT Clock} {first last : ℕ} {ms : RefT (List ℕ)} {hs : RefT (List ℤ)} {ms′ : List ℕ} {hs′ : List ℤ} {r : Turnings}
+      → Once heldTurns.ended (λ M. heldTurns.clauses) κs (clock, (first, (last, (ms, (hs, tt))))) r (tt, (tt, (tt, (ms′, (hs′, tt)))))
+      → Call (now clock) (Turns first last (now ms) (now hs)) (found (record { returned = turningsIn r; minutes = ms′; heights = hs′ })) (now clock)
 
 -- "in any number and order, refused ones included"; "Each later one gets the clock as the one before it returned or left it"
 pub data Calls : Clock → List Request → List Gave → Clock → Type 2 where

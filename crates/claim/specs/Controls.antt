@@ -1,9 +1,9 @@
 -- The claim speaks of something: each of its premises can be met. Whatever meets what a function of the clock ensures is a call of it, with
--- any values and any buffers; and there are lists with each kind of call in them. (proofs/Backed.antt. That the clock's own functions make
--- such calls, accepted ones too, is shown of their runs: crate claim_runs.)
+-- any values, any buffers and any lent clock; and there are lists with each kind of call in them. (proofs/Backed.antt. That the clock's own
+-- functions make such calls, accepted ones too, is shown of their runs: crate claim_runs.)
 -- Assumes nothing.
 use Prim.Native.Nat.{ℕ}
-use mathlib.Core.List.{List, [], _∷_}
+use mathlib.Core.List.{List, [], _∷_, _++_}
 use mathlib.Core.Path.{_≡_}
 use lib.IntN.{ℤ, pos}
 use Rattle.refusals.specs.Outcome.{refused, outcomeOf}
@@ -20,32 +20,55 @@ use Rattle.clock.specs.View.{view}
 use Rattle.calls.specs.Names.{namesIn}
 use Rattle.clock.specs.Returned.{heightReturned, turnsReturned}
 use Rattle.clock.specs.Posts.{NewPost, CardsPost, StationPost, DatePost, HeightPost, SeriesPost, TurnsPost}
+use Rattle.cuvalimodo_c.specs.declared.answers.Verdict.{Verdict}
+use Rattle.cuvalimodo_c.specs.declared.answers.Reading.{Reading}
+use Rattle.cuvalimodo_c.specs.declared.answers.Turnings.{Turnings}
+use Rattle.cuvalimodo_c.specs.Answers.{verdictIn, readingIn, turningsIn, Plain, PlainReading, PlainTurnings}
 use Rattle.claim.specs.Document.{Request, Cards, Station, Date, Height, Series, Turns, Names, Gave, told, predicted, wrote, found, named}
 use Rattle.claim.specs.Calls.{New, Call, Calls}
 
--- a list with each kind of call in it (a station twice, its records lent as a row and in arrays), and what a clock with no table gives for
--- it: an empty card file ends inside its first part, 7 at line 1; the others find no table, 21, and leave the lent places as they were; there are no names
+-- the calls of 01, and what a clock with no table gives for them: an empty card file ends inside its first part, 7 at line 1; the others find
+-- no table, 21, and leave the lent places as they were
+abbrev each : List Request
+each = Cards [] ∷ Station (pos 0) [] ∷ Date 1976 7 ∷ Height 0 ∷ Series 0 1 (pos 5 ∷ []) ∷ Turns 0 1 (9 ∷ []) (pos 5 ∷ []) ∷ []
+
+abbrev refusals : List Gave
+refusals =
+    told (refused 7 1) ∷ told (refused 21 0) ∷ told (refused 21 0) ∷ predicted (refused 21 0)
+    ∷ wrote (record { returned = refused 21 0; heights = pos 5 ∷ [] })
+    ∷ found (record { returned = refused 21 0; minutes = 9 ∷ []; heights = pos 5 ∷ [] }) ∷ []
+
+-- a list with each kind of call in it: a call of 01 with the clock by value, and with the clock lent; a station whose records are in arrays;
+-- and the names, of which there are none
 abbrev pub eachKind : List Request
-eachKind = Cards [] ∷ Station (pos 0) [] ∷ Station (pos 0) [] ∷ Date 1976 7 ∷ Height 0 ∷ Series 0 1 (pos 5 ∷ []) ∷ Turns 0 1 (9 ∷ []) (pos 5 ∷ []) ∷ Names ∷ []
+eachKind = each ++ each ++ Station (pos 0) [] ∷ Names ∷ []
 
 abbrev pub eachRefused : List Gave
-eachRefused =
-    told (refused 7 1) ∷ told (refused 21 0) ∷ told (refused 21 0) ∷ told (refused 21 0) ∷ predicted (refused 21 0)
-    ∷ wrote (record { returned = refused 21 0; heights = pos 5 ∷ [] })
-    ∷ found (record { returned = refused 21 0; minutes = 9 ∷ []; heights = pos 5 ∷ [] }) ∷ named [] ∷ []
+eachRefused = refusals ++ refusals ++ told (refused 21 0) ∷ named [] ∷ []
 
 pub record Controls : Type 2 where
   pub new : (c : Clock) → NewPost c → New c
-  pub cards : (c c′ : Clock) (file : List ℕ) (answer : Answer) → CardsPost c file answer c′ → Call c (Cards file) (told (outcomeOf answer)) c′
-  pub station : (c c′ : Clock) (latitude : ℤ) (records : List Record) (answer : Answer) → StationPost c latitude records answer c′
+  pub cards : (c c′ : Clock) (file : List ℕ) (answer : Answer) → CardsPost c file (outcomeOf answer) c′ → Call c (Cards file) (told (outcomeOf answer)) c′
+  pub station : (c c′ : Clock) (latitude : ℤ) (records : List Record) (answer : Answer) → StationPost c latitude records (outcomeOf answer) c′
       → Call c (Station latitude records) (told (outcomeOf answer)) c′
-  pub placing : (c c′ : Clock) (latitude : ℤ) (n : ℕ) (rows : Rows) (answer : Answer) → StationPost c latitude (recordsOf rows n) answer c′
+  pub placing : (c c′ : Clock) (latitude : ℤ) (n : ℕ) (rows : Rows) (answer : Answer) → StationPost c latitude (recordsOf rows n) (outcomeOf answer) c′
       → Call c (Station latitude (recordsOf rows n)) (told (outcomeOf answer)) c′
-  pub date : (c c′ : Clock) (year month : ℕ) (answer : Answer) → DatePost c year month answer c′ → Call c (Date year month) (told (outcomeOf answer)) c′
-  pub height : (c : Clock) (minute : ℕ) (answer : HeightAnswer) → HeightPost c minute answer → Call c (Height minute) (predicted (heightReturned answer)) c
-  pub series : (c : Clock) (start step : ℕ) (hs hs′ : List ℤ) (answer : Answer) → SeriesPost c start step hs hs′ answer
+  pub date : (c c′ : Clock) (year month : ℕ) (answer : Answer) → DatePost c year month (outcomeOf answer) c′ → Call c (Date year month) (told (outcomeOf answer)) c′
+  pub height : (c : Clock) (minute : ℕ) (answer : HeightAnswer) → HeightPost c minute (heightReturned answer) → Call c (Height minute) (predicted (heightReturned answer)) c
+  pub series : (c : Clock) (start step : ℕ) (hs hs′ : List ℤ) (answer : Answer) → SeriesPost c start step hs hs′ (outcomeOf answer)
       → Call c (Series start step hs) (wrote (record { returned = outcomeOf answer; heights = hs′ })) c
-  pub turns : (c : Clock) (first last : ℕ) (ms ms′ : List ℕ) (hs hs′ : List ℤ) (answer : TurnsAnswer) → TurnsPost c first last ms ms′ hs hs′ answer
+  pub turns : (c : Clock) (first last : ℕ) (ms ms′ : List ℕ) (hs hs′ : List ℤ) (answer : TurnsAnswer) → TurnsPost c first last ms ms′ hs hs′ (turnsReturned answer)
       → Call c (Turns first last ms hs) (found (record { returned = turnsReturned answer; minutes = ms′; heights = hs′ })) c
   pub names : (c : Clock) (r : TableNames) → namesFrom (r .bytes) 0 (r .count) ≡ namesIn (view c) → Call c Names (named (namesFrom (r .bytes) 0 (r .count))) c
+  -- with the clock lent: c is what is behind the reference
+  pub held-new : (c c′ : Clock) → NewPost c′ → New c′
+  pub held-cards : (c c′ : Clock) (file : List ℕ) (r : Verdict) → CardsPost c file (verdictIn r) c′ → Plain r → Call c (Cards file) (told (verdictIn r)) c′
+  pub held-station : (c c′ : Clock) (latitude : ℤ) (records : List Record) (r : Verdict) → StationPost c latitude records (verdictIn r) c′ → Plain r
+      → Call c (Station latitude records) (told (verdictIn r)) c′
+  pub held-date : (c c′ : Clock) (year month : ℕ) (r : Verdict) → DatePost c year month (verdictIn r) c′ → Plain r → Call c (Date year month) (told (verdictIn r)) c′
+  pub held-height : (c : Clock) (minute : ℕ) (r : Reading) → HeightPost c minute (readingIn r) → PlainReading r → Call c (Height minute) (predicted (readingIn r)) c
+  pub held-series : (c : Clock) (start step : ℕ) (hs hs′ : List ℤ) (r : Verdict) → SeriesPost c start step hs hs′ (verdictIn r) → Plain r
+      → Call c (Series start step hs) (wrote (record { returned = verdictIn r; heights = hs′ })) c
+  pub held-turns : (c : Clock) (first last : ℕ) (ms ms′ : List ℕ) (hs hs′ : List ℤ) (r : Turnings) → TurnsPost c first last ms ms′ hs hs′ (turningsIn r) → PlainTurnings r
+      → Call c (Turns first last ms hs) (found (record { returned = turningsIn r; minutes = ms′; heights = hs′ })) c
   pub each-kind : (c : Clock) → NewPost c → Calls c eachKind eachRefused c

@@ -1,4 +1,6 @@
 pub mod Tables
+pub mod BareClock
 pub mod CardsCase
 pub mod Stations
 pub mod Months
+pub mod Lent

@@ -29,7 +29,7 @@ use Rattle.calls.specs.State.{State}
 use Rattle.clock.specs.declared.Clock.{Clock}
 use Rattle.calls.specs.inner.Flags.{dateBy}
 use Rattle.calls.proofs.Dates.{date-refused, date-prepared}
-use Rattle.clock.specs.View.{view, monthIn, Made}
+use Rattle.clock.specs.View.{view, monthIn, Sound, Made}
 use Rattle.clock.specs.Posts.{DatePost}
 use Rattle.clock.specs.inner.Posts.{PreparedPost}
 use Rattle.clock.specs.inner.Parts.{withMonth}
@@ -49,7 +49,7 @@ ready-by : (answer : Preparation) (m : Month) → answered (answeredWith answer 
 ready-by preparation.Ready m e = refl
 ready-by (preparation.TooLarge place) m e = not-both e
 
-module _ (c : Clock) (year month : ℕ) (p : Prepared) (answer : Answer) (made : Made c)
+module _ (c : Clock) (year month : ℕ) (p : Prepared) (answer : Answer) (sound : Sound c)
     (prepares : preparedOf p ≡ monthOf (tableOf (c .table)) (stationOf (c .station)) year month) (says : outcomeOf answer ≡ answered (preparedOf p)) where
   pub month-ready : answer ≡ Accepted → PreparedPost c year month Accepted (withMonth c (monthMinutes year month) (p .month))
   unfolding view
@@ -58,12 +58,12 @@ module _ (c : Clock) (year month : ℕ) (p : Prepared) (answer : Answer) (made :
       let none : Constituent = record { argument = 0; lag = 0; frequency = 0; p = pos 0; q = pos 0 } in
       let m = p .month in
       record {
-        made = record {
-          cosines = made .cosines;
-          table = made .table;
+        sound = record {
+          cosines = sound .cosines;
+          table = sound .table;
           count = omega arith;
           last = minutes-short year month;
-          month = λ k h. rw (frequency-at (m .arguments) (m .lags) (m .frequencies) (m .ps) (m .qs) 0 (min (m .count) mostRecords) k none h, zero-add k) at (prepared-in-range _ _ year month _ none refl (frequencies-within (c .table) (made .table)) ready k);
+          month = λ k h. rw (frequency-at (m .arguments) (m .lags) (m .frequencies) (m .ps) (m .qs) 0 (min (m .count) mostRecords) k none h, zero-add k) at (prepared-in-range _ _ year month _ none refl (frequencies-within (c .table) (sound .table)) ready k);
         };
         returns = rw ready;
         leaves = rw ready;
@@ -71,7 +71,7 @@ module _ (c : Clock) (year month : ℕ) (p : Prepared) (answer : Answer) (made :
 
   pub month-refused : (r : Refusal) (place : ℕ) → answer ≡ Refused r place → PreparedPost c year month answer c
   month-refused r place e =
-      record { made = made; returns = rw (← prepares) says; leaves = rw (← prepares) (by (preparedOf p) (sym says ∙ ap outcomeOf e) _) }
+      record { sound = sound; returns = rw (← prepares) says; leaves = rw (← prepares) (by (preparedOf p) (sym says ∙ ap outcomeOf e) _) }
     where
       by : (o : Outcome (List Constituent)) → answered o ≡ refused (numberOf r) place → (f : List Constituent → State) → view c ≡ onAccepted o f (view c)
       by (accepted constituents) h f = not-both {number = numberOf r} {place = place} (sym h)
@@ -79,14 +79,14 @@ module _ (c : Clock) (year month : ℕ) (p : Prepared) (answer : Answer) (made :
 
 -- a date that passes returns and leaves what its month says
 pub date-post : (c : Clock) (year month : ℕ) → dateBy (c .tabled) (c .stationed) year month ≡ accepted tt
-    → (answer : Answer) (left : Clock) → PreparedPost c year month answer left → DatePost c year month answer left
+    → (answer : Answer) (left : Clock) → PreparedPost c year month answer left → DatePost c year month (outcomeOf answer) left
 unfolding view
 date-post c year month e answer left p =
     let law = date-prepared (tableOf (c .table)) (stationOf (c .station)) (c .dated) (monthIn c) year month (c .tabled) (c .stationed) e in
-    record { made = p .made; returns = p .returns ∙ law .0; leaves = p .leaves ∙ law .1 }
+    record { made = λ _. p .sound; returns = p .returns ∙ law .0; leaves = p .leaves ∙ law .1 }
 
 pub date-post-refused : (c : Clock) (year month : ℕ) → Made c → (answer : Answer) → outcomeOf answer ≡ dateBy (c .tabled) (c .stationed) year month
-    → (r : Refusal) (place : ℕ) → answer ≡ Refused r place → DatePost c year month answer c
+    → (r : Refusal) (place : ℕ) → answer ≡ Refused r place → DatePost c year month (outcomeOf answer) c
 unfolding view
 date-post-refused c year month made answer says r place e =
     let law = date-refused (tableOf (c .table)) (stationOf (c .station)) (c .dated) (monthIn c) year month (c .tabled) (c .stationed) (numberOf r) place (sym says ∙ ap outcomeOf e) in

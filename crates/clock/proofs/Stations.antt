@@ -1,12 +1,12 @@
 -- A station's two cases, accepted and refused, from what the check of its records promises. Assumes nothing.
+use Prim.{Unit}
 use mathlib.Core.Path.{_≡_, sym, ap, _∙_}
 use Prim.Native.Nat.{ℕ}
 use mathlib.Core.List.{List}
 use lib.ListN.{length}
 use lib.IntN.{ℤ}
-use Rattle.refusals.specs.Outcome.{outcomeOf, numberOf}
+use Rattle.refusals.specs.Outcome.{Outcome, accepted, outcomeOf, numberOf}
 use Rattle.refusals.specs.declared.Refusal.{Refusal}
-use Rattle.refusals.specs.declared.Answer.{Answer}
 use Rattle.refusals.specs.declared.Answer.the-variants.{Accepted, Refused}
 use Rattle.table.specs.inner.View.{tableOf}
 use Rattle.station.specs.declared.records.Record.{Record}
@@ -24,25 +24,25 @@ use Rattle.clock.specs.Posts.{StationPost}
 use Rattle.clock.specs.inner.Parts.{withStation}
 
 module _ (c : Clock) (latitude : ℤ) (n : ℕ) (rows : Rows) (made : Made c) (taken : Taken) (says : TakenPost (c .tabled) (c .table) latitude n rows taken) where
-  pub taken-accepted : taken .answer ≡ Accepted → StationPost c latitude (recordsOf rows n) Accepted (withStation c (taken .station))
+  pub taken-accepted : taken .answer ≡ Accepted → StationPost c latitude (recordsOf rows n) (accepted tt) (withStation c (taken .station))
   unfolding view
   taken-accepted e =
       let law = station-accepted (tableOf (c .table)) (c .stationed) (stationOf (c .station)) (c .dated) (monthIn c) latitude (recordsOf rows n) (c .tabled) (sym (says .says) ∙ ap outcomeOf e) in
       record {
-        made = record { cosines = made .cosines; table = made .table; count = made .count; last = made .last; month = made .month };
+        made = λ tabled. let sound = made tabled in record { cosines = sound .cosines; table = sound .table; count = sound .count; last = sound .last; month = sound .month };
         returns = law .0;
         leaves = rw (says .keeps (ap outcomeOf e)) (law .1);
       }
 
-  pub taken-refused : (r : Refusal) (place : ℕ) → taken .answer ≡ Refused r place → StationPost c latitude (recordsOf rows n) (taken .answer) c
+  pub taken-refused : (r : Refusal) (place : ℕ) → taken .answer ≡ Refused r place → StationPost c latitude (recordsOf rows n) (outcomeOf (taken .answer)) c
   unfolding view
   taken-refused r place e =
       let law = station-refused (tableOf (c .table)) (c .stationed) (stationOf (c .station)) (c .dated) (monthIn c) latitude (recordsOf rows n) (c .tabled) (numberOf r) place (sym (says .says) ∙ ap outcomeOf e) in
       record { made = made; returns = rw e (law .0); leaves = law .1 }
 
 -- what holds of the rows' records holds of those lent
-pub lent-post : (c : Clock) (latitude : ℤ) (records : List Record) (answer : Answer) (left : Clock) (rows : Rows) → rows ≡ rowsOf records
-    → StationPost c latitude (recordsOf rows (length records)) answer left → StationPost c latitude records answer left
-lent-post c latitude records answer left rows e p =
+pub lent-post : (c : Clock) (latitude : ℤ) (records : List Record) (returned : Outcome Unit) (left : Clock) (rows : Rows) → rows ≡ rowsOf records
+    → StationPost c latitude (recordsOf rows (length records)) returned left → StationPost c latitude records returned left
+lent-post c latitude records returned left rows e p =
     let same = lent-same (view c) latitude records rows e in
     record { made = p .made; returns = p .returns ∙ same .0; leaves = p .leaves ∙ same .1 }

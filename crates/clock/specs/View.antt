@@ -1,7 +1,9 @@
 -- The state that the code's struct stands for, and what a clock call makes sure of for the next.
 -- Assumes nothing.
 use Prim.Native.Nat.{_≤_}
+use mathlib.Core.Bool.{true}
 use mathlib.Core.List.{List}
+use mathlib.Core.Path.{_≡_}
 use Rattle.limits.specs.Limits.{mostMinutes, mostRecords}
 use Rattle.cosine.specs.Fixed.{IsTable}
 use Rattle.table.specs.inner.View.{tableOf}
@@ -24,10 +26,14 @@ monthIn c = record { last = c .last; constituents = constituentsIn c }
 unfoldable pub view : Clock → State
 view c = stateOf (c .tabled) (tableOf (c .table)) (c .stationed) (stationOf (c .station)) (c .dated) (monthIn c)
 
--- A clock that a clock call made: its table of cosines is the table, and its numbers are in their ranges.
-pub record Made (c : Clock) : Type 0 where
+-- What a clock with a table keeps: its table of cosines is the table, and its numbers are in their ranges.
+pub record Sound (c : Clock) : Type 0 where
   pub cosines : IsTable (c .cosines)
   pub table : InRange (c .table .frequencies) (c .table .speeds)
   pub count : c .count ≤ mostRecords
   pub last : c .last ≤ mostMinutes
   pub month : InRange (c .count) (c .frequencies)
+
+-- A clock that a clock call made. Of one without a table nothing is asked: memory that is all zeros is such a clock.
+abbrev pub Made : Clock → Type 0
+Made c = c .tabled ≡ true → Sound c

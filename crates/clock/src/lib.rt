@@ -9,13 +9,14 @@ ghost use Rattle.table.specs.inner.View.{tableOf};
 ghost use Rattle.calendar.specs.Calendar.{inRange};
 ghost use Rattle.calls.specs.State.{some};
 ghost use Rattle.calls.specs.Names.{namesThere, namesIn};
-ghost use Rattle.clock.specs.View.{view, Made};
+ghost use Rattle.clock.specs.View.{view, Sound, Made};
 ghost use Rattle.clock.specs.Posts.{NewPost, CardsPost, StationPost, DatePost, HeightPost, SeriesPost, TurnsPost};
-ghost use Rattle.clock.specs.inner.Posts.{PreparedPost};
+ghost use Rattle.clock.specs.inner.Posts.{BarePost, PreparedPost, PartsMade, HeightFrom};
 ghost use Rattle.station.specs.Records.{recordsOf};
 ghost use Rattle.turns.specs.inner.Answers.{returnedOf};
-ghost use Rattle.clock.specs.Returned.{turnsReturned};
-ghost use Rattle.clock.specs.inner.Parts.{accepts, withTable, withStation, withMonth, keptMonth};
+ghost use Rattle.clock.specs.Returned.{heightReturned, turnsReturned};
+ghost use Rattle.refusals.specs.Outcome.{outcomeOf};
+ghost use Rattle.clock.specs.inner.Parts.{accepts, withStation, withMonth, keptMonth};
 use calls::asked;
 use calls::settings;
 use card_file::reader;
@@ -33,7 +34,8 @@ use table::Table;
 use turns::Searched;
 use turns::strides;
 
-// What the clock keeps. Only the calls below make or change one.
+// What the clock keeps. Only the calls below make or change one; all zeros are a clock without a table.
+#[repr(C)]
 pub struct Clock {
     cosines: [u32; ENTRIES],
     tabled: bool,
@@ -74,14 +76,14 @@ pub enum TurnsAnswer {
     Refused(Refusal, usize),
 }
 
-// A clock with no table, station or month.
-pub fn new() -> Clock
-    ensures { λ r. ⌜ NewPost r ⌝ }
+// A clock with a table or none, and no station or month.
+fn bare(tabled: bool, table: Table) -> Clock
+    ensures { λ r. ⌜ BarePost tabled table r ⌝ }
 {
     Clock {
         cosines: cosine::cosines(),
-        tabled: false,
-        table: table::no_cards(),
+        tabled,
+        table,
         stationed: false,
         station: station::no_station(0),
         dated: false,
@@ -95,19 +97,11 @@ pub fn new() -> Clock
     }
 }
 
-// The clock with a new table, and no station or month.
-fn with_table(clock: Clock, table: Table) -> After
-    ensures { λ r. ⌜ r ≡ accepts (withTable clock table) ⌝ }
+// A clock with no table, station or month.
+pub fn new() -> Clock
+    ensures { λ r. ⌜ NewPost r ⌝ }
 {
-    let mut next = clock;
-    next.tabled = true;
-    next.table = table;
-    next.stationed = false;
-    next.dated = false;
-    After {
-        answer: Answer::Accepted,
-        clock: next,
-    }
+    bare(false, table::no_cards())
 }
 
 // The clock with a new station, and no month.
@@ -151,13 +145,16 @@ fn with_month(clock: Clock, last: u64, month: Month) -> After
 // A card file: its table takes the place of the old one, with no station and no month; or it is refused.
 pub fn load_cards(clock: Clock, file: &[u8]) -> After
     requires { ⌜ Made clock ⌝ }
-    ensures { λ r. ⌜ CardsPost clock (now (file .entry)) (r .answer) (r .clock) ⌝ }
+    ensures { λ r. ⌜ CardsPost clock (now (file .entry)) (outcomeOf (r .answer)) (r .clock) ⌝ }
 {
     let read = reader::read_cards(file);
     let answer = read.answer;
     match answer {
         Answer::Accepted => {
-            return with_table(clock, read.table);
+            return After {
+                answer,
+                clock: bare(true, read.table),
+            };
         }
         Answer::Refused(_, _) => {
             return After { answer, clock };
@@ -168,7 +165,7 @@ pub fn load_cards(clock: Clock, file: &[u8]) -> After
 // A station as `set_station` takes it, for a caller whose records lie in plain arrays: n records, of which the first 146 are in the rows.
 pub fn place_station(clock: Clock, latitude: i32, n: usize, rows: Rows) -> After
     requires { ⌜ Made clock ⌝ }
-    ensures { λ r. ⌜ StationPost clock latitude (recordsOf rows n) (r .answer) (r .clock) ⌝ }
+    ensures { λ r. ⌜ StationPost clock latitude (recordsOf rows n) (outcomeOf (r .answer)) (r .clock) ⌝ }
 {
     let taken = settings::station_answer(clock.tabled, clock.table, latitude, n, rows);
     let answer = taken.answer;
@@ -186,7 +183,7 @@ pub fn place_station(clock: Clock, latitude: i32, n: usize, rows: Rows) -> After
 // (The thin function over the lent slice of structs: its proof is a walk by hand.)
 pub fn set_station(clock: Clock, latitude: i32, records: &[Record]) -> After
     requires { ⌜ Made clock ⌝ }
-    ensures { λ r. ⌜ StationPost clock latitude (now (records .entry)) (r .answer) (r .clock) ⌝ }
+    ensures { λ r. ⌜ StationPost clock latitude (now (records .entry)) (outcomeOf (r .answer)) (r .clock) ⌝ }
 {
     let n = records.len();
     let rows = records::rows_of(records);
@@ -195,7 +192,7 @@ pub fn set_station(clock: Clock, latitude: i32, records: &[Record]) -> After
 
 // The month of a date that is in range.
 fn prepare_month(clock: Clock, year: u32, month: u32) -> After
-    requires { ⌜ Made clock × (inRange year month ≡ true) ⌝ }
+    requires { ⌜ Sound clock × (inRange year month ≡ true) ⌝ }
     ensures { λ r. ⌜ PreparedPost clock year month (r .answer) (r .clock) ⌝ }
 {
     let last = calendar::month_minutes(year, month) as u64;
@@ -214,7 +211,7 @@ fn prepare_month(clock: Clock, year: u32, month: u32) -> After
 // A date: its month is prepared, in place of any before; or it is refused.
 pub fn set_date(clock: Clock, year: u32, month: u32) -> After
     requires { ⌜ Made clock ⌝ }
-    ensures { λ r. ⌜ DatePost clock year month (r .answer) (r .clock) ⌝ }
+    ensures { λ r. ⌜ DatePost clock year month (outcomeOf (r .answer)) (r .clock) ⌝ }
 {
     let answer = settings::date_answer(clock.tabled, clock.stationed, year, month);
     match answer {
@@ -227,28 +224,35 @@ pub fn set_date(clock: Clock, year: u32, month: u32) -> After
     }
 }
 
-// The height at a minute of the month, in tenths of a millimetre; or a refusal.
-pub fn height(clock: Clock, minute: u32) -> HeightAnswer
-    requires { ⌜ Made clock ⌝ }
-    ensures { λ r. ⌜ HeightPost clock minute r ⌝ }
+// A height from what a clock keeps, lent part by part; or a refusal.
+fn height_from<'a>(
+    cosines: &'a [u32; ENTRIES],
+    arguments: &'a [u64; RECORDS],
+    lags: &'a [u16; RECORDS],
+    frequencies: &'a [u64; RECORDS],
+    ps: &'a [i32; RECORDS],
+    qs: &'a [i32; RECORDS],
+    tabled: bool,
+    stationed: bool,
+    dated: bool,
+    last: u64,
+    count: usize,
+    minute: u32,
+) -> HeightAnswer
+    requires { ⌜ PartsMade tabled (now cosines) count last ⌝ }
+    ensures { λ r. ⌜ HeightFrom tabled stationed dated last count (now (arguments .entry)) (now (lags .entry)) (now (frequencies .entry)) (now (ps .entry)) (now (qs .entry)) minute (heightReturned r) ⌝ }
 {
-    let asked = asked::height_answer(
-        clock.tabled,
-        clock.stationed,
-        clock.dated,
-        clock.last,
-        minute as u64,
-    );
+    let asked = asked::height_answer(tabled, stationed, dated, last, minute as u64);
     match asked {
         Answer::Accepted => {
             return HeightAnswer::Height(heights::height(
-                &clock.cosines,
-                &clock.arguments,
-                &clock.lags,
-                &clock.frequencies,
-                &clock.ps,
-                &clock.qs,
-                clock.count,
+                cosines,
+                arguments,
+                lags,
+                frequencies,
+                ps,
+                qs,
+                count,
                 minute as u64,
             ));
         }
@@ -258,10 +262,53 @@ pub fn height(clock: Clock, minute: u32) -> HeightAnswer
     }
 }
 
+// The height at a minute of the month, in tenths of a millimetre; or a refusal.
+pub fn height(clock: Clock, minute: u32) -> HeightAnswer
+    requires { ⌜ Made clock ⌝ }
+    ensures { λ r. ⌜ HeightPost clock minute (heightReturned r) ⌝ }
+{
+    height_from(
+        &clock.cosines,
+        &clock.arguments,
+        &clock.lags,
+        &clock.frequencies,
+        &clock.ps,
+        &clock.qs,
+        clock.tabled,
+        clock.stationed,
+        clock.dated,
+        clock.last,
+        clock.count,
+        minute,
+    )
+}
+
+// The height of a lent clock, read where it lies: nothing of it is copied but five numbers.
+// (The thin function over the lent struct: its proof is a walk by hand.)
+pub fn height_lent(lent: &Clock, minute: u32) -> HeightAnswer
+    requires { ⌜ Made (now lent) ⌝ }
+    ensures { λ r. ⌜ HeightPost (now (lent .entry)) minute (heightReturned r) ⌝ }
+{
+    height_from(
+        &lent.cosines,
+        &lent.arguments,
+        &lent.lags,
+        &lent.frequencies,
+        &lent.ps,
+        &lent.qs,
+        lent.tabled,
+        lent.stationed,
+        lent.dated,
+        lent.last,
+        lent.count,
+        minute,
+    )
+}
+
 // One height for each lent place, at start, start + step, start + 2 × step and so on; or a refusal.
 pub fn series(clock: Clock, start: u32, step: u32, heights: &mut [i64]) -> Answer
     requires { ⌜ Made clock ⌝ }
-    ensures { λ r. ⌜ SeriesPost clock start step (now (heights .entry)) (now (heights .exit)) r ⌝ }
+    ensures { λ r. ⌜ SeriesPost clock start step (now (heights .entry)) (now (heights .exit)) (outcomeOf r) ⌝ }
 {
     let asked = asked::series_answer(
         clock.tabled,
@@ -332,7 +379,7 @@ pub fn turns(
     heights: &mut [i64],
 ) -> TurnsAnswer
     requires { ⌜ Made clock ⌝ }
-    ensures { λ r. ⌜ TurnsPost clock first last (now (minutes .entry)) (now (minutes .exit)) (now (heights .entry)) (now (heights .exit)) r ⌝ }
+    ensures { λ r. ⌜ TurnsPost clock first last (now (minutes .entry)) (now (minutes .exit)) (now (heights .entry)) (now (heights .exit)) (turnsReturned r) ⌝ }
 {
     let asked = asked::turns_answer(
         clock.tabled,

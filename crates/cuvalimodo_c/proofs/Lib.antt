@@ -1,2 +1,5 @@
 -- What the proofs of several functions use.
-mod Once
+pub mod Copied
+pub mod Numbers
+pub mod Stored
+pub mod Walking

@@ -1,18 +1,51 @@
--- What the structs that cross to other languages say, from what 01's definitions return.
+-- The structs that cross to other languages: how a caller reads them, as 01's answers, and what they hold beside.
 -- Assumes nothing.
 use Prim.{Unit}
+use Prim.Native.Nat.{ℕ, zero, suc}
 use mathlib.Core.Bool.{false}
+use mathlib.Core.Path.{_≡_}
+use lib.IntN.{ℤ, pos}
 use Rattle.refusals.specs.Outcome.{Outcome, accepted, refused}
 use Rattle.turns.specs.Written.{TurnsFound}
-use Rattle.cuvalimodo_c.specs.declared.Verdict.{Verdict}
-use Rattle.cuvalimodo_c.specs.declared.Turnings.{Turnings}
+use Rattle.cuvalimodo_c.specs.declared.answers.Verdict.{Verdict}
+use Rattle.cuvalimodo_c.specs.declared.answers.Reading.{Reading}
+use Rattle.cuvalimodo_c.specs.declared.answers.Turnings.{Turnings}
 
--- "A refusal returns its number and a place"; whatever is not refused has number 0
+-- "A refusal returns its number and a place": number 0 says that the call is accepted
+abbrev pub outcomeIn : {A : Type 0} → ℕ → ℕ → A → Outcome A
+outcomeIn zero place a = accepted a
+outcomeIn (suc n) place a = refused (suc n) place
+
+abbrev pub verdictIn : Verdict → Outcome Unit
+verdictIn v = outcomeIn (v .number) (v .place) tt
+
+abbrev pub readingIn : Reading → Outcome ℤ
+readingIn r = outcomeIn (r .number) (r .place) (r .height)
+
+-- "returned: how many, and whether the first is high"
+abbrev pub turningsIn : Turnings → Outcome TurnsFound
+turningsIn t = outcomeIn (t .number) (t .place) (record { count = t .count; high = t .high })
+
+-- ---- the struct of an answer: whatever it does not say is 0
+
 abbrev pub verdictOf : Outcome Unit → Verdict
 verdictOf (accepted _) = record { number = 0; place = 0 }
 verdictOf (refused number place) = record { number = number; place = place }
 
--- "returned: how many, and whether the first is high"
+abbrev pub readingOf : Outcome ℤ → Reading
+readingOf (accepted h) = record { number = 0; place = 0; height = h }
+readingOf (refused number place) = record { number = number; place = place; height = pos 0 }
+
 abbrev pub turningsOf : Outcome TurnsFound → Turnings
 turningsOf (accepted f) = record { number = 0; place = 0; count = f .count; high = f .high }
 turningsOf (refused number place) = record { number = number; place = place; count = 0; high = false }
+
+-- the struct is that of the answer that it is read as: an accepted one has place 0, a refused one height 0, count 0 and no high water
+abbrev pub Plain : Verdict → Type 0
+Plain v = v ≡ verdictOf (verdictIn v)
+
+abbrev pub PlainReading : Reading → Type 0
+PlainReading r = r ≡ readingOf (readingIn r)
+
+abbrev pub PlainTurnings : Turnings → Type 0
+PlainTurnings t = t ≡ turningsOf (turningsIn t)

@@ -1,4 +1,1 @@
 pub mod Answers
-pub mod OneCall
-pub mod Setting
-pub mod inner

@@ -1,106 +1,30 @@
-// The clock for other languages: check a card file, a series and turns, each in one call from cards, station and date.
+// The clock for other languages, in the caller's own memory: each call of the clock takes a reference to it.
 //
-// A lent array crosses as a pointer and a length; a result is a small struct. `number` is 0 where the call is accepted and otherwise that of the
-// refusal, with its `place`. Nothing is asked of the caller, and a refusal leaves the lent buffers as they were.
-// bindings/c/cuvalimodo.h declares all of it for C.
+// A lent array crosses as a pointer and a length; an answer is a small struct. `number` is 0 where the call is accepted and otherwise that of the
+// refusal, with its `place`. Nothing is asked of the caller but a clock: memory that is all zeros, or that one of these calls left. A refused call
+// leaves the clock and the lent buffers as they were. bindings/c/cuvalimodo.h declares all of it for C.
+//
+// (Each function over a lent clock is thin: its proof is a walk by hand.)
 ghost use mathlib.Core.Path.{_≡_};
-ghost use mathlib.Core.Bool.{false};
 ghost use Rattle.card_file.specs.Cards.{cardsOutcome};
 ghost use Rattle.card_file.specs.Counts.{countsOf};
-ghost use Rattle.refusals.specs.Outcome.{outcomeOf};
-ghost use Rattle.clock.specs.Returned.{turnsReturned};
-ghost use Rattle.cuvalimodo_c.specs.Answers.{verdictOf, turningsOf};
-ghost use Rattle.cuvalimodo_c.specs.OneCall.{seriesOnce, turnsOnce, SeriesPost, TurnsPost};
-ghost use Rattle.cuvalimodo_c.specs.Setting.{settingReturned};
+ghost use Rattle.refusal_words.specs.Words.{wordsOf, bytesOf, zerosBehind};
+ghost use Rattle.clock.specs.View.{Made};
+ghost use Rattle.clock.specs.Posts.{NewPost, CardsPost, StationPost, DatePost, HeightPost, SeriesPost, TurnsPost};
+ghost use Rattle.cuvalimodo_c.specs.Answers.{verdictIn, readingIn, turningsIn, Plain, PlainReading, PlainTurnings};
 
-mod onecall; // a clock set at once
+mod answers; // what the calls say, in numbers
+mod byvalue; // the calls by value, in numbers
 
-use crate::onecall::Setting;
+use crate::answers::Reading;
+use crate::answers::Text;
+use crate::answers::Turnings;
+use crate::answers::Verdict;
 use card_file::counts;
 use card_file::counts::Counts;
-use clock::TurnsAnswer;
-use refusals::Answer;
-
-// What a call says: number 0 where it is accepted, else the refusal's number and place.
-#[repr(C)]
-pub struct Verdict {
-    pub number: u32,
-    pub place: usize,
-}
-
-// What a search for turns comes to: how many, and whether the first is high; or the refusal's number and place.
-#[repr(C)]
-pub struct Turnings {
-    pub number: u32,
-    pub place: usize,
-    pub count: usize,
-    pub high: bool,
-}
-
-// An answer in numbers.
-fn told(answer: Answer) -> Verdict
-    ensures { λ r. ⌜ r ≡ verdictOf (outcomeOf answer) ⌝ }
-{
-    match answer {
-        Answer::Accepted => Verdict {
-            number: 0,
-            place: 0,
-        },
-        Answer::Refused(refusal, place) => Verdict {
-            number: refusals::number_of(refusal),
-            place,
-        },
-    }
-}
-
-// A search's answer in numbers.
-fn told_turns(answer: TurnsAnswer) -> Turnings
-    ensures { λ r. ⌜ r ≡ turningsOf (turnsReturned answer) ⌝ }
-{
-    match answer {
-        TurnsAnswer::Turns(count, high) => Turnings {
-            number: 0,
-            place: 0,
-            count,
-            high,
-        },
-        TurnsAnswer::Refused(refusal, place) => Turnings {
-            number: refusals::number_of(refusal),
-            place,
-            count: 0,
-            high: false,
-        },
-    }
-}
-
-// What is said of a clock that could not be set.
-fn unset(setting: Setting) -> Verdict
-    ensures { λ r. ⌜ r ≡ verdictOf (settingReturned setting) ⌝ }
-{
-    match setting {
-        Setting::Accepted => Verdict {
-            number: 0,
-            place: 0,
-        },
-        Setting::Refused(refusal, place) => Verdict {
-            number: refusals::number_of(refusal),
-            place,
-        },
-        Setting::Uneven(place) => Verdict { number: 100, place },
-    }
-}
-
-// No turns, with a verdict.
-fn no_turns(verdict: Verdict) -> Turnings
-    ensures { λ r. ⌜ r ≡ record { number = verdict .number; place = verdict .place; count = 0; high = false } ⌝ }
-{
-    Turnings {
-        number: verdict.number,
-        place: verdict.place,
-        count: 0,
-        high: false,
-    }
-}
+use clock::Clock;
+use station::records;
+use station::records::Record;
 
 // A card file is checked: what it comes to.
 #[no_mangle]
@@ -110,65 +34,97 @@ pub extern "C" fn cuvalimodo_check_cards(file: &[u8]) -> Counts
     counts::check_cards(file)
 }
 
-// One height for each lent place, at start, start + step and so on, of a card file, a station and a month; or a refusal.
+// A clock with no table, station or month, in the place of whatever is there.
+#[no_mangle]
+pub extern "C" fn cuvalimodo_new(clock: &mut Clock)
+    ensures { λ _. ⌜ NewPost (now (clock .exit)) ⌝ }
+{
+    *clock = clock::new();
+}
+
+// A card file: its table takes the place of the old one, with no station and no month; or it is refused.
+#[no_mangle]
+pub extern "C" fn cuvalimodo_load_cards(clock: &mut Clock, file: &[u8]) -> Verdict
+    requires { ⌜ Made (now clock) ⌝ }
+    ensures { λ r. ⌜ CardsPost (now (clock .entry)) (now (file .entry)) (verdictIn r) (now (clock .exit)) × Plain r ⌝ }
+{
+    let after = byvalue::load_cards(*clock, file);
+    *clock = after.clock;
+    after.verdict
+}
+
+// A station: a latitude and the records of its constituents. It keeps the table and drops the month; or it is refused.
+#[no_mangle]
+pub extern "C" fn cuvalimodo_set_station(
+    clock: &mut Clock,
+    latitude: i32,
+    records: &[Record],
+) -> Verdict
+    requires { ⌜ Made (now clock) ⌝ }
+    ensures { λ r. ⌜ StationPost (now (clock .entry)) latitude (now (records .entry)) (verdictIn r) (now (clock .exit)) × Plain r ⌝ }
+{
+    let n = records.len();
+    let rows = records::rows_of(records);
+    let after = byvalue::place_station(*clock, latitude, n, rows);
+    *clock = after.clock;
+    after.verdict
+}
+
+// A date: its month is prepared, in place of any before; or it is refused.
+#[no_mangle]
+pub extern "C" fn cuvalimodo_set_date(clock: &mut Clock, year: u32, month: u32) -> Verdict
+    requires { ⌜ Made (now clock) ⌝ }
+    ensures { λ r. ⌜ DatePost (now (clock .entry)) year month (verdictIn r) (now (clock .exit)) × Plain r ⌝ }
+{
+    let after = byvalue::set_date(*clock, year, month);
+    *clock = after.clock;
+    after.verdict
+}
+
+// The height at a minute of the month, in tenths of a millimetre; or a refusal. The clock is read where it lies.
+#[no_mangle]
+pub extern "C" fn cuvalimodo_height(clock: &Clock, minute: u32) -> Reading
+    requires { ⌜ Made (now clock) ⌝ }
+    ensures { λ r. ⌜ HeightPost (now (clock .entry)) minute (readingIn r) × PlainReading r ⌝ }
+{
+    let answer = clock::height_lent(clock, minute);
+    answers::told_height(answer)
+}
+
+// One height for each lent place, at start, start + step, start + 2 × step and so on; or a refusal.
 #[no_mangle]
 pub extern "C" fn cuvalimodo_series(
-    file: &[u8],
-    latitude: i32,
-    places: &[u8],
-    amplitudes: &[u32],
-    phases: &[u32],
-    year: u32,
-    month: u32,
+    clock: &Clock,
     start: u32,
     step: u32,
     heights: &mut [i64],
 ) -> Verdict
-    ensures { λ r. ⌜ SeriesPost (seriesOnce (now (file .entry)) latitude (now (places .entry)) (now (amplitudes .entry)) (now (phases .entry)) year month start step (now (heights .entry))) (now (heights .exit)) r ⌝ }
+    requires { ⌜ Made (now clock) ⌝ }
+    ensures { λ r. ⌜ SeriesPost (now (clock .entry)) start step (now (heights .entry)) (now (heights .exit)) (verdictIn r) × Plain r ⌝ }
 {
-    let ready = onecall::ready_clock(file, latitude, places, amplitudes, phases, year, month);
-    let setting = ready.setting;
-    match setting {
-        Setting::Accepted => {
-            return told(clock::series(ready.clock, start, step, heights));
-        }
-        Setting::Refused(_, _) => {
-            return unset(setting);
-        }
-        Setting::Uneven(_) => {
-            return unset(setting);
-        }
-    }
+    byvalue::series(*clock, start, step, heights)
 }
 
 // The high and low waters from the first minute to the last, into the lent buffers from their front; or a refusal.
 #[no_mangle]
 pub extern "C" fn cuvalimodo_turns(
-    file: &[u8],
-    latitude: i32,
-    places: &[u8],
-    amplitudes: &[u32],
-    phases: &[u32],
-    year: u32,
-    month: u32,
+    clock: &Clock,
     first: u32,
     last: u32,
     minutes: &mut [u32],
     heights: &mut [i64],
 ) -> Turnings
-    ensures { λ r. ⌜ TurnsPost (turnsOnce (now (file .entry)) latitude (now (places .entry)) (now (amplitudes .entry)) (now (phases .entry)) year month first last (now (minutes .entry)) (now (heights .entry))) (now (minutes .exit)) (now (heights .exit)) r ⌝ }
+    requires { ⌜ Made (now clock) ⌝ }
+    ensures { λ r. ⌜ TurnsPost (now (clock .entry)) first last (now (minutes .entry)) (now (minutes .exit)) (now (heights .entry)) (now (heights .exit)) (turningsIn r) × PlainTurnings r ⌝ }
 {
-    let ready = onecall::ready_clock(file, latitude, places, amplitudes, phases, year, month);
-    let setting = ready.setting;
-    match setting {
-        Setting::Accepted => {
-            return told_turns(clock::turns(ready.clock, first, last, minutes, heights));
-        }
-        Setting::Refused(_, _) => {
-            return no_turns(unset(setting));
-        }
-        Setting::Uneven(_) => {
-            return no_turns(unset(setting));
-        }
-    }
+    byvalue::turns(*clock, first, last, minutes, heights)
+}
+
+// The words of the refusal that has a number; none for a number that no refusal has.
+#[no_mangle]
+pub extern "C" fn cuvalimodo_refusal_text(number: u32) -> Text
+    ensures { λ r. ⌜ r .text ≡ zerosBehind (bytesOf (wordsOf number)) ⌝ }
+{
+    let text = refusal_words::text_of(number);
+    Text { text }
 }

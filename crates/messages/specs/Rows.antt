@@ -4,8 +4,6 @@ use Rattle.card.specs.declared.faults.What.{What}
 use Rattle.card.specs.declared.faults.What.the-variants as what
 use Rattle.card.specs.declared.faults.Trouble.{Trouble}
 use Rattle.card.specs.declared.faults.Trouble.the-variants as trouble
-use Rattle.refusals.specs.declared.Refusal.{Refusal}
-use Rattle.refusals.specs.declared.Refusal.the-variants as refusal
 use Rattle.commandline.specs.declared.Wrong.{Wrong}
 use Rattle.commandline.specs.declared.Wrong.the-variants as wrong
 
@@ -58,23 +56,6 @@ troubleRow trouble.EndedInLongitudes = 19
 troubleRow trouble.EndedInMains = 20
 troubleRow trouble.EndedInShallows = 21
 troubleRow trouble.NoStationCard = 22
-
--- 01's refusals, in the order of its tables
-abbrev pub refusalRow : Refusal → ℕ
-refusalRow refusal.BadLine = 0
-refusalRow refusal.Malformed = 1
-refusalRow refusal.OutOfRange = 2
-refusalRow refusal.BadName = 3
-refusalRow refusal.Missing = 4
-refusalRow refusal.TooMany = 5
-refusalRow refusal.Ended = 6
-refusalRow refusal.BadDate = 7
-refusalRow refusal.BadMinutes = 8
-refusalRow refusal.TooManyTurns = 9
-refusalRow refusal.TooLarge = 10
-refusalRow refusal.NoTable = 11
-refusalRow refusal.NoStation = 12
-refusalRow refusal.NoMonth = 13
 
 -- a word of the command line that cannot be followed
 abbrev pub wrongRow : Wrong → ℕ

@@ -1,13 +1,13 @@
-// Which words say what: a text has a row of words for each thing, trouble, refusal or wrong word, in the order in which they are declared.
+// Which words say what: a text has a row of words for each thing, trouble or wrong word, in the order in which they are declared.
 ghost use mathlib.Core.Path.{_≡_};
+ghost use Rattle.columns.specs.Bytes.{among, leading};
 ghost use Rattle.columns.specs.Lines.{linesOf};
 ghost use Rattle.messages.specs.Lines.{lineAt};
-ghost use Rattle.messages.specs.Rows.{whatRow, troubleRow, refusalRow, wrongRow};
+ghost use Rattle.messages.specs.Rows.{whatRow, troubleRow, wrongRow};
 use crate::textlines::line_of;
 use card::faults::Trouble;
 use card::faults::What;
 use commandline::Wrong;
-use refusals::Refusal;
 
 // The row of what is at fault.
 fn what_row(what: What) -> usize
@@ -83,33 +83,11 @@ pub fn trouble_words(text: &[u8], trouble: Trouble) -> &[u8]
     line_of(text, trouble_row(trouble))
 }
 
-// The row of a refusal.
-fn refusal_row(refusal: Refusal) -> usize
-    ensures { λ r. ⌜ r ≡ refusalRow refusal ⌝ }
+// Words that have zeros behind them, without the zeros.
+pub fn without_zeros(text: &[u8]) -> &[u8]
+    ensures { λ r. ⌜ now r ≡ leading (among 1 255) (now (text .entry)) ⌝ }
 {
-    match refusal {
-        Refusal::BadLine => 0,
-        Refusal::Malformed => 1,
-        Refusal::OutOfRange => 2,
-        Refusal::BadName => 3,
-        Refusal::Missing => 4,
-        Refusal::TooMany => 5,
-        Refusal::Ended => 6,
-        Refusal::BadDate => 7,
-        Refusal::BadMinutes => 8,
-        Refusal::TooManyTurns => 9,
-        Refusal::TooLarge => 10,
-        Refusal::NoTable => 11,
-        Refusal::NoStation => 12,
-        Refusal::NoMonth => 13,
-    }
-}
-
-// The general words of a refusal.
-pub fn refusal_words(text: &[u8], refusal: Refusal) -> &[u8]
-    ensures { λ r. ⌜ now r ≡ lineAt (linesOf (now (text .entry))) (refusalRow refusal) ⌝ }
-{
-    line_of(text, refusal_row(refusal))
+    columns::part(text, 0, columns::run_end(text, 0, text.len(), 1, 255))
 }
 
 // The row of a word of the command line that cannot be followed.

@@ -112,28 +112,10 @@ fn limit_of(trouble: Trouble) -> u64 {
     }
 }
 
-// The rows of the general words of a refusal, which are 01's.
-fn general_text() -> [u8; 402] {
-    *b"line over 80 columns or a byte outside 32 to 126\n\
-       malformed number\n\
-       number outside its stated range\n\
-       name blank or twice, or place repeated\n\
-       no such frequency, main or definition\n\
-       more entries than stated\n\
-       file ends inside a part\n\
-       year or month out of range\n\
-       minutes outside the month or reversed, or step out of range\n\
-       more turns than the lent buffers hold\n\
-       size of X or Y over 2^22\n\
-       no table\n\
-       no station\n\
-       no month"
-}
-
 // The general words of a refusal, which are 01's.
 pub fn write_general(fd: i32, refusal: Refusal) {
-    let text = general_text();
-    io::write_all(fd, phrases::refusal_words(&text, refusal));
+    let text = refusal_words::text_of(refusals::number_of(refusal));
+    io::write_all(fd, phrases::without_zeros(&text));
 }
 
 // The rows of what is wrong with a word of the command line.

@@ -8,13 +8,14 @@ use Rattle.refusals.specs.declared.Refusal.{Refusal}
 use Rattle.clock.specs.declared.Clock.{Clock}
 use Rattle.clock.specs.declared.TurnsAnswer.{TurnsAnswer}
 use Rattle.clock.specs.declared.TurnsAnswer.the-variants.{Turns, Refused}
+use Rattle.clock.specs.Returned.{turnsReturned}
 use Rattle.clock.specs.Posts.{TurnsPost}
 use Rattle.monthturns.specs.inner.Kept.{Kept}
 use Rattle.refusals.specs.declared.Answer.the-variants.{Accepted, Refused as Declined}
 use Rattle.monthturns.specs.Month.{MonthTurns, FoundTurns}
 use Rattle.monthturns.proofs.Kept.{kept-all}
 
-module _ {c : Clock} {last : ℕ} {minutes own-minutes : List ℕ} {heights own-heights : List ℤ} (own : TurnsAnswer) (p : TurnsPost c 0 last minutes own-minutes heights own-heights own) where
+module _ {c : Clock} {last : ℕ} {minutes own-minutes : List ℕ} {heights own-heights : List ℤ} (own : TurnsAnswer) (p : TurnsPost c 0 last minutes own-minutes heights own-heights (turnsReturned own)) where
   pub month-found : {count all : ℕ} {first high : Bool} {minutes-left : List ℕ} {heights-left : List ℤ} → own ≡ Turns count first → (count ≤ all) × (all ≤ count + 3)
       → Kept count own-minutes minutes-left own-heights heights-left → MonthTurns c last minutes minutes-left heights heights-left (Turns all high)
   month-found {count} {all} {first} {high} e b k =

@@ -7,6 +7,7 @@ use lib.IntN.{ℤ}
 use Rattle.clock.specs.declared.Clock.{Clock}
 use Rattle.clock.specs.declared.TurnsAnswer.{TurnsAnswer}
 use Rattle.clock.specs.declared.TurnsAnswer.the-variants.{Turns, Refused}
+use Rattle.clock.specs.Returned.{turnsReturned}
 use Rattle.clock.specs.Posts.{TurnsPost}
 use Rattle.page.specs.declared.shown.Turns.{Turns as Shown}
 use Rattle.refusals.specs.declared.Answer.{Answer}
@@ -37,7 +38,7 @@ pub record MonthTurns (c : Clock) (last : ℕ) (minutes minutesLeft : List ℕ) 
   pub own : TurnsAnswer
   pub minutesOwn : List ℕ
   pub heightsOwn : List ℤ
-  pub asked : TurnsPost c 0 last minutes minutesOwn heights heightsOwn own
+  pub asked : TurnsPost c 0 last minutes minutesOwn heights heightsOwn (turnsReturned own)
   pub beside : Beside own answer
   pub kept : Kept (countOf own) minutesOwn minutesLeft heightsOwn heightsLeft
 

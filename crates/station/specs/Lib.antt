@@ -1,4 +1,3 @@
 pub mod Station
-pub mod Arrays
 pub mod Records
 pub mod inner

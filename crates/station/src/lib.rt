@@ -10,7 +10,6 @@ ghost use Rattle.station.specs.inner.Posts.{RecordsPost, StationPost};
 ghost use Rattle.station.specs.Records.{recordAt};
 
 pub mod records; // the lent row of records, taken apart
-pub mod recordarrays; // records in three arrays
 
 use crate::records::Rows;
 use limits::AMPLITUDE;
@@ -21,6 +20,7 @@ use refusals::Answer;
 use refusals::Refusal;
 
 // An accepted station: amplitudes in tenths of a millimetre, phase lags in hundredths of a degree.
+#[repr(C)]
 pub struct Station {
     pub latitude: i32,
     pub count: usize,

@@ -6,6 +6,7 @@ ghost use Rattle.station.specs.inner.Rows.{noRows, putRow, rowsOf};
 use limits::RECORDS;
 
 // One of a station's constituents, as it is lent: its place in the table, its amplitude and its phase lag.
+#[repr(C)]
 pub struct Record {
     pub place: u8,
     pub amplitude: u32,

@@ -31,6 +31,7 @@ pub const SHALLOW_CARDS: usize = 6 * SHALLOWS;
 pub const COEFFICIENTS: usize = 4 * SHALLOWS;
 
 // 01's table; `specs/inner/View.antt` says what each row holds.
+#[repr(C)]
 pub struct Table {
     pub frequencies: usize,
     pub names: [u8; NAMES],

@@ -10,14 +10,14 @@ read-cards-requires c κs = search needs
 enum-told : tie.Need-enum-told
 enum-told c = search needs
 
-with-table-requires : tie.Need-with-table-requires
-with-table-requires c κs = search needs
+bare-requires : tie.Need-bare-requires
+bare-requires c κs = search needs
 
 returns : tie.Need-returns
 returns c =
     let s = c .before .before .before .before .before in
     let read = c .before .before .before .read-cards in
-    rw (c .with-table .ensures) (cards-accepted (s .args .clock) (s .args .file .now) (read .result) (s .pre) (read .ensures) (c .before .enum-told .given .1))
+    cards-accepted (s .args .clock) (s .args .file .now) (read .result) (s .pre) (read .ensures) (c .before .enum-told .given .1) _ (c .bare .ensures)
 
 enum-told-2 : tie.Need-enum-told-2
 enum-told-2 c = search needs
@@ -30,4 +30,4 @@ returns-2 c =
     cards-refused (s .args .clock) (s .args .file .now) (read .result) (s .pre) (read .ensures) (g .0 .0) (g .0 .1 .0) (g .1)
 
 pub load-cards-spec : {M : Type 1} → statement M
-load-cards-spec = tie.close (tie.spec read-cards-requires enum-told with-table-requires returns enum-told-2 returns-2)
+load-cards-spec = tie.close (tie.spec read-cards-requires enum-told bare-requires returns enum-told-2 returns-2)

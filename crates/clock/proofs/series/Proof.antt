@@ -24,8 +24,9 @@ series-requires c κs =
     let s = c .before .before .before .before .before .before .before .before .before .before .before in
     let k = s .args .t1 in
     let w = series-within (k .tabled) (k .stationed) (k .dated) (k .last) (s .args .start) (s .args .step) _ (sym (c .before .before .before .before .before .before .before .before .before .before .series-answer .ensures) ∙ ap outcomeOf (c .before .before .before .before .before .before .before .before .enum-told .given .1)) in
-    let within : s .args .start ≤ mostMinutes = omega (arith, w .0, s .pre .last) in
-    (s .pre .cosines, (s .pre .count, (within, w .1)))
+    let sound = s .pre (w .0) in
+    let within : s .args .start ≤ mostMinutes = omega (arith, w .1, sound .last) in
+    (sound .cosines, (sound .count, (within, w .2)))
 
 same-length : tie.Need-same-length
 same-length c = search needs

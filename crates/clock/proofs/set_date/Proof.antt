@@ -17,7 +17,8 @@ prepare-month-requires : tie.Need-prepare-month-requires
 prepare-month-requires c κs =
     let s = c .before .before .before in
     let k = s .args .clock in
-    (s .pre, date-passed (k .tabled) (k .stationed) (s .args .year) (s .args .month) (sym (c .before .before .date-answer .ensures) ∙ ap outcomeOf (c .enum-told .given .1)) .2)
+    let passed = date-passed (k .tabled) (k .stationed) (s .args .year) (s .args .month) (sym (c .before .before .date-answer .ensures) ∙ ap outcomeOf (c .enum-told .given .1)) in
+    (s .pre (passed .0), passed .2)
 
 returns : tie.Need-returns
 returns c =

@@ -39,6 +39,7 @@ use denote.Triple.Call.{calls-at}
 use denote.Triple.Clauses.{ensured, lasts}
 use denote.Triple.Table.{entered, cited}
 use denote.Triple.Walked.{says, needs, Stays, stay-none, stay-dropped, stay-none-slice, walkOf, Walks, ends-at, walked, goes-none, goes-dropped, goes-none-slice, walk-meets}
+use Rattle.refusals.specs.Outcome.{outcomeOf}
 use Rattle.station.specs.declared.records.Record.{Record}
 use Rattle.station.specs.declared.records.Rows.{Rows}
 use Rattle.station.specs.inner.Rows.{rowsOf}
@@ -105,7 +106,7 @@ module _ {M : Type 1} (𝓤 : URA M) (H : Heap 𝓤) (A : Atoms 𝓤) (W : Given
   abbrev taken : Rows
   taken = rowsOf ys
 
-  exits : (s : After) (u : Val) → StationPost c z ys (s .answer) (s .clock) → ent 𝓤 (⋆ 𝓤 H A (‵ (S.the-row .own s (u ∷ [])) ∷ (‵ (flft κ q) ⊛ ‵ ftrue) ∷ ‵ Own ∷ ‵ (i32 .own z (zv ∷ [])) ∷ [])) (Post u)
+  exits : (s : After) (u : Val) → StationPost c z ys (outcomeOf (s .answer)) (s .clock) → ent 𝓤 (⋆ 𝓤 H A (‵ (S.the-row .own s (u ∷ [])) ∷ (‵ (flft κ q) ⊛ ‵ ftrue) ∷ ‵ Own ∷ ‵ (i32 .own z (zv ∷ [])) ∷ [])) (Post u)
   exits s u e =
       qed W (‵ (S.the-row .own s (u ∷ [])) ∷ (‵ (flft κ q) ⊛ ‵ ftrue) ∷ ‵ Own ∷ ‵ (i32 .own z (zv ∷ [])) ∷ []) ∵
       suffices ! _ (ends-at 𝓤 H A it.ended stayed (it.clauses 𝓤 H A mem run) W (((κ, tt), (q, tt), tt, (c, (z, (rs, tt))), at), tt) u s (tt, (tt, (tt, tt))) (tt, (tt, (tt, tt)))) $ says ! e $
@@ -132,7 +133,7 @@ module _ {M : Type 1} (𝓤 : URA M) (H : Heap 𝓤) (A : Atoms 𝓤) (W : Given
       move ! (1 ∷ 0 ∷ []) $ fjoin ! $ nothing ! $ done !
 
   abbrev Placed : Rows → After → Type 0
-  Placed r s = StationPost c z (recordsOf r n) (s .answer) (s .clock)
+  Placed r s = StationPost c z (recordsOf r n) (outcomeOf (s .answer)) (s .clock)
 
   place-said : (r : Rows) (s : After) → ent 𝓤 (ensured 𝓤 H A place.ended (place.clauses 𝓤 H A mem run) tt (c, (z, (n, (r, tt)))) tt s) (fact 𝓤 (Placed r s))
   place-said r s = exE 𝓤 _ (λ ws. snd∗ 𝓤 (sem 𝓤 H A (lasts place.ended tt (c, (z, (n, (r, tt)))) ws)) (fact 𝓤 (Placed r s)))
@@ -164,7 +165,7 @@ module _ {M : Type 1} (𝓤 : URA M) (H : Heap 𝓤) (A : Atoms 𝓤) (W : Given
         land ! (from ! (stop !)) (init ! 15 refl (LL.lawful S.the-type S′.the-laws 𝓤 H A W .typed s _ is₂ .0)) $
         returns ! (look ! 15 refl) $ forget ! 5 refl $ forget ! 7 refl $ forget ! 9 refl $ forget ! 11 refl $ forget ! 13 refl $ forget ! 15 refl $
         move ! (15 ∷ 16 ∷ []) $ free1 ! $ move ! (13 ∷ 14 ∷ []) $ free1 ! $ move ! (11 ∷ 12 ∷ []) $ free1 ! $ move ! (9 ∷ 10 ∷ []) $ free1 ! $ move ! (7 ∷ 8 ∷ []) $ free1 ! $ move ! (5 ∷ 6 ∷ []) $ free1 ! $ free0 ! $
-        keep ! (0 ∷ 1 ∷ 2 ∷ 4 ∷ []) $ by ! (exits s u (lent-post c z ys (s .answer) (s .clock) r e p))))))))))))))))
+        keep ! (0 ∷ 1 ∷ 2 ∷ 4 ∷ []) $ by ! (exits s u (lent-post c z ys (outcomeOf (s .answer)) (s .clock) r e p))))))))))))))))
 
 module _ {M : Type 1} (𝓤 : URA M) (H : Heap 𝓤) (A : Atoms 𝓤) (W : Given 𝓤 H A) (mem : Memory → SProp 𝓤) (run : Routine → Fun 𝓤) (𝓣 : Tables 𝓤 H) (known-rows : Triple 𝓤 (𝓣 .C #records·rows-of) (RowsOf 𝓤 H A mem run)) (known-place : Triple 𝓤 (𝓣 .C #clock·place-station) (Place 𝓤 H A mem run)) where
   it-walks : Walks 𝓤 H A it.ended stayed (WpFn 𝓤 H (𝓣 .C) (𝓣 .Λ) code.function) (it.clauses 𝓤 H A mem run)

@@ -31,8 +31,9 @@ turns-requires c κs =
     let k = s .args .t1 in
     let stride = c .before .before .before .before .before .station-stride .ensures .1 in
     let w = turns-within (k .tabled) (k .stationed) (k .dated) (k .last) (s .args .first) (s .args .last) (sym (c .before .before .before .before .before .before .before .before .before .before .turns-answer .ensures) ∙ ap outcomeOf (c .before .before .before .before .before .before .before .before .enum-told .given .1)) in
-    let within : s .args .last ≤ mostMinutes = omega (arith, w .0, s .pre .last) in
-    rw (c .before .before .before .before .month-in .ensures) ((s .pre .cosines, (s .pre .count, s .pre .month)), (stride .0, (stride .1, (w .1, within))))
+    let sound = s .pre (w .0) in
+    let within : s .args .last ≤ mostMinutes = omega (arith, w .1, sound .last) in
+    rw (c .before .before .before .before .month-in .ensures) ((sound .cosines, (sound .count, sound .month)), (stride .0, (stride .1, (w .2, within))))
 
 found-turns-requires : tie.Need-found-turns-requires
 found-turns-requires c κs = search needs

@@ -3,7 +3,6 @@
 use Prim.Native.Nat.{ℕ, min}
 use mathlib.Core.Bool.{true, false}
 use Rattle.limits.specs.Limits.{mostRecords}
-use Rattle.table.specs.declared.Table.{Table}
 use Rattle.station.specs.declared.Station.{Station}
 use Rattle.month_prepared.specs.declared.Month.{Month}
 use Rattle.refusals.specs.declared.Answer.the-variants.{Accepted}
@@ -13,24 +12,6 @@ use Rattle.clock.specs.declared.After.{After}
 -- what an accepted call leaves
 abbrev pub accepts : Clock → After
 accepts c = record { answer = Accepted; clock = c }
-
-abbrev pub withTable : Clock → Table → Clock
-withTable c t =
-    record {
-      cosines = c .cosines;
-      tabled = true;
-      table = t;
-      stationed = false;
-      station = c .station;
-      dated = false;
-      last = c .last;
-      count = c .count;
-      arguments = c .arguments;
-      lags = c .lags;
-      frequencies = c .frequencies;
-      ps = c .ps;
-      qs = c .qs;
-    }
 
 abbrev pub withStation : Clock → Station → Clock
 withStation c s =

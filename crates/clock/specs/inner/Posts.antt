@@ -1,22 +1,51 @@
--- Only inner contracts cite this: what the step of a date promises.
-use Prim.Native.Nat.{ℕ}
+-- Only inner contracts cite this: what the steps of the calls promise.
+-- Assumes nothing.
+use Prim.Native.Nat.{ℕ, _≤_}
+use mathlib.Core.Bool.{Bool, true}
+use mathlib.Core.List.{List}
 use mathlib.Core.Path.{_≡_}
-use Rattle.refusals.specs.Outcome.{outcomeOf, answered, onAccepted}
+use lib.IntN.{ℤ}
+use Rattle.limits.specs.Limits.{mostMinutes, mostRecords}
+use Rattle.refusals.specs.Outcome.{Outcome, outcomeOf, answered, onAccepted}
 use Rattle.refusals.specs.declared.Answer.{Answer}
+use Rattle.cosine.specs.Fixed.{IsTable}
 use Rattle.table.specs.inner.View.{tableOf}
+use Rattle.table.specs.declared.Table as declared
+use Rattle.table.specs.Table.{Table}
+use Rattle.station.specs.Station.{Station}
 use Rattle.station.specs.inner.Station.{stationOf}
+use Rattle.month_prepared.specs.inner.View.{constituentsFrom}
 use Rattle.calendar.specs.Calendar.{monthMinutes}
 use Rattle.month.specs.Month.{monthOf}
 use Rattle.calls.specs.State.{some}
-use Rattle.clock.specs.View.{view, Made}
+use Rattle.calls.specs.Calls.{heightReturns}
+use Rattle.calls.specs.inner.Flags.{stateOf, tabledOnly}
+use Rattle.clock.specs.View.{view, Sound}
 use Rattle.clock.specs.declared.Clock.{Clock}
+
+-- a clock with a table or none, and nothing else
+pub record BarePost (tabled : Bool) (table : declared.Table) (r : Clock) : Type 0 where
+  pub cosines : IsTable (r .cosines)
+  pub flag : r .tabled ≡ tabled
+  pub same : r .table ≡ table
+  pub count : r .count ≡ 0
+  pub last : r .last ≡ 0
+  pub there : view r ≡ tabledOnly tabled (tableOf table)
 
 -- a month that is prepared for a date in range, whatever the flags of the clock say
 pub record PreparedPost (c : Clock) (year month : ℕ) (answer : Answer) (left : Clock) : Type 0 where
-  pub made : Made left
+  pub sound : Sound left
   pub returns : outcomeOf answer ≡ answered (monthOf (tableOf (c .table)) (stationOf (c .station)) year month)
   pub leaves : view left ≡ onAccepted (monthOf (tableOf (c .table)) (stationOf (c .station)) year month) (λ constituents. record {
     table = view c .table;
     station = view c .station;
     month = some (record { last = monthMinutes year month; constituents = constituents });
   }) (view c)
+
+-- what a height asks of the parts of a clock that has a table
+abbrev pub PartsMade : Bool → List ℕ → ℕ → ℕ → Type 0
+PartsMade tabled cosines count last = tabled ≡ true → IsTable cosines × ((count ≤ mostRecords) × (last ≤ mostMinutes))
+
+-- a height from the parts of a clock, whatever table and station it has
+pub record HeightFrom (tabled stationed dated : Bool) (last count : ℕ) (arguments lags frequencies : List ℕ) (ps qs : List ℤ) (minute : ℕ) (returned : Outcome ℤ) : Type 0 where
+  pub returns : (t : Table) (s : Station) → returned ≡ heightReturns (stateOf tabled t stationed s dated (record { last = last; constituents = constituentsFrom arguments lags frequencies ps qs count })) minute

@@ -1,63 +1,119 @@
--- `cuvalimodo_c::cuvalimodo_series` meets its contract: what is said of a clock that could not be set, or what its series gives (`Once`). Assumes nothing.
-use borrow.Author.Needs.{needs}
-use Rattle.cuvalimodo_c.proofs.cuvalimodo_series.Statement.{statement}
-use Rattle.cuvalimodo_c.proofs.cuvalimodo_series.Tie as tie
-use mathlib.Core.Path.{ap}
-use mir.ValLaws.{toZ-ofZ}
-use mir.Syntax.{w32}
-use Rattle.cuvalimodo_c.specs.Setting.{settingReturned}
-use Rattle.cuvalimodo_c.proofs.Once.{series-unset, series-asked}
+-- `cuvalimodo_series` meets its contract: a walk of its MIR, by hand. The clock is copied (`Copied`), the slice is lent on, and both go to the covered `byvalue::series`.
+-- Assumes nothing.
+use Rattle.cuvalimodo_c.proofs.Walking.{refl, ℕ, _<_, _^_, List, [], _∷_, length, URA, named, w32, Val, vint, vptr, SProp, ent, id⊢, Fml, Lft, GName, Share, ftrue, flft, Memory, Routine, Heap, Calls, Loops, WpFn, Tables, Atoms, Fun, fact, givenOf, tables, tablesOf, Given, ‵, raw, _⊛_, some, later, ⋆, _$_, _∵_, !, qed, by, move, keep, drop, use1, split, join, pick, fsplit, fjoin, suffices, frame, await, done, whole, sub, look-in, look, init, forget, stop, hop, fld, from, load, and-then, no-more, assigns, land, returns, enter, alloc1, alloc0, params1, pass1, pass0, free1, free0, FmC, fmOf, WpFn-mono, yes, owns, Is, shows, uint-vals, uint-tells, uint-makes, u32, RefT, ptr-vals, plain, owned, peeks, heard, nothing, Vals, onEntry, Meets, tripleOf, Contract, Triple, calls-at, ensured, lasts, entered, cited, says, needs, Stays, stay-none, walkOf, Walks, ends-at, walked, goes-none, walk-meets}
+use lib.IntN.{ℤ}
+use mathlib.Core.Path.{_≡_}
+use types.Kit.{use3, feqL}
+use types.Part.{agg}
+use types.Run.{addr}
+use denote.Builtin.{i64}
+use denote.Ref.{ShrRef, shr-tells}
+use denote.Slice.{sliceVal, MutSlice, Room, finally, slice-vals, mut-slice-tells}
+use denote.Triple.Walked.{stay-none-ref, gave-slice, goes-none-ref, goes-gave-slice}
+use denote.Struct.Laws as LL
+use Rattle.clock.specs.declared.Clock.{Clock}
+use Rattle.clock.specs.View.{Made}
+use Rattle.clock.specs.Posts.{SeriesPost}
+use Rattle.clock.proofs.Clock as T
+use Rattle.cuvalimodo_c.specs.declared.answers.Verdict.{Verdict}
+use Rattle.cuvalimodo_c.specs.Answers.{verdictIn, Plain}
+use Rattle.cuvalimodo_c.proofs.Stored.{clockVal}
+use Rattle.cuvalimodo_c.proofs.Copied.{Own, copied}
+use Rattle.cuvalimodo_c.proofs.answers.Verdict as R
+use Rattle.cuvalimodo_c.proofs.answers.Verdict.Laws as R′
+use Rattle.cuvalimodo_c.proofs.byvalue.series as inner
+use Rattle.cuvalimodo_c.proofs.byvalue.series.Symbol as inner-def
+use Rattle.cuvalimodo_c.proofs.byvalue.series.Symbol.{name as #inner}
+use Rattle.cuvalimodo_c.proofs.byvalue.series.Met as inner-thm
+use Rattle.cuvalimodo_c.proofs.cuvalimodo_series.Key.{name as #it}
+use Rattle.cuvalimodo_c.proofs.cuvalimodo_series as it
+use Rattle.cuvalimodo_c.proofs.cuvalimodo_series.Statement as stated
+use Rattle.cuvalimodo_c.proofs.cuvalimodo_series.Code as code
 
-ready-clock-requires : tie.Need-ready-clock-requires
-ready-clock-requires c κs = search needs
+abbrev stayed : Stays (it.ended .signature .params) (it.ended .kept)
+stayed = (stay-none-ref (0 ∷ []) tt (plain (λ _. T.the-row)) yes, (stay-none (λ _. u32) yes, (stay-none (λ _. u32) yes, (gave-slice (1 ∷ []) tt (plain (λ _. i64)), tt))))
 
-enum-told : tie.Need-enum-told
-enum-told c = search needs
+module _ {M : Type 1} (𝓤 : URA M) (H : Heap 𝓤) (A : Atoms 𝓤) (at-mem : Memory → SProp 𝓤) (run : Routine → Fun 𝓤) where
+  abbrev Inner : Contract 𝓤
+  Inner = tripleOf 𝓤 H A inner.signature (inner.spec 𝓤 H A at-mem run)
 
-series-requires : tie.Need-series-requires
-series-requires c κs = search needs
+module _ {M : Type 1} (𝓤 : URA M) (H : Heap 𝓤) (A : Atoms 𝓤) (W : Given 𝓤 H A) (at-mem : Memory → SProp 𝓤) (run : Routine → Fun 𝓤) (κ κ₁ : Lft) (q q₁ : Share) (b o : ℕ) (γ : GName) (h : Clock) (start step : ℕ) (ys : RefT (List ℤ)) (start-fits : start < 2 ^ 32) (step-fits : step < 2 ^ 32) where
+  abbrev x : RefT Clock
+  x = record { ptr = (b, o); name = γ; now = h }
 
-told-requires : tie.Need-told-requires
-told-requires c κs = search needs
+  abbrev ysv : Val
+  ysv = sliceVal (ys .ptr) (length (ys .now))
 
-same-length : tie.Need-same-length
-same-length c = search needs
+  abbrev at : Vals it.signature (κ, (κ₁, tt))
+  at = (vptr b o ∷ [], (vint w32 start ∷ [], (vint w32 step ∷ [], (ysv ∷ [], tt))))
 
-returns : tie.Need-returns
-returns c =
-    let s = c .before .before .before .before .before .before .before .before .before .before .before in
-    let a = s .args in
-    let ready = c .before .before .before .before .before .before .ready-clock in
-    let promised = rw (toZ-ofZ w32 (a .latitude) (s .fits .latitude)) at (ready .ensures) in
-    series-asked (a .file .now) (a .latitude) (a .places .now) (a .amplitudes .now) (a .phases .now) (a .year) (a .month) (ready .result) promised (a .start) (a .step) (a .heights .now) (ap settingReturned (c .before .before .before .before .enum-told .given .1)) (c .before .before .series .result) _ (c .before .before .series .ensures) _ (c .told .ensures)
+  abbrev Ref : Fml
+  Ref = Own 𝓤 H A W κ q b o γ h
 
-enum-told-2 : tie.Need-enum-told-2
-enum-told-2 c = search needs
+  abbrev Heights : Fml
+  Heights = MutSlice (named 1) κ₁ i64 .own ys (ysv ∷ [])
 
-unset-requires : tie.Need-unset-requires
-unset-requires c κs = search needs
+  abbrev Post : Val → SProp 𝓤
+  Post = walkOf 𝓤 H A it.ended stayed (it.clauses 𝓤 H A at-mem run) .post (((κ, (κ₁, tt)), (q, (q₁, tt)), tt, (x, (start, (step, (ys, tt)))), at), tt)
 
-returns-2 : tie.Need-returns-2
-returns-2 c =
-    let s = c .before .before .before .before .before .before .before .before in
-    let a = s .args in
-    let ready = c .before .before .before .ready-clock in
-    let promised = rw (toZ-ofZ w32 (a .latitude) (s .fits .latitude)) at (ready .ensures) in
-    series-unset (a .file .now) (a .latitude) (a .places .now) (a .amplitudes .now) (a .phases .now) (a .year) (a .month) (ready .result) promised (a .start) (a .step) (a .heights .now) _ _ (ap settingReturned (c .before .enum-told2 .given .1)) _ (c .unset .ensures)
+  abbrev Said : Verdict → List ℤ → Type 0
+  Said r left = SeriesPost h start step (ys .now) left (verdictIn r) × Plain r
 
-enum-told-3 : tie.Need-enum-told-3
-enum-told-3 c = search needs
+  exits : (r : Verdict) (v : Val) (left : List ℤ) → Said r left → length left ≡ length (ys .now)
+      → ent 𝓤 (⋆ 𝓤 H A (‵ (R.the-row .own r (v ∷ [])) ∷ (‵ (flft κ₁ q₁) ⊛ ‵ ftrue) ∷ ‵ (finally i64 (ys .name) left) ∷ ‵ Ref ∷ ‵ (flft κ q) ∷ [])) (Post v)
+  exits r v left e l =
+      qed W (‵ (R.the-row .own r (v ∷ [])) ∷ (‵ (flft κ₁ q₁) ⊛ ‵ ftrue) ∷ ‵ (finally i64 (ys .name) left) ∷ ‵ Ref ∷ ‵ (flft κ q) ∷ []) ∵
+      suffices ! _ (ends-at 𝓤 H A it.ended stayed (it.clauses 𝓤 H A at-mem run) W (((κ, (κ₁, tt)), (q, (q₁, tt)), tt, (x, (start, (step, (ys, tt)))), at), tt) v r (tt, (tt, (tt, (left, tt)))) (tt, (tt, (tt, (l, tt))))) $ says ! e $
+      move ! (4 ∷ 1 ∷ []) $ join ! $ frame ! $ nothing ! $ move ! (2 ∷ 0 ∷ []) $ fjoin ! $ owned ! u32 (Is u32) (uint-makes 𝓤 H A W w32) step _ (refl, step-fits) $ fjoin ! $
+      owned ! u32 (Is u32) (uint-makes 𝓤 H A W w32) start _ (refl, start-fits) $ fjoin ! $ move ! (2 ∷ 0 ∷ []) $ fjoin ! $ frame ! $ done !
 
-unset-requires-2 : tie.Need-unset-requires-2
-unset-requires-2 c κs = search needs
+  abbrev to-inner : Inner 𝓤 H A at-mem run .Ghost
+  to-inner = (((κ₁, tt), (q₁, tt), tt, (h, (start, (step, (ys, tt)))), (clockVal h ∷ [], at .1)), tt)
 
-returns-3 : tie.Need-returns-3
-returns-3 c =
-    let s = c .before .before .before .before .before .before .before .before in
-    let a = s .args in
-    let ready = c .before .before .before .ready-clock in
-    let promised = rw (toZ-ofZ w32 (a .latitude) (s .fits .latitude)) at (ready .ensures) in
-    series-unset (a .file .now) (a .latitude) (a .places .now) (a .amplitudes .now) (a .phases .now) (a .year) (a .month) (ready .result) promised (a .start) (a .step) (a .heights .now) _ _ (ap settingReturned (c .before .enum-told3 .given .1)) _ (c .unset2 .ensures)
+  goes-inner : Made h → ent 𝓤 (⋆ 𝓤 H A (‵ (T.the-row .own h (clockVal h ∷ [])) ∷ (‵ (flft κ₁ q₁) ⊛ ‵ ftrue) ∷ ‵ Heights ∷ [])) (Inner 𝓤 H A at-mem run .pre to-inner)
+  goes-inner made =
+      qed W (‵ (T.the-row .own h (clockVal h ∷ [])) ∷ (‵ (flft κ₁ q₁) ⊛ ‵ ftrue) ∷ ‵ Heights ∷ []) ∵ says ! made $ nothing ! $ move ! (3 ∷ 0 ∷ []) $ fjoin ! $ owned ! u32 (Is u32) (uint-makes 𝓤 H A W w32) step _ (refl, step-fits) $ fjoin ! $
+      owned ! u32 (Is u32) (uint-makes 𝓤 H A W w32) start _ (refl, start-fits) $ fjoin ! $ move ! (1 ∷ 0 ∷ []) $ fjoin ! $ move ! (1 ∷ 0 ∷ []) $ done !
 
-pub cuvalimodo-series-spec : {M : Type 1} → statement M
-cuvalimodo-series-spec = tie.close (tie.spec ready-clock-requires enum-told series-requires told-requires same-length returns enum-told-2 unset-requires returns-2 enum-told-3 unset-requires-2 returns-3)
+  module _ (𝓒 : Calls 𝓤 H) (Λ : Loops 𝓤 H) (fm : FmC 𝓤 H (W .laws) 𝓒) (known : Triple 𝓤 (𝓒 #inner) (Inner 𝓤 H A at-mem run)) where
+    walk : Made h → Room i64 (length (ys .now)) → ent 𝓤 (onEntry 𝓤 H A it.signature (κ, (κ₁, tt)) (q, (q₁, tt)) (x, (start, (step, (ys, tt)))) at) (WpFn 𝓤 H 𝓒 Λ code.function (vptr b o ∷ vint w32 start ∷ vint w32 step ∷ ysv ∷ []) Post)
+    walk made room =
+        qed W ((‵ (flft κ q) ⊛ (‵ (flft κ₁ q₁) ⊛ ‵ ftrue)) ∷ ‵ (owns (ShrRef (named 0) κ T.the-row ∷ u32 ∷ u32 ∷ MutSlice (named 1) κ₁ i64 ∷ []) (x, (start, (step, (ys, tt)))) at) ∷ []) ∵ enter ! 𝓒 Λ code.function (vptr b o ∷ vint w32 start ∷ vint w32 step ∷ ysv ∷ []) _ $
+        alloc1 ! (λ l₀. alloc1 ! (λ l₁. alloc1 ! (λ l₂. alloc1 ! (λ l₃. alloc1 ! (λ l₄. alloc1 ! (λ l₅. alloc1 ! (λ l₆. alloc1 ! (λ l₇. alloc0 ! $ params1 ! $
+        pass1 ! (init ! 12 refl (tt, tt)) $ pass1 ! (init ! 10 refl (tt, record { fits = start-fits })) $ pass1 ! (init ! 8 refl (tt, record { fits = step-fits })) $ pass1 ! (init ! 6 refl (tt, (tt, (record { fits = room .0 }, tt)))) $ pass0 ! $
+        move ! (17 ∷ []) $ fsplit ! $ move ! (1 ∷ []) $ fsplit ! $ drop ! $ fsplit ! $ drop ! $ fsplit ! $ move ! (19 ∷ []) $ split ! $ move ! (4 ∷ 0 ∷ 9 ∷ 17 ∷ []) $
+        -- [the reference; its token; the copy; _1; the slice's token; the slice; true; _7; …; _6; …; …; _4; …; _3; …; _2; …; …; _0; …]
+        copied 𝓤 H A W κ q b o γ h _ l₀ l₁ 5 l₅ _ _ (λ _. from ! (stop !)) $
+        assigns ! (addr ! (from ! (fld ! refl (hop ! (look-in ! 13 (sub ! 0 refl (whole !))) (stop !))))) (from ! (stop !)) (init ! 10 refl (tt, tt)) $
+        assigns ! (agg ! (and-then ! (load ! (from ! (stop !)) (look ! 10 refl)) (and-then ! (load ! (from ! (fld ! refl (stop !))) (look-in ! 13 (sub ! 1 refl (whole !)))) (no-more !)))) (from ! (stop !)) (init ! 8 refl (tt, (tt, (record { fits = room .0 }, tt)))) $
+        move ! (1 ∷ 5 ∷ 6 ∷ []) $ use3 W (raw (Inner 𝓤 H A at-mem run .pre to-inner)) (goes-inner made) $
+        -- [what the call asks; the reference; its token; the copy; _1; true; _7; …; _6; …; …; _4; …; _3; …; _2; …; …; _0; …]
+        calls-at ! fm (Inner 𝓤 H A at-mem run) known to-inner (and-then ! (load ! (from ! (stop !)) (look ! 3 refl)) (and-then ! (load ! (from ! (stop !)) (look ! 15 refl)) (and-then ! (load ! (from ! (stop !)) (look ! 13 refl)) (and-then ! (load ! (from ! (stop !)) (look ! 6 refl)) (no-more !))))) (λ v.
+        use1 W (later (some (λ (r : Verdict). ((‵ (flft κ₁ q₁) ⊛ ‵ ftrue) ⊛ ‵ (R.the-row .own r (v ∷ []))) ⊛ raw (ensured 𝓤 H A inner.ended (inner.clauses 𝓤 H A at-mem run) (κ₁, tt) (h, (start, (step, (ys, tt)))) tt r)))) (id⊢ 𝓤 _) $ await ! tt $ pick ! (λ r. split ! $ move ! (1 ∷ []) $
+        use1 W (some (λ (ws : Unit {0} × (Unit {0} × (Unit {0} × (List ℤ × Unit {0})))). ‵ (lasts inner.ended (κ₁, tt) (h, (start, (step, (ys, tt)))) ws) ⊛ raw (fact 𝓤 (Said r (ws .1 .1 .1 .0))))) (id⊢ 𝓤 _) $ pick ! (λ ws. split ! $ move ! (1 ∷ []) $
+        heard ! (Said r (ws .1 .1 .1 .0)) (λ p. fsplit ! $ drop ! $ fsplit ! $ drop ! $ fsplit ! $ drop ! $ fsplit ! $ fsplit ! $ move ! (1 ∷ []) $ feqL ! (λ l. move ! (2 ∷ []) $ split ! $ move ! (1 ∷ []) $
+        -- [the verdict; the slice's token; the last heights; true; the reference; its token; the copy; _1; true; _7; …; _6; …; …; _4; …; _3; …; _2; …; …; _0; …]
+        peeks ! R.the-row (Is R.the-row) (shows 𝓤 H A R.the-row) r (v ∷ []) (λ is. land ! (from ! (stop !)) (init ! 21 refl (LL.lawful R.the-type R′.the-laws 𝓤 H A W .typed r _ is .0)) $
+        returns ! (look ! 21 refl) $ forget ! 6 refl $ forget ! 7 refl $ forget ! 9 refl $ forget ! 11 refl $ forget ! 14 refl $ forget ! 16 refl $ forget ! 18 refl $ forget ! 21 refl $
+        move ! (21 ∷ 22 ∷ []) $ free1 ! $ move ! (7 ∷ 20 ∷ []) $ free1 ! $ move ! (17 ∷ 18 ∷ []) $ free1 ! $ move ! (15 ∷ 16 ∷ []) $ free1 ! $ move ! (13 ∷ 14 ∷ []) $ free1 ! $ move ! (6 ∷ 12 ∷ []) $ free1 ! $ move ! (9 ∷ 10 ∷ []) $ free1 ! $ move ! (7 ∷ 8 ∷ []) $ free1 ! $ free0 ! $
+        keep ! (0 ∷ 1 ∷ 2 ∷ 4 ∷ 5 ∷ []) $ by ! (exits r v (ws .1 .1 .1 .0) p l)))))))))))))))
+
+module _ {M : Type 1} (𝓤 : URA M) (H : Heap 𝓤) (A : Atoms 𝓤) (W : Given 𝓤 H A) (at-mem : Memory → SProp 𝓤) (run : Routine → Fun 𝓤) (𝓣 : Tables 𝓤 H) (known : Triple 𝓤 (𝓣 .C #inner) (Inner 𝓤 H A at-mem run)) where
+  it-walks : Walks 𝓤 H A it.ended stayed (WpFn 𝓤 H (𝓣 .C) (𝓣 .Λ) code.function) (it.clauses 𝓤 H A at-mem run)
+  it-walks = walked 𝓤 H A it.ended stayed (it.clauses 𝓤 H A at-mem run) (WpFn 𝓤 H (𝓣 .C) (𝓣 .Λ) code.function)
+      (λ κs. (ptr-vals, (uint-vals w32, (uint-vals w32, (slice-vals, tt))))) (λ κs. (shr-tells (named 0) (κs .0) T.the-row, (uint-tells w32, (uint-tells w32, (mut-slice-tells (named 1) (κs .1 .0) i64, tt)))))
+      (λ κs qs bounds a g are. needs 𝓤 (Made (a .0 .now)) _ (λ made.
+      walk 𝓤 H A W at-mem run (κs .0) (κs .1 .0) (qs .0) (qs .1 .0) (a .0 .ptr .0) (a .0 .ptr .1) (a .0 .name) (a .0 .now) (a .1 .0) (a .1 .1 .0) (a .1 .1 .1 .0) (are .1 .0 .1) (are .1 .1 .0 .1) (𝓣 .C) (𝓣 .Λ) (fmOf 𝓤 H (W .laws) 𝓣) known made (are .1 .1 .1 .0 .0 .1)))
+
+  it-meets : Meets 𝓤 H A it.signature (WpFn 𝓤 H (𝓣 .C) (𝓣 .Λ) code.function) (it.spec 𝓤 H A at-mem run)
+  it-meets = walk-meets 𝓤 H A it.ended stayed W
+      (goes-none-ref 𝓤 H A W 2 (0 ∷ []) tt (plain (λ _. T.the-row)) yes, (goes-none 𝓤 H A W 2 (λ _. u32) yes (λ κs x f. refl), (goes-none 𝓤 H A W 2 (λ _. u32) yes (λ κs x f. refl), (goes-gave-slice 𝓤 H A W 2 1 tt (plain (λ _. i64)), tt))))
+      (it.clauses 𝓤 H A at-mem run) (WpFn 𝓤 H (𝓣 .C) (𝓣 .Λ) code.function) (WpFn-mono 𝓤 H (W .laws) 𝓣 code.function) it-walks
+
+pub cuvalimodo-series-spec : {M : Type 1} → stated.statement M
+unfolding code.routine tablesOf
+cuvalimodo-series-spec 𝓤 H 𝓜 𝓖 𝓡 =
+    entered 𝓤 H (tripleOf 𝓤 H (𝓖 .A) it.signature (it.spec 𝓤 H (𝓖 .A) (𝓜 .mem) (𝓡 .run)))
+    (tables 𝓤 H 𝓜 𝓡 code.env .C) (tables 𝓤 H 𝓜 𝓡 code.env .Λ) #it code.function (code.unfolded 𝓤 H 𝓜 𝓡)
+    (it-meets 𝓤 H (𝓖 .A) (givenOf 𝓤 H 𝓜 𝓖) (𝓜 .mem) (𝓡 .run) (tablesOf 𝓤 H 𝓜 (tables 𝓤 H 𝓜 𝓡 code.env))
+    (cited 𝓤 H (Inner 𝓤 H (𝓖 .A) (𝓜 .mem) (𝓡 .run)) 𝓜 𝓡 code.env #inner inner-def.routine code.calls-cuvalimodo-c·byvalue·series (inner-thm.met 𝓤 H 𝓜 𝓖 𝓡)))

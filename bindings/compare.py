@@ -1,0 +1,161 @@
+"""Has the players of all languages play the second code's scripts: python3 bindings/compare.py NAME=COMMAND ...
+
+The scripts are 200 of about 100 calls, generated from a seed; replay's own; those of tools/malformed.py; and three made here, of numbers at the ends
+of their types, buffers of every size, and card files of every kind. A player gets all of them as files in one run. Each answer must be the
+second code's, and every refusal must come up.
+"""
+
+import collections
+import os
+import subprocess
+import sys
+import tempfile
+
+ROOT = os.path.join(os.path.dirname(os.path.abspath(__file__)), "..")
+sys.path.insert(0, os.path.join(ROOT, "tools"))
+
+import compare_many  # noqa: E402
+import malformed  # noqa: E402
+import replay_example  # noqa: E402
+from generate import cards_call  # noqa: E402
+from replay_example import CARDS, LAST, station  # noqa: E402
+
+SEED, COUNT = 1, 200
+LARGEST = 4_294_967_295
+REFUSALS = [*range(1, 12), *range(21, 24)]
+
+
+def call(word, *numbers):
+    return b" ".join([word, *(b"%d" % number for number in numbers)]) + b"\n"
+
+
+def victoria():
+    """The manual's station, as replay's own script sets it: latitude and records."""
+    (lines,) = [call for call in replay_example.sample() if call.startswith(b"station 2905 11\n")]
+    return 2905, [tuple(map(int, line.split())) for line in lines.splitlines()[1:]]
+
+
+def requests():
+    """Heights, series and turns at the ends of the month and of their types, into buffers of every size."""
+    for minute in (0, LAST, LAST + 1, LARGEST):
+        yield call(b"height", minute)
+    for start, step, count in (
+        (LARGEST, 1, 1), (LAST + 1, 1, 0), (LAST, 1, 1), (LAST, 1, 2), (0, 0, 1), (0, 1_441, 1), (0, LARGEST, 0), (0, 1_440, 32), (0, 1_440, 33),
+        (0, 60, 0), (0, 1, LAST + 1), (0, 1, LAST + 2), (43_201, 1, 1_440), (5, 7, 200),
+    ):
+        yield call(b"series", start, step, count)
+    for first, last, minutes, heights in (
+        (0, LARGEST, 1, 1), (LARGEST, LARGEST, 1, 1), (10, 9, 1, 1), (0, 0, 0, 0), (0, LAST, 103, 103), (0, LAST, 102, 103), (0, LAST, 103, 102),
+        (0, LAST, 0, 0), (0, LAST, 0, 300), (0, LAST, 300, 250), (0, LAST + 1, 300, 300), (LAST, LAST, 2, 2),
+    ):
+        yield call(b"turns", first, last, minutes, heights)
+
+
+def updates():
+    """Stations and dates at the ends of their types; most are refused."""
+    latitude, records = victoria()
+    for other in (-(2**31), 2**31 - 1, -5_401, 5_401):
+        yield station(other, records)
+    for count in (147, 148, 1_000):
+        yield station(latitude, [(k % 256, 1, 2) for k in range(count)])
+    for worst in (65_536, LARGEST):
+        yield station(latitude, records[:10] + [(records[10][0], worst, 0)])
+        yield station(latitude, records[:5] + [(records[5][0], 0, worst)] + records[6:])
+    yield station(latitude, records[:10] + [(255, 1, 2)])
+    yield station(latitude, records + records[:1])
+    for year, month in ((0, 7), (LARGEST, 7), (1949, 12), (2050, 1), (1976, 0), (1976, 13), (1976, LARGEST)):
+        yield call(b"date", year, month)
+
+
+def ends():
+    """All requests of a clock that is set; then updates that are refused, each with a height after it; then others that are taken."""
+    latitude, records = victoria()
+    refused = [line for update in updates() for line in (update, call(b"height", 510))]
+    taken = []
+    for other in ((-5_400, records), (5_400, records), (latitude, []), (latitude, [(k, 1, 2) for k in range(145)])):
+        taken += [station(*other), call(b"height", 0), call(b"date", 2049, 12), call(b"series", 0, 1_440, 32), call(b"turns", 0, LAST, 300, 300)]
+    return b"".join([cards_call(CARDS), station(latitude, records), call(b"date", 1976, 7), *requests(), *refused, *taken])
+
+
+def card_files():
+    """Card files that are none, and the standard one without its last byte, on a clock that is set."""
+    with open(os.path.join(ROOT, "data", "standard-cards-as-printed.txt"), "rb") as file:
+        files = [file.read(), b"", b"\n", b"\n" * 9, b"\x00", b"\xff" * 300, CARDS[:8_000], CARDS[:-1]]
+    lines = [cards_call(CARDS), station(*victoria()), call(b"date", 1976, 7)]
+    return b"".join(lines + [line for file in files for line in (cards_call(file), call(b"height", 510))])
+
+
+def deepest():
+    """The card file that takes the most stack, and a station of all of it."""
+    deck = subprocess.run([sys.executable, os.path.join(ROOT, "tools", "deepest_cards.py")], stdout=subprocess.PIPE, check=True).stdout
+    everything = station(2905, [(k, 1_000, 0) for k in range(64)])
+    return cards_call(deck) + everything + call(b"date", 1976, 7) + call(b"series", 0, 60, 9) + call(b"turns", 0, LAST, 1_500, 1_500)
+
+
+def scripts():
+    """Each script with the second code's answers."""
+    yield from compare_many.answered(SEED, COUNT)
+    with open(malformed.SCRIPT, "rb") as file:
+        by_hand = [file.read(), ends(), card_files(), deepest()]
+    for script in [*by_hand, *malformed.short_scripts()]:
+        yield script, compare_many.answers(script)
+
+
+def write_files(folder, played):
+    paths = []
+    for number, (script, _) in enumerate(played):
+        paths.append(os.path.join(folder, "%03d.replay" % number))
+        with open(paths[-1], "wb") as file:
+            file.write(script)
+    return paths
+
+
+def groups(output):
+    """The answers to each script: a blank line ends them."""
+    found, lines = [], []
+    for line in output.decode().split("\n")[:-1]:
+        if line:
+            lines.append(line)
+        else:
+            found.append(lines)
+            lines = []
+    return found
+
+
+def first_difference(got, wanted):
+    pairs = enumerate(zip([*got, "nothing"], [*wanted, "nothing"]), 1)
+    return next("answer %d is %.80s, not %.80s" % (number, *pair) for number, pair in pairs if pair[0] != pair[1])
+
+
+def compare(name, command, paths, played):
+    """Plays all scripts by one player; whether each answer is the second code's."""
+    run = subprocess.run(command.split() + paths, stdout=subprocess.PIPE, stderr=subprocess.PIPE)
+    answers = groups(run.stdout)
+    differing = 0
+    for path, got, (_, wanted) in zip(paths, answers, played):
+        if got != wanted:
+            differing += 1
+            print("%s, %s: %s" % (name, os.path.basename(path), first_difference(got, wanted)))
+    if run.returncode or len(answers) != len(played):
+        print("%s ended with status %d after %d scripts: %s" % (name, run.returncode, len(answers), run.stderr.decode()[-1000:]))
+        return False
+    print("%s: %d generated scripts and %d others, %d answers, %d scripts differ from the second code"
+          % (name, COUNT, len(played) - COUNT, sum(map(len, answers)), differing))
+    return differing == 0
+
+
+def main():
+    played = list(scripts())
+    kinds = collections.Counter(compare_many.kind(line) for _, wanted in played for line in wanted)
+    missing = [number for number in REFUSALS if not kinds["refused %d" % number]]
+    with tempfile.TemporaryDirectory() as folder:
+        paths = write_files(folder, played)
+        same = [compare(*player.split("=", 1), paths, played) for player in sys.argv[1:]]
+    print("how often each refusal came up: " + ", ".join("%d: %d" % (number, kinds["refused %d" % number]) for number in REFUSALS))
+    if missing:
+        print("never came up: %s" % missing)
+    sys.exit(0 if same and all(same) and not missing else 1)
+
+
+if __name__ == "__main__":
+    main()

@@ -1,0 +1,18 @@
+-- A clock with a table or none, and nothing else, is sound where its table's frequencies are in range. Assumes nothing.
+use mathlib.Core.Bool.{Bool}
+use native.Mathlib.Omega.{arith}
+use Rattle.table.specs.declared.Table.{Table}
+use Rattle.turns.specs.inner.Lists.{InRange}
+use Rattle.clock.specs.declared.Clock.{Clock}
+use Rattle.clock.specs.View.{Sound}
+use Rattle.clock.specs.inner.Posts.{BarePost}
+
+pub bare-sound : (tabled : Bool) (table : Table) (r : Clock) → InRange (table .frequencies) (table .speeds) → BarePost tabled table r → Sound r
+bare-sound tabled table r within p =
+    record {
+      cosines = p .cosines;
+      table = rw (p .same) within;
+      count = omega (arith, p .count);
+      last = omega (arith, p .last);
+      month = λ k h. absurd (omega (arith, p .count, h));
+    }

@@ -1,0 +1,19 @@
+-- `clock::bare` meets its contract: what it was given, and numbers that are 0. Assumes nothing.
+use mathlib.Core.Path.{refl}
+use Rattle.clock.specs.View.{view}
+use borrow.Author.Needs.{needs}
+use Rattle.clock.proofs.bare.Statement.{statement}
+use Rattle.clock.proofs.bare.Tie as tie
+
+cosines-requires : tie.Need-cosines-requires
+cosines-requires c κs = search needs
+
+no-station-requires : tie.Need-no-station-requires
+no-station-requires c κs = search needs
+
+returns : tie.Need-returns
+unfolding view
+returns c = record { cosines = c .before .cosines .ensures; flag = refl; same = refl; count = refl; last = refl; there = refl }
+
+pub bare-spec : {M : Type 1} → statement M
+bare-spec = tie.close (tie.spec cosines-requires no-station-requires returns)
