@@ -267,7 +267,7 @@ module _ {M : Type 1} (𝓤 : URA M) (H : Heap 𝓤) (A : Atoms 𝓤) where
         use3 W (later (‵ (Arr (mem R) n .lies zs b o))) (slice-back 𝓤 H A W R (α ∷ []) γ zs n b o) $ await ! tt $ at-once ! $ fsplit ! $ keep ! (1 ∷ []) $ done !
 
     -- a struct: what its type owns is made, and let go
-    owns-too : (R : RattleType) (q : Share) {v : Val} (m : Means R v) (b o : ℕ) → Makes 𝓤 H A R (Is R) → ent 𝓤 ⟦ At R q v b o ⟧ ⟦ partAt R q (m .it) b o ⟧
+    pub owns-too : (R : RattleType) (q : Share) {v : Val} (m : Means R v) (b o : ℕ) → Makes 𝓤 H A R (Is R) → ent 𝓤 ⟦ At R q v b o ⟧ ⟦ partAt R q (m .it) b o ⟧
     unfolding partOf
     owns-too R q {v} m b o makes =
         qed W (‵ (At R q v b o) ∷ []) ∵ owned ! R (Is R) makes (m .it) (v ∷ []) (m .is) $ move ! (1 ∷ 0 ∷ []) $ fjoin ! $

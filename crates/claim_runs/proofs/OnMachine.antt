@@ -143,7 +143,6 @@ module _ {vc : Val} (l : Last) (h : Holds vc l) where
   run-gives (hands x) =
       ∥∥₁-elim (ran (names-call (h .clock) vc) (on-value x)) ∥∥₁-prop (λ k.
       ∥∥₁-map (left-same (call.hands (k .once))) (λ a. ((k .leaves, a .0 ∙ ap named (sym (names-read (k .result) (x .value) (k .is)))), a .1)))
-
   run-gives (heldLoads {b = b} {o = o} {file = file} {q = q} {b₁ = b₁} {o₁ = o₁} x) =
       ∥∥₁-elim (ran (held-load-call (h .clock) vc (h .is) b o file q b₁ o₁) x) ∥∥₁-prop (λ k. left-there {q = Cards file} x tt (k .result) (k .last .0) (k .is) (k .stand .0) (k .leaves) (call.heldLoads (k .once)))
   run-gives (heldStations {b = b} {o = o} {latitude = latitude} {vl = vl} {records = records} {q = q} {b₁ = b₁} {o₁ = o₁} x) =
@@ -193,7 +192,7 @@ module _ {vc : Val} (l : Last) (h : Holds vc l) where
         serieses = λ start step vs vt hs b o. ends-on (series-call (h .clock) vc start step vs vt hs b o);
         searches = λ first last vf vl ms b o hs b₁ o₁. ends-on (turns-call (h .clock) vc first last vf vl ms b o hs b₁ o₁);
         hands = ends-on (names-call (h .clock) vc);
-        laid = laid ClockType.the-row ClockLaws.lowers clock-lawful (h .clock) vc (h .is);
+        laid = laid ClockType.the-row (clock-means (h .clock) vc (h .is)) clock-lawful;
         heldLoads = λ b o file q b₁ o₁. ends-lent (held-load-call (h .clock) vc (h .is) b o file q b₁ o₁);
         heldStations = λ b o latitude vl records q b₁ o₁. ends-lent (held-station-call (h .clock) vc (h .is) b o latitude vl records q b₁ o₁);
         heldDates = λ b o year month vy vm. ends-lent (held-date-call (h .clock) vc (h .is) b o year month vy vm);

@@ -8,6 +8,7 @@ use lib.IntN.{ℤ}
 use lib.ListN.{length}
 use mir.Val.{Val}
 use base.Fml.{Share}
+use prog.Routine.{Routine}
 use denote.Builtin.{u8, u32, i32, i64, usize}
 use denote.Laws.{Is}
 use Rattle.station.specs.declared.records.Record.{Record}
@@ -117,6 +118,23 @@ Gives (heldSearches {ms = ms} {b₁ = b₁} {o₁ = o₁} {hs = hs} {b₂ = b₂
     let hs′ : List ℤ = heightsAt (x .left) b₂ o₂ (length hs) in
     Leaves x (ms′, (hs′, tt)) × (g ≡ found (record { returned = turningsIn (x .value); minutes = ms′; heights = hs′ }))
 
+-- the routine that was run
+abbrev pub routineOf : {vc vc′ : Val} {q : Request} → Run vc q vc′ → Routine
+routineOf (loads x) = loadCode.routine
+routineOf (stations x) = stationCode.routine
+routineOf (placed x) = placingCode.routine
+routineOf (dates x) = dateCode.routine
+routineOf (heights x) = heightCode.routine
+routineOf (serieses x) = seriesCode.routine
+routineOf (searches x) = turnsCode.routine
+routineOf (hands x) = namesCode.routine
+routineOf (heldLoads x) = heldLoadCode.routine
+routineOf (heldStations x) = heldStationCode.routine
+routineOf (heldDates x) = heldDateCode.routine
+routineOf (heldHeights x) = heldHeightCode.routine
+routineOf (heldSerieses x) = heldSeriesCode.routine
+routineOf (heldSearches x) = heldTurnsCode.routine
+
 -- "Each later one gets the clock as the one before it returned or left it." What is done to the memory between two calls is the caller's.
 pub data Runs : Val → List Request → Val → Type 2 where
   done : {vc : Val} → Runs vc [] vc
@@ -129,3 +147,8 @@ GiveAll done [] = Unit {1}
 GiveAll done (g ∷ gs) = ⊥ × Unit {1}
 GiveAll (_then_ x xs) [] = ⊥ × Unit {1}
 GiveAll (_then_ x xs) (g ∷ gs) = Gives x g × GiveAll xs gs
+
+-- the routines, the first one first
+abbrev pub routinesOf : {vc vc′ : Val} {qs : List Request} → Runs vc qs vc′ → List Routine
+routinesOf done = []
+routinesOf (_then_ x xs) = routineOf x ∷ routinesOf xs
