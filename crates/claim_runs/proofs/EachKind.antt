@@ -1,6 +1,6 @@
 -- Each kind of call is run (specs/Accepted.antt): from the memory with which a program begins, in which the card file lies, one routine after
 -- another returns, on the clock's value that the one before returned or left, or where that value was laid into the memory and is lent. Rests on
--- `AlwaysEnds` alone. Assumes nothing.
+-- `AlwaysEnds`, and on `Laid` for what is lent. Assumes nothing.
 use Prim.Native.Nat.{ℕ, _+_, _<_, _^_}
 use mathlib.Core.Bool.{Bool, true, false, _&&_}
 use mathlib.Core.List.{List, [], _∷_, _++_, map}
@@ -37,7 +37,6 @@ use denote.Steps.{owned, nothing}
 use borrow.Fn.World.{w₀}
 use Rattle.limits.specs.Limits.{mostRecords}
 use Rattle.station.specs.declared.records.Rows.{Rows}
-use Rattle.station.specs.declared.records.Record.{Record}
 use Rattle.station.proofs.records.Record as RecordType
 use Rattle.station.proofs.records.Record.Laws as RecordLaws
 use Rattle.station.proofs.records.Rows as RowsType
@@ -68,7 +67,7 @@ use Rattle.claim_runs.specs.Handed.{Assertion, _∗_, ⟦_⟧₀, _⊨_,
 use Rattle.claim_runs.specs.Values.{clockIn, clockAt}
 use Rattle.claim_runs.specs.Runs.{Run, Started, routineOf, Runs, _then_, routinesOf}
 use Rattle.claim_runs.specs.OnMachine.{EveryCallEnds, AlwaysEnds}
-use Rattle.claim_runs.specs.Accepted.{z0-records, acceptedCalls, acceptedRoutines, frequencyLine, fiveLine, mainLine, ended, smallFile}
+use Rattle.claim_runs.specs.Accepted.{z0-record, z0-records, acceptedCalls, acceptedRoutines, frequencyLine, fiveLine, mainLine, ended, smallFile}
 use Rattle.claim_runs.proofs.Handing.{W₀}
 use Rattle.claim_runs.proofs.Lending.{Means}
 use Rattle.claim_runs.proofs.Parameters.{clock-lawful, clock-means}
@@ -127,9 +126,6 @@ z0-rows-are : Is RowsType.the-row z0-rows (RowsLaws.lowered z0-rows ∷ [])
 z0-rows-are = rows-are z0-rows refl (below (2 ^ 8) (z0-rows .places) tt) refl (below (2 ^ 32) (z0-rows .amplitudes) tt) refl (below (2 ^ 32) (z0-rows .phases) tt)
 
 -- ---- Z0's record and a place for a height, to be lent
-
-abbrev z0-record : Record
-z0-record = record { place = 0; amplitude = 100; phase = 0 }
 
 abbrev z0-means : Means RecordType.the-row (RecordLaws.lowered z0-record)
 z0-means = record { it = z0-record; is = LL.owes RecordType.the-type RecordLaws.the-laws z0-record ((refl, lit< tt), ((refl, lit< tt), ((refl, lit< tt), tt))); lowers = RecordLaws.lowers }

@@ -75,8 +75,11 @@ smallFile = ended cardLines
 
 -- ---- the calls, and what the document gives for them
 
+abbrev pub z0-record : Record
+z0-record = record { place = 0; amplitude = 100; phase = 0 }
+
 abbrev pub z0-records : List Record
-z0-records = record { place = 0; amplitude = 100; phase = 0 } ∷ []
+z0-records = z0-record ∷ []
 
 -- Z0, 100 tenths of a millimetre high, on the equator, in July 1976: by value, with a station that has no records before the other; and then
 -- over a clock that is lent, with a place for one height
