@@ -6,6 +6,7 @@ use mathlib.Core.Path.{_≡_, refl, subst}
 use mathlib.Core.Bool.{false}
 use mathlib.Core.List.{List, [], _∷_}
 use lib.IntN.{pos}
+use mir.Val.{Val}
 use Rattle.limits.specs.Limits.{mostMinutes}
 use Rattle.cosine.specs.Fraction.{factorial, arc, unit, term, added, taken, whole, base}
 use Rattle.cosine.specs.Fixed.{entry, fixedBase, fixedCosine}
@@ -53,10 +54,14 @@ use Rattle.calls.specs.State.{Maybe, none, some}
 use Rattle.calls.specs.Names.{namesIn}
 use Rattle.refusals.specs.Outcome.{accepted}
 use Rattle.calls.specs.Calls.{cardsReturns, stationReturns, dateGives, dateReturns, heightReturns, seriesHeights, seriesGives, turnsGives}
+use Rattle.clock.proofs.Clock.Laws as ClockLaws
+use Rattle.claim.specs.Zeroed.{zeroed, zeroOf}
+use Rattle.claim.proofs.Zeros.{zeros-are-zeroed}
 use Rattle.claim.specs.Document.{Last, workedOut, gives, after, givesAll}
-use Rattle.claim_runs.specs.Accepted.{z0, frequencyLine, fiveLine, mainLine, cardLines, ended, smallFile, acceptedCalls, AcceptedByTheDocument, AcceptedByTheMachine}
-use Rattle.claim_runs.specs.Runs.{GiveAll}
-use Rattle.claim_runs.proofs.EachKind.{each-kind}
+use Rattle.claim_runs.specs.Accepted.{z0, frequencyLine, fiveLine, mainLine, cardLines, ended, smallFile, z0-records, acceptedCalls, AcceptedByTheDocument, AcceptedFrom, AcceptedByTheMachine}
+use Rattle.claim_runs.specs.Values.{clockAt, zeroMemory}
+use Rattle.claim_runs.specs.Runs.{Started, GiveAll}
+use Rattle.claim_runs.proofs.EachKind.{all-reached, new-run, held-new-run}
 use Rattle.claim_runs.proofs.OnMachine.{on-machine, always-ends}
 
 -- ---- the card file: its lines, its parts, its table
@@ -102,8 +107,8 @@ cards-read = rw (lines-are, frequencies-are, longitudes-are, increases-are, main
 
 -- ---- the station's month
 
-abbrev z0-records : List Record
-z0-records = record { place = 0; amplitude = 100; phase = 0 } ∷ []
+abbrev none-station : Station
+none-station = record { latitude = pos 0; records = [] }
 
 abbrev z0-station : Station
 z0-station = record { latitude = pos 0; records = z0-records }
@@ -137,7 +142,7 @@ abbrev afterCards : Last
 afterCards = record { cards = some smallFile; station = none; date = none }
 
 abbrev afterNone : Last
-afterNone = record { cards = some smallFile; station = some (record { latitude = pos 0; records = [] }); date = none }
+afterNone = record { cards = some smallFile; station = some none-station; date = none }
 
 abbrev afterStation : Last
 afterStation = record { cards = some smallFile; station = some z0-station; date = none }
@@ -164,9 +169,10 @@ none-accepted : stationReturns (workedOut afterCards) (pos 0) [] ≡ accepted tt
 unfolding stationReturns stationOutcome recordsOutcome
 none-accepted = rw (table-worked none)
 
-station-accepted : stationReturns (workedOut afterNone) (pos 0) z0-records ≡ accepted tt
+-- whichever station there was
+station-accepted : (s : Maybe Station) → stationReturns (workedOut (record { cards = some smallFile; station = s; date = none })) (pos 0) z0-records ≡ accepted tt
 unfolding stationReturns stationOutcome recordsOutcome recordOutcome isAmong
-station-accepted = rw (table-worked (some (record { latitude = pos 0; records = [] })))
+station-accepted s = rw (table-worked s)
 
 date-accepted : dateReturns (workedOut afterStation) 1976 7 ≡ accepted tt
 unfolding dateGives dateReturns inRange between
@@ -175,6 +181,10 @@ date-accepted = rw (table-worked (some z0-station), month-is)
 height-given : heightReturns (workedOut afterDate) 0 ≡ accepted (pos 100)
 unfolding heightReturns
 height-given = rw (month-worked, height-is)
+
+one-given : seriesGives (workedOut afterDate) 0 1 (pos 0 ∷ []) ≡ record { returned = accepted tt; heights = pos 100 ∷ [] }
+unfolding seriesHeights seriesGives seriesFrom
+one-given = rw (month-worked, height-is)
 
 series-given : seriesGives (workedOut afterDate) 0 1 [] ≡ record { returned = accepted tt; heights = [] }
 unfolding seriesHeights seriesGives seriesFrom
@@ -190,10 +200,19 @@ names-given = rw month-worked
 pub accepted-by-the-document : AcceptedByTheDocument
 unfolding givesAll gives after
 accepted-by-the-document =
-    rw (cards-accepted, none-accepted, station-accepted, date-accepted, height-given, series-given, turns-given, names-given)
+    rw (cards-accepted, none-accepted, station-accepted (some none-station), station-accepted none, date-accepted, height-given, series-given, one-given, turns-given, names-given)
 
 -- the machine's runs of these calls give what the document gives
+accepted-from : (vc : Val) → Started vc → AcceptedFrom vc
+accepted-from vc started = (
+  started,
+  ∥∥₁-map (all-reached always-ends vc started) (λ x. (x .0, x .1, x .2, subst (GiveAll (x .1)) accepted-by-the-document (on-machine vc (x .0) acceptedCalls started (x .1) .exactly))),
+)
+
 pub accepted-by-the-machine : AcceptedByTheMachine
 accepted-by-the-machine =
-    ∥∥₁-map (each-kind always-ends) (λ x.
-    (x .0, x .1, x .2, x .3, subst (GiveAll (x .3)) accepted-by-the-document (on-machine (x .0) (x .1) acceptedCalls (x .2) (x .3) .exactly)))
+    record {
+      returned = ∥∥₁-map (new-run always-ends) (λ x. (x, accepted-from (x .value) (Started.returned x)));
+      left = ∥∥₁-map (held-new-run always-ends) (λ m. (zeroOf ClockLaws.mir, m .0, m .1, accepted-from (clockAt (m .1 .left) (m .0) 0) (Started.left zeroed zeros-are-zeroed (m .1))));
+      zeros = accepted-from (clockAt zeroMemory 0 0) Started.zeros;
+    }

@@ -4,6 +4,7 @@ mod Handing
 mod Parameters
 mod Values
 mod Loads
+mod Laid
 mod EachKind
 pub mod OnMachine
 pub mod Accepted

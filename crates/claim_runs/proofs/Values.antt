@@ -1,15 +1,18 @@
 -- What is read off a machine's value is what its answer says, so a value stands for one answer: by the cases of the answer.
 -- Assumes nothing.
 use mathlib.Core.Path.{_≡_, refl, sym, ap, subst, _∙_}
-use Prim.Native.Nat.{ℕ}
+use Prim.Native.Nat.{ℕ, zero, suc}
+use mathlib.Core.Bool.{cond}
 use mathlib.Core.List.{List, [], _∷_, map}
+use lib.Dec.{eqb, eqb·suc-zero}
+use lib.IntN.{ℤ}
 use lib.ListN.{getD}
 use mir.Syntax.{w8, w64}
 use mir.Val.{Val, vunit, vint, ofList}
 use mir.ValLaws.{toZ-ofZ}
 use denote.Laws.{Is}
 use Rattle.columns.specs.Names.{namesFrom}
-use Rattle.refusals.specs.Outcome.{accepted, refused, numberOf, outcomeOf}
+use Rattle.refusals.specs.Outcome.{Outcome, accepted, refused, numberOf, outcomeOf}
 use Rattle.refusals.specs.declared.Answer.{Answer}
 use Rattle.refusals.specs.declared.Answer.the-variants as answer
 use Rattle.refusals.specs.declared.Refusal.{Refusal}
@@ -34,7 +37,18 @@ use Rattle.clock.proofs.TurnsAnswer.Laws as TurnsAnswerLaws
 use Rattle.clock.specs.declared.TableNames.{TableNames}
 use Rattle.clock.proofs.TableNames as NamesType
 use Rattle.clock.proofs.TableNames.Laws as NamesLaws
-use Rattle.claim_runs.specs.Values.{partIn, numberIn, refusalNumbers, answerIn, heightIn, turnsIn, numbersIn, tableNamesIn, answerPart, clockIn}
+use Rattle.cuvalimodo_c.specs.Answers as answers
+use Rattle.cuvalimodo_c.specs.Answers.{outcomeIn}
+use Rattle.cuvalimodo_c.specs.declared.answers.Verdict.{Verdict}
+use Rattle.cuvalimodo_c.specs.declared.answers.Reading.{Reading}
+use Rattle.cuvalimodo_c.specs.declared.answers.Turnings.{Turnings}
+use Rattle.cuvalimodo_c.proofs.answers.Verdict as VerdictType
+use Rattle.cuvalimodo_c.proofs.answers.Verdict.Laws as VerdictLaws
+use Rattle.cuvalimodo_c.proofs.answers.Reading as ReadingType
+use Rattle.cuvalimodo_c.proofs.answers.Reading.Laws as ReadingLaws
+use Rattle.cuvalimodo_c.proofs.answers.Turnings as TurningsType
+use Rattle.cuvalimodo_c.proofs.answers.Turnings.Laws as TurningsLaws
+use Rattle.claim_runs.specs.Values.{partIn, numberIn, refusalNumbers, answerIn, heightIn, turnsIn, numbersIn, tableNamesIn, answerPart, clockIn, verdictIn, readingIn, turningsIn}
 
 -- the first of the machine's values
 abbrev pub first : List Val → Val
@@ -98,3 +112,22 @@ names-lowered r = ap (λ (bs : List ℕ). namesFrom bs 0 (r .count)) (bytes-read
 
 pub names-read : (r : TableNames) (v : Val) → Is NamesType.the-row r (v ∷ []) → tableNamesIn v ≡ namesFrom (r .bytes) 0 (r .count)
 names-read r v is = ap (λ (vs : List Val). tableNamesIn (first vs)) (NamesLaws.lowers .val-is r (v ∷ []) is) ∙ names-lowered r
+
+-- ---- what a call by reference returns
+
+said-lowered : {A : Type 0} (number place : ℕ) (given : A) → cond (eqb number 0) (accepted given) (refused number place) ≡ outcomeIn number place given
+said-lowered zero place given = refl
+said-lowered (suc n) place given = rw (eqb·suc-zero n)
+
+pub verdict-reads : (r : Verdict) (v : Val) → Is VerdictType.the-row r (v ∷ []) → verdictIn v ≡ answers.verdictIn r
+verdict-reads r v is = ap (λ (vs : List Val). verdictIn (first vs)) (VerdictLaws.lowers .val-is r (v ∷ []) is) ∙ said-lowered (r .number) (r .place) tt
+
+pub reading-reads : (r : Reading) (v : Val) → Is ReadingType.the-row r (v ∷ []) → readingIn v ≡ answers.readingIn r
+reading-reads r v is =
+    ap (λ (vs : List Val). readingIn (first vs)) (ReadingLaws.lowers .val-is r (v ∷ []) is)
+    ∙ (ap (λ (h : ℤ). cond (eqb (r .number) 0) (accepted h) (refused (r .number) (r .place))) (toZ-ofZ w64 (r .height) (record { sfits = is .1 .1 .1 .1 .0 .1 }))
+    ∙ said-lowered (r .number) (r .place) (r .height))
+
+pub turnings-read : (r : Turnings) (v : Val) → Is TurningsType.the-row r (v ∷ []) → turningsIn v ≡ answers.turningsIn r
+turnings-read r v is =
+    ap (λ (vs : List Val). turningsIn (first vs)) (TurningsLaws.lowers .val-is r (v ∷ []) is) ∙ said-lowered (r .number) (r .place) (record { count = r .count; high = r .high })

@@ -7,9 +7,30 @@ use mathlib.Core.List.{List, [], _∷_, _++_}
 use lib.ListN.{replicate}
 use lib.IntN.{pos}
 use mir.Val.{Val}
+use prog.Routine.{Routine}
 use Rattle.refusals.specs.Outcome.{accepted}
+use Rattle.station.specs.declared.records.Record.{Record}
+use Rattle.clock.proofs.Clock as ClockType
+use Rattle.clock.proofs.new.Symbol as newCode
+use Rattle.clock.proofs.load_cards.Symbol as loadCode
+use Rattle.clock.proofs.set_station.Symbol as stationCode
+use Rattle.clock.proofs.place_station.Symbol as placingCode
+use Rattle.clock.proofs.set_date.Symbol as dateCode
+use Rattle.clock.proofs.height.Symbol as heightCode
+use Rattle.clock.proofs.series.Symbol as seriesCode
+use Rattle.clock.proofs.turns.Symbol as turnsCode
+use Rattle.clock.proofs.names.Symbol as namesCode
+use Rattle.cuvalimodo_c.proofs.cuvalimodo_new.Symbol as heldNewCode
+use Rattle.cuvalimodo_c.proofs.cuvalimodo_load_cards.Symbol as heldLoadCode
+use Rattle.cuvalimodo_c.proofs.cuvalimodo_set_station.Symbol as heldStationCode
+use Rattle.cuvalimodo_c.proofs.cuvalimodo_set_date.Symbol as heldDateCode
+use Rattle.cuvalimodo_c.proofs.cuvalimodo_height.Symbol as heldHeightCode
+use Rattle.cuvalimodo_c.proofs.cuvalimodo_series.Symbol as heldSeriesCode
+use Rattle.cuvalimodo_c.proofs.cuvalimodo_turns.Symbol as heldTurnsCode
 use Rattle.claim.specs.Document.{Request, Cards, Station, Date, Height, Series, Turns, Names, Gave, told, predicted, wrote, found, named, nothing, givesAll}
-use Rattle.claim_runs.specs.Runs.{Started, Runs, GiveAll}
+use Rattle.claim_runs.specs.Handed.{changes, Ran}
+use Rattle.claim_runs.specs.Values.{clockAt, zeroMemory}
+use Rattle.claim_runs.specs.Runs.{Started, Runs, GiveAll, routinesOf}
 
 -- ---- a smallest card file: one constituent, Z0, and no other number but 0
 
@@ -54,18 +75,49 @@ smallFile = ended cardLines
 
 -- ---- the calls, and what the document gives for them
 
--- Z0, 100 tenths of a millimetre high, on the equator, in July 1976. (A station twice: with no records, and with Z0's. Of the memory with which
--- a program begins only bytes are known, so no place for heights or turns is lent.)
+abbrev pub z0-record : Record
+z0-record = record { place = 0; amplitude = 100; phase = 0 }
+
+abbrev pub z0-records : List Record
+z0-records = z0-record ∷ []
+
+-- Z0, 100 tenths of a millimetre high, on the equator, in July 1976: by value, with a station that has no records before the other; and then
+-- over a clock that is lent, with a place for one height
 abbrev pub acceptedCalls : List Request
 acceptedCalls =
     Cards smallFile
     ∷ Station (pos 0) []
-    ∷ Station (pos 0) (record { place = 0; amplitude = 100; phase = 0 } ∷ [])
+    ∷ Station (pos 0) z0-records
     ∷ Date 1976 7
     ∷ Height 0
     ∷ Series 0 1 []
     ∷ Turns 0 360 [] []
     ∷ Names
+    ∷ Cards smallFile
+    ∷ Station (pos 0) z0-records
+    ∷ Date 1976 7
+    ∷ Height 0
+    ∷ Series 0 1 (pos 0 ∷ [])
+    ∷ Turns 0 360 [] []
+    ∷ []
+
+-- the routines that are run for them
+abbrev pub acceptedRoutines : List Routine
+acceptedRoutines =
+    loadCode.routine
+    ∷ stationCode.routine
+    ∷ placingCode.routine
+    ∷ dateCode.routine
+    ∷ heightCode.routine
+    ∷ seriesCode.routine
+    ∷ turnsCode.routine
+    ∷ namesCode.routine
+    ∷ heldLoadCode.routine
+    ∷ heldStationCode.routine
+    ∷ heldDateCode.routine
+    ∷ heldHeightCode.routine
+    ∷ heldSeriesCode.routine
+    ∷ heldTurnsCode.routine
     ∷ []
 
 -- Z0 is level: its height is its amplitude, and there is no turn
@@ -79,12 +131,24 @@ allAccepted =
     ∷ wrote (record { returned = accepted tt; heights = [] })
     ∷ found (record { returned = accepted (record { count = 0; high = false }); minutes = []; heights = [] })
     ∷ named (z0 ∷ [])
+    ∷ told (accepted tt)
+    ∷ told (accepted tt)
+    ∷ told (accepted tt)
+    ∷ predicted (accepted (pos 100))
+    ∷ wrote (record { returned = accepted tt; heights = pos 100 ∷ [] })
+    ∷ found (record { returned = accepted (record { count = 0; high = false }); minutes = []; heights = [] })
     ∷ []
 
 abbrev pub AcceptedByTheDocument : Type 0
 AcceptedByTheDocument = givesAll nothing acceptedCalls ≡ allAccepted
 
--- There are runs of these calls, one after another from `new` on, and they give that: so the claim of the machine speaks of each kind of call,
--- accepted. (Whichever calls come next, `AlwaysEnds` says that they return.)
-abbrev pub AcceptedByTheMachine : Type 2
-AcceptedByTheMachine = ∥ ((vc : Val) × (vc′ : Val) × Started vc × (xs : Runs vc acceptedCalls vc′) × GiveAll xs allAccepted) ∥₁
+-- There are runs of these calls, of these routines, one after another from a clock's value on, and they give that
+abbrev pub AcceptedFrom : Val → Type 2
+AcceptedFrom vc = Started vc × ∥ ((vc′ : Val) × (xs : Runs vc acceptedCalls vc′) × (routinesOf xs ≡ acceptedRoutines) × GiveAll xs allAccepted) ∥₁
+
+-- .. from a value that each of the two `new` gave, and from zeros: so the claim of the machine speaks of each kind of call, accepted. (Whichever
+-- calls come next, `AlwaysEnds` says that they return.)
+pub record AcceptedByTheMachine : Type 2 where
+  pub returned : ∥ ((x : Ran newCode.routine [] []) × AcceptedFrom (x .value)) ∥₁
+  pub left : ∥ ((vc : Val) × (b : ℕ) × (x : Ran heldNewCode.routine [] (changes ClockType.the-row vc b 0 ∷ [])) × AcceptedFrom (clockAt (x .left) b 0)) ∥₁
+  pub zeros : AcceptedFrom (clockAt zeroMemory 0 0)

@@ -8,12 +8,16 @@ use lib.IntN.{ℤ}
 use lib.ListN.{length}
 use mir.Val.{Val}
 use base.Fml.{Share}
+use prog.Routine.{Routine}
 use denote.Builtin.{u8, u32, i32, i64, usize}
+use denote.Laws.{Is}
 use Rattle.station.specs.declared.records.Record.{Record}
 use Rattle.station.specs.declared.records.Rows.{Rows}
 use Rattle.station.specs.Records.{recordsOf}
 use Rattle.station.proofs.records.Record as RecordType
 use Rattle.station.proofs.records.Rows as RowsType
+use Rattle.clock.specs.declared.Clock.{Clock}
+use Rattle.clock.proofs.Clock as ClockType
 use Rattle.clock.proofs.new.Symbol as newCode
 use Rattle.clock.proofs.load_cards.Symbol as loadCode
 use Rattle.clock.proofs.set_station.Symbol as stationCode
@@ -23,14 +27,23 @@ use Rattle.clock.proofs.height.Symbol as heightCode
 use Rattle.clock.proofs.series.Symbol as seriesCode
 use Rattle.clock.proofs.turns.Symbol as turnsCode
 use Rattle.clock.proofs.names.Symbol as namesCode
+use Rattle.cuvalimodo_c.proofs.cuvalimodo_new.Symbol as heldNewCode
+use Rattle.cuvalimodo_c.proofs.cuvalimodo_load_cards.Symbol as heldLoadCode
+use Rattle.cuvalimodo_c.proofs.cuvalimodo_set_station.Symbol as heldStationCode
+use Rattle.cuvalimodo_c.proofs.cuvalimodo_set_date.Symbol as heldDateCode
+use Rattle.cuvalimodo_c.proofs.cuvalimodo_height.Symbol as heldHeightCode
+use Rattle.cuvalimodo_c.proofs.cuvalimodo_series.Symbol as heldSeriesCode
+use Rattle.cuvalimodo_c.proofs.cuvalimodo_turns.Symbol as heldTurnsCode
 use Rattle.claim.specs.Document.{Request, Cards, Station, Date, Height, Series, Turns, Names, Gave, told, predicted, wrote, found, named}
-use Rattle.claim_runs.specs.Handed.{value, reads, writes, Ran, Leaves}
-use Rattle.claim_runs.specs.Values.{answerIn, heightIn, turnsIn, tableNamesIn, minutesAt, heightsAt, answerPart, clockIn}
+use Rattle.claim_runs.specs.Handed.{value, reads, writes, sees, changes, Ran, Leaves}
+use Rattle.claim_runs.specs.Values.{answerIn, heightIn, turnsIn, tableNamesIn, minutesAt, heightsAt, answerPart, clockIn, verdictIn, readingIn, turningsIn, clockAt, zeroMemory}
 
--- "The first gets a clock with no table, station or month": a clock's value that a run of `new` returned, from any memory
-pub record Started (vc : Val) : Type 2 where
-  pub ran : Ran newCode.routine [] []
-  pub value-is : ran .value ≡ vc
+-- "The first gets a clock with no table, station or month": a clock's value that a run of `new` returned, from any memory; that a run of the
+-- other `new`, which is lent a clock, whichever it is, left in its place; or that is loaded from memory of nothing but zeros
+pub data Started : Val → Type 2 where
+  returned : (x : Ran newCode.routine [] []) → Started (x .value)
+  left : {vc : Val} {b o : ℕ} (c : Clock) → Is ClockType.the-row c (vc ∷ []) → (x : Ran heldNewCode.routine [] (changes ClockType.the-row vc b o ∷ [])) → Started (clockAt (x .left) b o)
+  zeros : Started (clockAt zeroMemory 0 0)
 
 -- One call, run: the machine's value of the clock that it gets, the call with all that is lent to it, and the machine's value of the clock
 -- that it leaves.
@@ -57,9 +70,28 @@ pub data Run : Val → Request → Val → Type 2 where
       → Ran turnsCode.routine (vc ∷ []) (value u32 first vf ∷ value u32 last vl ∷ writes u32 ms b o ∷ writes i64 hs b₁ o₁ ∷ [])
       → Run vc (Turns first last ms hs) vc
   hands : {vc : Val} → Ran namesCode.routine (vc ∷ []) [] → Run vc Names vc
+  -- the clock lies in memory and is lent: what lies there at the end is the clock that the call leaves
+  heldLoads : {vc : Val} {b o : ℕ} {file : List ℕ} {q : Share} {b₁ o₁ : ℕ}
+      → (x : Ran heldLoadCode.routine [] (changes ClockType.the-row vc b o ∷ reads u8 q file b₁ o₁ ∷ []))
+      → Run vc (Cards file) (clockAt (x .left) b o)
+  heldStations : {vc : Val} {b o : ℕ} {latitude : ℤ} {vl : Val} {records : List Record} {q : Share} {b₁ o₁ : ℕ}
+      → (x : Ran heldStationCode.routine [] (changes ClockType.the-row vc b o ∷ value i32 latitude vl ∷ reads RecordType.the-row q records b₁ o₁ ∷ []))
+      → Run vc (Station latitude records) (clockAt (x .left) b o)
+  heldDates : {vc : Val} {b o : ℕ} {year month : ℕ} {vy vm : Val}
+      → (x : Ran heldDateCode.routine [] (changes ClockType.the-row vc b o ∷ value u32 year vy ∷ value u32 month vm ∷ []))
+      → Run vc (Date year month) (clockAt (x .left) b o)
+  heldHeights : {vc : Val} {s : Share} {b o : ℕ} {minute : ℕ} {vm : Val}
+      → Ran heldHeightCode.routine [] (sees ClockType.the-row s vc b o ∷ value u32 minute vm ∷ [])
+      → Run vc (Height minute) vc
+  heldSerieses : {vc : Val} {s : Share} {b o : ℕ} {start step : ℕ} {vs vt : Val} {hs : List ℤ} {b₁ o₁ : ℕ}
+      → Ran heldSeriesCode.routine [] (sees ClockType.the-row s vc b o ∷ value u32 start vs ∷ value u32 step vt ∷ writes i64 hs b₁ o₁ ∷ [])
+      → Run vc (Series start step hs) vc
+  heldSearches : {vc : Val} {s : Share} {b o : ℕ} {first last : ℕ} {vf vl : Val} {ms : List ℕ} {b₁ o₁ : ℕ} {hs : List ℤ} {b₂ o₂ : ℕ}
+      → Ran heldTurnsCode.routine [] (sees ClockType.the-row s vc b o ∷ value u32 first vf ∷ value u32 last vl ∷ writes u32 ms b₁ o₁ ∷ writes i64 hs b₂ o₂ ∷ [])
+      → Run vc (Turns first last ms hs) vc
 
 -- What a run gave is g: g is read off the value that it returned and, where it wrote to a buffer, off the memory at its end; and the buffers
--- lie there with what is read.
+-- lie there with what is read, and the clock, where it was lent, with what it leaves.
 unfoldable pub Gives : {vc vc′ : Val} {q : Request} → Run vc q vc′ → Gave → Type 1
 Gives (loads x) g = Leaves x tt × (g ≡ told (answerIn (answerPart (x .value))))
 Gives (stations x) g = Leaves x tt × (g ≡ told (answerIn (answerPart (x .value))))
@@ -74,6 +106,34 @@ Gives (searches {ms = ms} {b = b} {o = o} {hs = hs} {b₁ = b₁} {o₁ = o₁} 
     let hs′ : List ℤ = heightsAt (x .left) b₁ o₁ (length hs) in
     Leaves x (ms′, (hs′, tt)) × (g ≡ found (record { returned = turnsIn (x .value); minutes = ms′; heights = hs′ }))
 Gives (hands x) g = Leaves x tt × (g ≡ named (tableNamesIn (x .value)))
+Gives (heldLoads {b = b} {o = o} x) g = Leaves x (clockAt (x .left) b o, tt) × (g ≡ told (verdictIn (x .value)))
+Gives (heldStations {b = b} {o = o} x) g = Leaves x (clockAt (x .left) b o, tt) × (g ≡ told (verdictIn (x .value)))
+Gives (heldDates {b = b} {o = o} x) g = Leaves x (clockAt (x .left) b o, tt) × (g ≡ told (verdictIn (x .value)))
+Gives (heldHeights x) g = Leaves x tt × (g ≡ predicted (readingIn (x .value)))
+Gives (heldSerieses {hs = hs} {b₁ = b₁} {o₁ = o₁} x) g =
+    let hs′ : List ℤ = heightsAt (x .left) b₁ o₁ (length hs) in
+    Leaves x (hs′, tt) × (g ≡ wrote (record { returned = verdictIn (x .value); heights = hs′ }))
+Gives (heldSearches {ms = ms} {b₁ = b₁} {o₁ = o₁} {hs = hs} {b₂ = b₂} {o₂ = o₂} x) g =
+    let ms′ : List ℕ = minutesAt (x .left) b₁ o₁ (length ms) in
+    let hs′ : List ℤ = heightsAt (x .left) b₂ o₂ (length hs) in
+    Leaves x (ms′, (hs′, tt)) × (g ≡ found (record { returned = turningsIn (x .value); minutes = ms′; heights = hs′ }))
+
+-- the routine that was run
+abbrev pub routineOf : {vc vc′ : Val} {q : Request} → Run vc q vc′ → Routine
+routineOf (loads x) = loadCode.routine
+routineOf (stations x) = stationCode.routine
+routineOf (placed x) = placingCode.routine
+routineOf (dates x) = dateCode.routine
+routineOf (heights x) = heightCode.routine
+routineOf (serieses x) = seriesCode.routine
+routineOf (searches x) = turnsCode.routine
+routineOf (hands x) = namesCode.routine
+routineOf (heldLoads x) = heldLoadCode.routine
+routineOf (heldStations x) = heldStationCode.routine
+routineOf (heldDates x) = heldDateCode.routine
+routineOf (heldHeights x) = heldHeightCode.routine
+routineOf (heldSerieses x) = heldSeriesCode.routine
+routineOf (heldSearches x) = heldTurnsCode.routine
 
 -- "Each later one gets the clock as the one before it returned or left it." What is done to the memory between two calls is the caller's.
 pub data Runs : Val → List Request → Val → Type 2 where
@@ -87,3 +147,8 @@ GiveAll done [] = Unit {1}
 GiveAll done (g ∷ gs) = ⊥ × Unit {1}
 GiveAll (_then_ x xs) [] = ⊥ × Unit {1}
 GiveAll (_then_ x xs) (g ∷ gs) = Gives x g × GiveAll xs gs
+
+-- the routines, the first one first
+abbrev pub routinesOf : {vc vc′ : Val} {qs : List Request} → Runs vc qs vc′ → List Routine
+routinesOf done = []
+routinesOf (_then_ x xs) = routineOf x ∷ routinesOf xs

@@ -8,14 +8,19 @@ use mathlib.Core.List.{List, [], _∷_}
 use mathlib.Core.Option.{Option, some, none}
 use lib.Dec.{eqb}
 use lib.IntN.{ℤ}
-use lib.ListN.{getD}
+use lib.ListN.{getD, replicate}
 use mir.Fields.{getV}
+use mir.Mem.{byte}
 use mir.Syntax.{Width, w32, w64, tyInt}
 use mir.Val.{Val, vunit, vbool, vint, vfloat, vptr, vstruct, Vals, vnil, vcons, asInt, asBool, toZ, bytes}
-use prog.Memory.{Memory, loadM}
+use prog.Memory.{Memory, align, size, loadM}
+use denote.Memory.{rawAll, lone}
+use denote.RattleType.{RattleType}
 use Rattle.columns.specs.Names.{namesFrom}
 use Rattle.refusals.specs.Outcome.{Outcome, accepted, refused}
 use Rattle.turns.specs.Written.{TurnsFound}
+use Rattle.clock.proofs.Clock as ClockType
+use Rattle.clock.proofs.Clock.Laws as ClockLaws
 
 abbrev pub partIn : ℕ → Val → Val
 partIn k vunit = vunit
@@ -66,6 +71,23 @@ arrayIn (vstruct vs) = numbersIn vs
 abbrev pub tableNamesIn : Val → List (List ℕ)
 tableNamesIn v = namesFrom (arrayIn (partIn 1 v)) 0 (numberIn (partIn 0 v))
 
+-- ---- what a call by reference returns: number and place, and behind them what it gives. The number stands first, as a tag does: "A refusal
+-- returns its number and a place", and number 0 says that the call is accepted
+
+abbrev pub saidIn : {A : Type 0} → Val → A → Outcome A
+saidIn v given = byTag v (accepted given) (refused (numberIn (partIn 0 v)) (numberIn (partIn 1 v)))
+
+abbrev pub verdictIn : Val → Outcome Unit
+verdictIn v = saidIn v tt
+
+abbrev pub readingIn : Val → Outcome ℤ
+readingIn v = saidIn v (toZ w64 (numberIn (partIn 2 v)))
+
+abbrev pub turningsIn : Val → Outcome TurnsFound
+turningsIn v = saidIn v (record { count = numberIn (partIn 2 v); high = asBool false (partIn 3 v) (λ t. t) })
+
+-- ---- the clock that a call leaves
+
 -- what a call that gives the clock back returns: its answer, then the clock
 abbrev pub answerPart : Val → Val
 answerPart = partIn 0
@@ -92,3 +114,18 @@ minutesAt = elementsAt (λ (n : ℕ). n) w32
 
 abbrev pub heightsAt : Memory → ℕ → ℕ → ℕ → List ℤ
 heightsAt = elementsAt (toZ w64) w64
+
+-- the machine's value for a struct of the type R (`vunit` where none lies)
+abbrev pub valueIn : Option Val → Val
+valueIn none = vunit
+valueIn (some v) = v
+
+unfoldable pub valueAt : Memory → RattleType → ℕ → ℕ → Val
+valueAt σ R b o = valueIn (loadM σ (lone (rawAll (R .mir))) b o)
+
+abbrev pub clockAt : Memory → ℕ → ℕ → Val
+clockAt σ b o = valueAt σ ClockType.the-row b o
+
+-- memory of nothing but zeros, as large as a clock
+abbrev pub zeroMemory : Memory
+zeroMemory = some (align ClockLaws.mir, replicate (size ClockLaws.mir) (byte 0)) ∷ []
