@@ -178,6 +178,9 @@ held-turns-there : (c : Clock) (first last : ℕ) (ms ms′ : List ℕ) (hs hs�
 held-turns-there c first last ms ms′ hs hs′ r p plain =
     Call.heldSearches {κs = ([], ([], ([], tt)))} {clock = lent c} {ms = lent ms} {hs = lent hs} {r = r} (record { bound = λ w. tt; contract = kept _ _ (p, plain) })
 
+held-names-there : (c : Clock) (r : TableNames) → namesFrom (r .bytes) 0 (r .count) ≡ namesIn (view c) → Call c Names (named (namesFrom (r .bytes) 0 (r .count))) c
+held-names-there c r p = Call.heldHands {κs = ([], tt)} {clock = lent c} {r = r} (record { bound = λ w. tt; contract = kept _ _ p })
+
 each-kind : (c : Clock) → NewPost c → Calls c eachKind eachRefused c
 unfolding recordsFrom namesFrom
 each-kind c p =
@@ -196,6 +199,7 @@ each-kind c p =
     then lent-height-there c 0 (height.Refused NoTable 0) (no-height c p 0)
     then placing-there c c (pos 0) 0 noRows (Refused NoTable 0) (no-station c p (pos 0) [])
     then names-there c (record { count = 0; bytes = [] }) (sym (ap namesIn (p .leaves)))
+    then held-names-there c (record { count = 0; bytes = [] }) (sym (ap namesIn (p .leaves)))
     then done
 
 pub controls : Controls
@@ -218,5 +222,6 @@ controls =
       held-height = held-height-there;
       held-series = held-series-there;
       held-turns = held-turns-there;
+      held-names = held-names-there;
       each-kind = each-kind;
     }

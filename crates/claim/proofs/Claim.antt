@@ -151,6 +151,7 @@ call-agrees l h (Call.lentHeights x) = ∥∥₁-map (holds (x .contract) (h .ma
 call-agrees l h (Call.heldHeights x) = ∥∥₁-map (holds (x .contract) (h .made)) (λ p. height-follows l h (p .0))
 call-agrees l h (Call.heldSerieses x) = ∥∥₁-map (holds (x .contract) (h .made)) (λ p. series-follows l h (p .0))
 call-agrees l h (Call.heldSearches x) = ∥∥₁-map (holds (x .contract) (h .made)) (λ p. turns-follow l h (p .0))
+call-agrees l h (Call.heldHands x) = ∥∥₁-map (holds (x .contract) (h .made)) (names-follow l h)
 
 calls-agree : {c c′ : Clock} {qs : List Request} {gs : List Gave} (l : Last) → Agrees c l → Calls c qs gs c′ → ∥ ((gs ≡ givesAll l qs) × Agrees c′ (lastAfter l qs)) ∥₁
 unfolding givesAll lastAfter

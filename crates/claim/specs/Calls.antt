@@ -50,6 +50,7 @@ use Rattle.cuvalimodo_c.proofs.cuvalimodo_set_date as heldDate
 use Rattle.cuvalimodo_c.proofs.cuvalimodo_height as heldHeight
 use Rattle.cuvalimodo_c.proofs.cuvalimodo_series as heldSeries
 use Rattle.cuvalimodo_c.proofs.cuvalimodo_turns as heldTurns
+use Rattle.cuvalimodo_c.proofs.cuvalimodo_names as heldNames
 
 -- What is known of a call whose `requires` is P and whose `ensures` is Q, at every model of the logic: where a plain fact φ gives P, and Q
 -- gives a plain fact ψ, φ gives that ψ holds. (`∥ ψ ∥₁`: a fact of the logic is truncated, and to hand over an element of every ψ would be
@@ -128,6 +129,9 @@ pub data Call : Clock → Request → Gave → Clock → Type 2 where
   heldSearches : {κs : Lfts 3} {clock : RefT Clock} {first last : ℕ} {ms : RefT (List ℕ)} {hs : RefT (List ℤ)} {ms′ : List ℕ} {hs′ : List ℤ} {r : Turnings}
       → Once heldTurns.ended (λ M. heldTurns.clauses) κs (clock, (first, (last, (ms, (hs, tt))))) r (tt, (tt, (tt, (ms′, (hs′, tt)))))
       → Call (now clock) (Turns first last (now ms) (now hs)) (found (record { returned = turningsIn r; minutes = ms′; heights = hs′ })) (now clock)
+  heldHands : {κs : Lfts 1} {clock : RefT Clock} {r : TableNames}
+      → Once heldNames.ended (λ M. heldNames.clauses) κs (clock, tt) r (tt, tt)
+      → Call (now clock) Names (named (namesFrom (r .bytes) 0 (r .count))) (now clock)
 
 -- "in any number and order, refused ones included"; "Each later one gets the clock as the one before it returned or left it"
 pub data Calls : Clock → List Request → List Gave → Clock → Type 2 where

@@ -39,12 +39,12 @@ refusals =
     ∷ found (record { returned = refused 21 0; minutes = 9 ∷ []; heights = pos 5 ∷ [] }) ∷ []
 
 -- a list with each kind of call in it: a call of 01 with the clock by value, and with the clock lent; a height of `clock::height_lent`, a
--- station whose records are in arrays, and the names, of which there are none
+-- station whose records are in arrays, and the names, of which there are none, with the clock by value and lent
 abbrev pub eachKind : List Request
-eachKind = each ++ each ++ Height 0 ∷ Station (pos 0) [] ∷ Names ∷ []
+eachKind = each ++ each ++ Height 0 ∷ Station (pos 0) [] ∷ Names ∷ Names ∷ []
 
 abbrev pub eachRefused : List Gave
-eachRefused = refusals ++ refusals ++ predicted (refused 21 0) ∷ told (refused 21 0) ∷ named [] ∷ []
+eachRefused = refusals ++ refusals ++ predicted (refused 21 0) ∷ told (refused 21 0) ∷ named [] ∷ named [] ∷ []
 
 pub record Controls : Type 2 where
   pub new : (c : Clock) → NewPost c → New c
@@ -72,4 +72,5 @@ pub record Controls : Type 2 where
       → Call c (Series start step hs) (wrote (record { returned = verdictIn r; heights = hs′ })) c
   pub held-turns : (c : Clock) (first last : ℕ) (ms ms′ : List ℕ) (hs hs′ : List ℤ) (r : Turnings) → TurnsPost c first last ms ms′ hs hs′ (turningsIn r) → PlainTurnings r
       → Call c (Turns first last ms hs) (found (record { returned = turningsIn r; minutes = ms′; heights = hs′ })) c
+  pub held-names : (c : Clock) (r : TableNames) → namesFrom (r .bytes) 0 (r .count) ≡ namesIn (view c) → Call c Names (named (namesFrom (r .bytes) 0 (r .count))) c
   pub each-kind : (c : Clock) → NewPost c → Calls c eachKind eachRefused c

@@ -53,6 +53,7 @@ pub struct Clock {
 }
 
 // The names of a table's frequencies, five bytes each by place, and how many there are.
+#[repr(C)]
 pub struct TableNames {
     pub count: usize,
     pub bytes: [u8; NAMES],

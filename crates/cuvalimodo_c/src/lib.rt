@@ -9,7 +9,9 @@ ghost use mathlib.Core.Path.{_≡_};
 ghost use Rattle.card_file.specs.Cards.{cardsOutcome};
 ghost use Rattle.card_file.specs.Counts.{countsOf};
 ghost use Rattle.refusal_words.specs.Words.{wordsOf, bytesOf, zerosBehind};
-ghost use Rattle.clock.specs.View.{Made};
+ghost use Rattle.columns.specs.Names.{namesFrom};
+ghost use Rattle.calls.specs.Names.{namesIn};
+ghost use Rattle.clock.specs.View.{view, Made};
 ghost use Rattle.clock.specs.Posts.{NewPost, CardsPost, StationPost, DatePost, HeightPost, SeriesPost, TurnsPost};
 ghost use Rattle.cuvalimodo_c.specs.Answers.{verdictIn, readingIn, turningsIn, Plain, PlainReading, PlainTurnings};
 
@@ -23,6 +25,7 @@ use crate::answers::Verdict;
 use card_file::counts;
 use card_file::counts::Counts;
 use clock::Clock;
+use clock::TableNames;
 use station::records;
 use station::records::Record;
 
@@ -118,6 +121,15 @@ pub extern "C" fn cuvalimodo_turns(
     ensures { λ r. ⌜ TurnsPost (now (clock .entry)) first last (now (minutes .entry)) (now (minutes .exit)) (now (heights .entry)) (now (heights .exit)) (turningsIn r) × PlainTurnings r ⌝ }
 {
     byvalue::turns(*clock, first, last, minutes, heights)
+}
+
+// The names of the clock's frequencies by place, none where it has no table.
+#[no_mangle]
+pub extern "C" fn cuvalimodo_names(clock: &Clock) -> TableNames
+    requires { ⌜ Made (now clock) ⌝ }
+    ensures { λ r. ⌜ namesFrom (r .bytes) 0 (r .count) ≡ namesIn (view (now (clock .entry))) ⌝ }
+{
+    clock::names(*clock)
 }
 
 // The words of the refusal that has a number; none for a number that no refusal has.
