@@ -50,6 +50,7 @@ use Rattle.clock.proofs.set_station.Symbol as stationCode
 use Rattle.clock.proofs.place_station.Symbol as placingCode
 use Rattle.clock.proofs.set_date.Symbol as dateCode
 use Rattle.clock.proofs.height.Symbol as heightCode
+use Rattle.clock.proofs.height_lent.Symbol as lentHeightCode
 use Rattle.clock.proofs.series.Symbol as seriesCode
 use Rattle.clock.proofs.turns.Symbol as turnsCode
 use Rattle.clock.proofs.names.Symbol as namesCode
@@ -60,6 +61,7 @@ use Rattle.cuvalimodo_c.proofs.cuvalimodo_set_date.Symbol as heldDateCode
 use Rattle.cuvalimodo_c.proofs.cuvalimodo_height.Symbol as heldHeightCode
 use Rattle.cuvalimodo_c.proofs.cuvalimodo_series.Symbol as heldSeriesCode
 use Rattle.cuvalimodo_c.proofs.cuvalimodo_turns.Symbol as heldTurnsCode
+use Rattle.cuvalimodo_c.proofs.cuvalimodo_names.Symbol as heldNamesCode
 use Rattle.claim.specs.Zeroed.{zeroed, zeroOf}
 use Rattle.claim.proofs.Zeros.{zeros-are-zeroed}
 use Rattle.claim.specs.Document.{Request, Cards, Station, Date, Height, Series, Turns, Names}
@@ -281,6 +283,12 @@ module _ (v : Val) (e : EveryCallEnds v) where
       let fit : Fit (changes ClockType.the-row v (m .0) 0 ∷ value u32 1976 (u 1976) ∷ value u32 7 (u 7) ∷ []) = ((refl, lit< tt), ((refl, lit< tt), tt)) in
       ∥∥₁-map (e .heldDates (m .0) 0 1976 7 (u 1976) (u 7) fit (m .1) All (m .2)) (λ k. (clockAt (k .1) (m .0) 0, Run.heldDates (ran-from (m .1) All fit (m .2) k), refl)))
 
+  lent-height-run : Next v (Height 0) lentHeightCode.routine
+  lent-height-run =
+      ∥∥₁-elim (with-clock start ⟦ ftrue ⟧₀ All (lies-too ftrue tt tt)) ∥∥₁-prop (λ m.
+      let fit : Fit (sees ClockType.the-row fullShare v (m .0) 0 ∷ value u32 0 (u 0) ∷ []) = ((refl, lit< tt), tt) in
+      ∥∥₁-map (e .lentHeights fullShare (m .0) 0 0 (u 0) fit (m .1) All (m .2)) (λ k. (v, Run.lentHeights (ran-from (m .1) All fit (m .2) k), refl)))
+
   held-height-run : Next v (Height 0) heldHeightCode.routine
   held-height-run =
       ∥∥₁-elim (with-clock start ⟦ ftrue ⟧₀ All (lies-too ftrue tt tt)) ∥∥₁-prop (λ m.
@@ -301,6 +309,11 @@ module _ (v : Val) (e : EveryCallEnds v) where
       ∥∥₁-elim (with-clock start ⟦ lie none ⟧₀ All (lies-too (lie none) (tt, (tt, tt)) (tt, (tt, tt)))) ∥∥₁-prop (λ m.
       let fit : Fit (sees ClockType.the-row fullShare v (m .0) 0 ∷ value u32 0 (u 0) ∷ value u32 360 (u 360) ∷ none) = ((refl, lit< tt), ((refl, lit< tt), ((lit< tt, lit< tt), ((lit< tt, lit< tt), tt)))) in
       ∥∥₁-map (e .heldSearches fullShare (m .0) 0 0 360 (u 0) (u 360) [] 0 0 [] 0 0 fit (m .1) All (m .2)) (λ k. (v, Run.heldSearches (ran-from (m .1) All fit (m .2) k), refl)))
+
+  held-names-run : Next v Names heldNamesCode.routine
+  held-names-run =
+      ∥∥₁-elim (with-clock start ⟦ ftrue ⟧₀ All (lies-too ftrue tt tt)) ∥∥₁-prop (λ m.
+      ∥∥₁-map (e .heldHands fullShare (m .0) 0 tt (m .1) All (m .2)) (λ k. (v, Run.heldHands (ran-from (m .1) All tt (m .2) k), refl)))
 
 -- ---- one after another
 
@@ -326,8 +339,8 @@ module _ (always : AlwaysEnds) where
   -- the calls of the list, the last one first
   pub all-reached : (vc : Val) → Started vc → Reached vc acceptedCalls acceptedRoutines
   all-reached vc s =
-      next _ s held-turns-run (next _ s held-series-run (next _ s held-height-run (next _ s held-date-run (next _ s held-station-run (next _ s held-cards-run (next _ s names-run (next _ s turns-run (next _ s series-run
-      (next _ s height-run (next _ s date-run (next _ s placing-run (next _ s station-run (next [] s cards-run ∣ (vc, Runs.done, refl) ∣₁)))))))))))))
+      next _ s held-names-run (next _ s held-turns-run (next _ s held-series-run (next _ s held-height-run (next _ s lent-height-run (next _ s held-date-run (next _ s held-station-run (next _ s held-cards-run (next _ s names-run (next _ s turns-run (next _ s series-run
+      (next _ s height-run (next _ s date-run (next _ s placing-run (next _ s station-run (next [] s cards-run ∣ (vc, Runs.done, refl) ∣₁)))))))))))))))
 
   -- each `new` is run
   pub new-run : ∥ Ran newCode.routine [] [] ∥₁

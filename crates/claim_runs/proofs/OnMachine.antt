@@ -43,10 +43,10 @@ use Rattle.claim.proofs.Decided.{gave-once}
 use Rattle.claim.proofs.Claim.{Agrees, new-agrees, call-agrees}
 use Rattle.claim_runs.specs.Handed.{Assertion, _∗_, ⟦_⟧₀, _⊨_, Handed, value, sees, changes, At, Written, lieAfter, Ran, Leaves}
 use Rattle.claim_runs.specs.Values.{clockIn, answerIn, turnsIn, verdictIn, turningsIn, clockAt}
-use Rattle.claim_runs.specs.Runs.{Run, loads, stations, placed, dates, heights, serieses, searches, hands, heldLoads, heldStations, heldDates, heldHeights, heldSerieses, heldSearches, Gives, Started, returned, left, zeros, Runs, done, _then_, GiveAll}
+use Rattle.claim_runs.specs.Runs.{Run, loads, stations, placed, dates, heights, serieses, searches, hands, heldLoads, heldStations, heldDates, lentHeights, heldHeights, heldSerieses, heldSearches, heldHands, Gives, Started, returned, left, zeros, Runs, done, _then_, GiveAll}
 use Rattle.claim_runs.specs.OnMachine.{OfAnyRuns, Returns, EveryCallEnds, AlwaysEnds}
 use Rattle.claim_runs.proofs.Handing.{Came, comes, every-comes}
-use Rattle.claim_runs.proofs.Parameters.{clock-makes, clock-lawful, Callable, new-takes, load-call, station-call, placing-call, date-call, height-call, series-call, turns-call, names-call, clock-means, held-new-takes, held-load-call, held-station-call, held-date-call, held-height-call, held-series-call, held-turns-call}
+use Rattle.claim_runs.proofs.Parameters.{clock-makes, clock-lawful, Callable, new-takes, load-call, station-call, placing-call, date-call, height-call, series-call, turns-call, names-call, clock-means, held-new-takes, held-load-call, held-station-call, held-date-call, lent-height-call, held-height-call, held-series-call, held-turns-call, held-names-call}
 use Rattle.claim_runs.proofs.Loads.{zeros-load, in-front, behind, value-loads, heights-left, turns-left}
 use Rattle.claim_runs.proofs.Laid.{laid}
 use Rattle.claim_runs.proofs.Values.{answer-reads, height-reads, turns-reads, names-read, after-reads, clock-is, verdict-reads, reading-reads, turnings-read}
@@ -104,7 +104,7 @@ module _ {vc : Val} (l : Last) (h : Holds vc l) where
 
   -- a run gives what the document gives, and leaves a clock that holds what is worked out after it
   run-gives : {vc′ : Val} {q : Request} (x : Run vc q vc′) → ∥ (Gives x (gives l q) × Holds vc′ (after l q)) ∥₁
-  unfolding Gives load-call station-call placing-call date-call height-call series-call turns-call names-call held-load-call held-station-call held-date-call held-height-call held-series-call held-turns-call
+  unfolding Gives load-call station-call placing-call date-call height-call series-call turns-call names-call held-load-call held-station-call held-date-call lent-height-call held-height-call held-series-call held-turns-call held-names-call
   run-gives (loads {file = file} {q = q} {b = b} {o = o} x) =
       ∥∥₁-elim (ran (load-call (h .clock) vc file q b o) (on-value x)) ∥∥₁-prop (λ k.
       ∥∥₁-map (left-anew (k .result) (k .is) (call.loads (k .once))) (λ a. ((k .leaves, a .0 ∙ ap told (sym (after-reads (k .result) (x .value) (k .is)))), a .1)))
@@ -150,6 +150,9 @@ module _ {vc : Val} (l : Last) (h : Holds vc l) where
       left-there {q = Station latitude records} x tt (k .result) (k .last .0) (k .is) (k .stand .0) (k .leaves) (call.heldStations (k .once)))
   run-gives (heldDates {b = b} {o = o} {year = year} {month = month} {vy = vy} {vm = vm} x) =
       ∥∥₁-elim (ran (held-date-call (h .clock) vc (h .is) b o year month vy vm) x) ∥∥₁-prop (λ k. left-there {q = Date year month} x tt (k .result) (k .last .0) (k .is) (k .stand .0) (k .leaves) (call.heldDates (k .once)))
+  run-gives (lentHeights {s = s} {b = b} {o = o} {minute = minute} {vm = vm} x) =
+      ∥∥₁-elim (ran (lent-height-call (h .clock) vc (h .is) s b o minute vm) x) ∥∥₁-prop (λ k.
+      ∥∥₁-map (left-same (call.lentHeights (k .once))) (λ a. ((k .leaves, a .0 ∙ ap predicted (sym (height-reads (k .result) (x .value) (k .is)))), a .1)))
   run-gives (heldHeights {s = s} {b = b} {o = o} {minute = minute} {vm = vm} x) =
       ∥∥₁-elim (ran (held-height-call (h .clock) vc (h .is) s b o minute vm) x) ∥∥₁-prop (λ k.
       ∥∥₁-map (left-same (call.heldHeights (k .once))) (λ a. ((k .leaves, a .0 ∙ ap predicted (sym (reading-reads (k .result) (x .value) (k .is)))), a .1)))
@@ -173,6 +176,9 @@ module _ {vc : Val} (l : Last) (h : Holds vc l) where
             (k .leaves, a .0 ∙ ap (λ (r : Outcome TurnsFound). found (record { returned = r; minutes = ms′; heights = hs′ })) (sym (turnings-read (k .result) (x .value) (k .is)))),
         a .1,
       ))))
+  run-gives (heldHands {s = s} {b = b} {o = o} x) =
+      ∥∥₁-elim (ran (held-names-call (h .clock) vc (h .is) s b o) x) ∥∥₁-prop (λ k.
+      ∥∥₁-map (left-same (call.heldHands (k .once))) (λ a. ((k .leaves, a .0 ∙ ap named (sym (names-read (k .result) (x .value) (k .is)))), a .1)))
 
   -- a routine that is handed this clock returns, and so does one on this value
   ends-lent : {f : Routine} {hs : List Handed} → Callable (h .clock) f hs → Returns f [] hs
@@ -196,9 +202,11 @@ module _ {vc : Val} (l : Last) (h : Holds vc l) where
         heldLoads = λ b o file q b₁ o₁. ends-lent (held-load-call (h .clock) vc (h .is) b o file q b₁ o₁);
         heldStations = λ b o latitude vl records q b₁ o₁. ends-lent (held-station-call (h .clock) vc (h .is) b o latitude vl records q b₁ o₁);
         heldDates = λ b o year month vy vm. ends-lent (held-date-call (h .clock) vc (h .is) b o year month vy vm);
+        lentHeights = λ s b o minute vm. ends-lent (lent-height-call (h .clock) vc (h .is) s b o minute vm);
         heldHeights = λ s b o minute vm. ends-lent (held-height-call (h .clock) vc (h .is) s b o minute vm);
         heldSerieses = λ s b o start step vs vt hs b₁ o₁. ends-lent (held-series-call (h .clock) vc (h .is) s b o start step vs vt hs b₁ o₁);
         heldSearches = λ s b o first last vf vl ms b₁ o₁ hs b₂ o₂. ends-lent (held-turns-call (h .clock) vc (h .is) s b o first last vf vl ms b₁ o₁ hs b₂ o₂);
+        heldHands = λ s b o. ends-lent (held-names-call (h .clock) vc (h .is) s b o);
       }
 
 -- the runs of a list give what the document gives, and leave a clock that holds what is worked out after them
@@ -226,9 +234,11 @@ gives-once (hands x) g = ×-prop (lies-once (x .left) _) (gave-once g _)
 gives-once (heldLoads x) g = ×-prop (lies-once (x .left) _) (gave-once g _)
 gives-once (heldStations x) g = ×-prop (lies-once (x .left) _) (gave-once g _)
 gives-once (heldDates x) g = ×-prop (lies-once (x .left) _) (gave-once g _)
+gives-once (lentHeights x) g = ×-prop (lies-once (x .left) _) (gave-once g _)
 gives-once (heldHeights x) g = ×-prop (lies-once (x .left) _) (gave-once g _)
 gives-once (heldSerieses x) g = ×-prop (lies-once (x .left) _) (gave-once g _)
 gives-once (heldSearches x) g = ×-prop (lies-once (x .left) _) (gave-once g _)
+gives-once (heldHands x) g = ×-prop (lies-once (x .left) _) (gave-once g _)
 
 all-once : {vc vc′ : Val} {qs : List Request} (xs : Runs vc qs vc′) (gs : List Gave) → IsProp (GiveAll xs gs)
 unfolding GiveAll

@@ -41,6 +41,9 @@ use Rattle.clock.proofs.set_date.Met as dateMet
 use Rattle.clock.proofs.height as height
 use Rattle.clock.proofs.height.Symbol as heightCode
 use Rattle.clock.proofs.height.Met as heightMet
+use Rattle.clock.proofs.height_lent as lentHeight
+use Rattle.clock.proofs.height_lent.Symbol as lentHeightCode
+use Rattle.clock.proofs.height_lent.Met as lentHeightMet
 use Rattle.clock.proofs.series as series
 use Rattle.clock.proofs.series.Symbol as seriesCode
 use Rattle.clock.proofs.series.Met as seriesMet
@@ -69,6 +72,9 @@ use Rattle.cuvalimodo_c.proofs.cuvalimodo_series.Met as heldSeriesMet
 use Rattle.cuvalimodo_c.proofs.cuvalimodo_turns as heldTurns
 use Rattle.cuvalimodo_c.proofs.cuvalimodo_turns.Symbol as heldTurnsCode
 use Rattle.cuvalimodo_c.proofs.cuvalimodo_turns.Met as heldTurnsMet
+use Rattle.cuvalimodo_c.proofs.cuvalimodo_names as heldNames
+use Rattle.cuvalimodo_c.proofs.cuvalimodo_names.Symbol as heldNamesCode
+use Rattle.cuvalimodo_c.proofs.cuvalimodo_names.Met as heldNamesMet
 use Rattle.claim.specs.Calls.{ClausesOf, clausesAt}
 use Rattle.claim_runs.specs.Handed.{Assertion, Handed, value, reads, writes, sees, changes}
 use Rattle.claim_runs.proofs.Lending as had
@@ -265,6 +271,18 @@ module _ (c : Clock) (vc : Val) (is : Is ClockType.the-row c (vc ∷ [])) where
         takes = record { enters = λ ns. ((lifetimes all ns, wholes all, tt, denotes 0 all (clock-means, tt) ns, valuesOf 0 all ns), (λ w. tt), refl, refl, refl); writes = λ ns ws. ((ws .0, tt), refl) };
       }
 
+  unfoldable pub lent-height-call : (s : Share) (b o minute : ℕ) (vm : Val) → Callable c lentHeightCode.routine (sees ClockType.the-row s vc b o ∷ value u32 minute vm ∷ [])
+  lent-height-call s b o minute vm =
+      let all : List Handed = sees ClockType.the-row s vc b o ∷ value u32 minute vm ∷ [] in
+      record {
+        ended = lentHeight.ended;
+        clauses = λ M. lentHeight.clauses;
+        met = λ M. lentHeightMet.met;
+        meant = (clock-means, tt);
+        makes = (clock-makes, (u32-makes, tt));
+        takes = record { enters = λ ns. ((lifetimes all ns, wholes all, tt, denotes 0 all (clock-means, tt) ns, valuesOf 0 all ns), (λ w. tt), refl, refl, refl); writes = λ ns ws. (tt, refl) };
+      }
+
   unfoldable pub held-height-call : (s : Share) (b o minute : ℕ) (vm : Val) → Callable c heldHeightCode.routine (sees ClockType.the-row s vc b o ∷ value u32 minute vm ∷ [])
   held-height-call s b o minute vm =
       let all : List Handed = sees ClockType.the-row s vc b o ∷ value u32 minute vm ∷ [] in
@@ -299,4 +317,16 @@ module _ (c : Clock) (vc : Val) (is : Is ClockType.the-row c (vc ∷ [])) where
         meant = (clock-means, tt);
         makes = (clock-makes, (u32-makes, (u32-makes, tt)));
         takes = record { enters = λ ns. ((lifetimes all ns, wholes all, tt, denotes 0 all (clock-means, tt) ns, valuesOf 0 all ns), (λ w. tt), refl, refl, refl); writes = λ ns ws. ((ws .1 .1 .1 .0, (ws .1 .1 .1 .1 .0, tt)), refl) };
+      }
+
+  unfoldable pub held-names-call : (s : Share) (b o : ℕ) → Callable c heldNamesCode.routine (sees ClockType.the-row s vc b o ∷ [])
+  held-names-call s b o =
+      let all : List Handed = sees ClockType.the-row s vc b o ∷ [] in
+      record {
+        ended = heldNames.ended;
+        clauses = λ M. heldNames.clauses;
+        met = λ M. heldNamesMet.met;
+        meant = (clock-means, tt);
+        makes = (clock-makes, tt);
+        takes = record { enters = λ ns. ((lifetimes all ns, wholes all, tt, denotes 0 all (clock-means, tt) ns, valuesOf 0 all ns), (λ w. tt), refl, refl, refl); writes = λ ns ws. (tt, refl) };
       }

@@ -17,6 +17,7 @@ use Rattle.clock.proofs.set_station.Symbol as stationCode
 use Rattle.clock.proofs.place_station.Symbol as placingCode
 use Rattle.clock.proofs.set_date.Symbol as dateCode
 use Rattle.clock.proofs.height.Symbol as heightCode
+use Rattle.clock.proofs.height_lent.Symbol as lentHeightCode
 use Rattle.clock.proofs.series.Symbol as seriesCode
 use Rattle.clock.proofs.turns.Symbol as turnsCode
 use Rattle.clock.proofs.names.Symbol as namesCode
@@ -27,6 +28,7 @@ use Rattle.cuvalimodo_c.proofs.cuvalimodo_set_date.Symbol as heldDateCode
 use Rattle.cuvalimodo_c.proofs.cuvalimodo_height.Symbol as heldHeightCode
 use Rattle.cuvalimodo_c.proofs.cuvalimodo_series.Symbol as heldSeriesCode
 use Rattle.cuvalimodo_c.proofs.cuvalimodo_turns.Symbol as heldTurnsCode
+use Rattle.cuvalimodo_c.proofs.cuvalimodo_names.Symbol as heldNamesCode
 use Rattle.claim.specs.Document.{Request, Cards, Station, Date, Height, Series, Turns, Names, Gave, told, predicted, wrote, found, named, nothing, givesAll}
 use Rattle.claim_runs.specs.Handed.{changes, Ran}
 use Rattle.claim_runs.specs.Values.{clockAt, zeroMemory}
@@ -97,8 +99,10 @@ acceptedCalls =
     ∷ Station (pos 0) z0-records
     ∷ Date 1976 7
     ∷ Height 0
+    ∷ Height 0
     ∷ Series 0 1 (pos 0 ∷ [])
     ∷ Turns 0 360 [] []
+    ∷ Names
     ∷ []
 
 -- the routines that are run for them
@@ -115,9 +119,11 @@ acceptedRoutines =
     ∷ heldLoadCode.routine
     ∷ heldStationCode.routine
     ∷ heldDateCode.routine
+    ∷ lentHeightCode.routine
     ∷ heldHeightCode.routine
     ∷ heldSeriesCode.routine
     ∷ heldTurnsCode.routine
+    ∷ heldNamesCode.routine
     ∷ []
 
 -- Z0 is level: its height is its amplitude, and there is no turn
@@ -135,8 +141,10 @@ allAccepted =
     ∷ told (accepted tt)
     ∷ told (accepted tt)
     ∷ predicted (accepted (pos 100))
+    ∷ predicted (accepted (pos 100))
     ∷ wrote (record { returned = accepted tt; heights = pos 100 ∷ [] })
     ∷ found (record { returned = accepted (record { count = 0; high = false }); minutes = []; heights = [] })
+    ∷ named (z0 ∷ [])
     ∷ []
 
 abbrev pub AcceptedByTheDocument : Type 0

@@ -22,6 +22,7 @@ use Rattle.clock.proofs.set_station.Symbol as stationCode
 use Rattle.clock.proofs.place_station.Symbol as placingCode
 use Rattle.clock.proofs.set_date.Symbol as dateCode
 use Rattle.clock.proofs.height.Symbol as heightCode
+use Rattle.clock.proofs.height_lent.Symbol as lentHeightCode
 use Rattle.clock.proofs.series.Symbol as seriesCode
 use Rattle.clock.proofs.turns.Symbol as turnsCode
 use Rattle.clock.proofs.names.Symbol as namesCode
@@ -32,6 +33,7 @@ use Rattle.cuvalimodo_c.proofs.cuvalimodo_set_date.Symbol as heldDateCode
 use Rattle.cuvalimodo_c.proofs.cuvalimodo_height.Symbol as heldHeightCode
 use Rattle.cuvalimodo_c.proofs.cuvalimodo_series.Symbol as heldSeriesCode
 use Rattle.cuvalimodo_c.proofs.cuvalimodo_turns.Symbol as heldTurnsCode
+use Rattle.cuvalimodo_c.proofs.cuvalimodo_names.Symbol as heldNamesCode
 use Rattle.claim.specs.Document.{Request, nothing, givesAll, EachNear}
 use Rattle.claim_runs.specs.Handed.{Assertion, _∗_, ⟦_⟧₀, _⊨_, Handed, value, reads, writes, sees, changes, passed, Fit, At, lie}
 use Rattle.claim_runs.specs.Runs.{Started, Runs, GiveAll}
@@ -70,11 +72,13 @@ pub record EveryCallEnds (vc : Val) : Type 2 where
   pub heldStations : (b o : ℕ) (latitude : ℤ) (vl : Val) (records : List Record) (q : Share) (b₁ o₁ : ℕ)
       → Returns heldStationCode.routine [] (changes ClockType.the-row vc b o ∷ value i32 latitude vl ∷ reads RecordType.the-row q records b₁ o₁ ∷ [])
   pub heldDates : (b o year month : ℕ) (vy vm : Val) → Returns heldDateCode.routine [] (changes ClockType.the-row vc b o ∷ value u32 year vy ∷ value u32 month vm ∷ [])
+  pub lentHeights : (s : Share) (b o minute : ℕ) (vm : Val) → Returns lentHeightCode.routine [] (sees ClockType.the-row s vc b o ∷ value u32 minute vm ∷ [])
   pub heldHeights : (s : Share) (b o minute : ℕ) (vm : Val) → Returns heldHeightCode.routine [] (sees ClockType.the-row s vc b o ∷ value u32 minute vm ∷ [])
   pub heldSerieses : (s : Share) (b o start step : ℕ) (vs vt : Val) (hs : List ℤ) (b₁ o₁ : ℕ)
       → Returns heldSeriesCode.routine [] (sees ClockType.the-row s vc b o ∷ value u32 start vs ∷ value u32 step vt ∷ writes i64 hs b₁ o₁ ∷ [])
   pub heldSearches : (s : Share) (b o first last : ℕ) (vf vl : Val) (ms : List ℕ) (b₁ o₁ : ℕ) (hs : List ℤ) (b₂ o₂ : ℕ)
       → Returns heldTurnsCode.routine [] (sees ClockType.the-row s vc b o ∷ value u32 first vf ∷ value u32 last vl ∷ writes u32 ms b₁ o₁ ∷ writes i64 hs b₂ o₂ ∷ [])
+  pub heldHands : (s : Share) (b o : ℕ) → Returns heldNamesCode.routine [] (sees ClockType.the-row s vc b o ∷ [])
 
 -- `new` returns, and the other `new` on whichever clock it is lent; and after any list of runs each routine returns, on the value of the clock
 -- that the last one returned or left

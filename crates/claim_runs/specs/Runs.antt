@@ -24,6 +24,7 @@ use Rattle.clock.proofs.set_station.Symbol as stationCode
 use Rattle.clock.proofs.place_station.Symbol as placingCode
 use Rattle.clock.proofs.set_date.Symbol as dateCode
 use Rattle.clock.proofs.height.Symbol as heightCode
+use Rattle.clock.proofs.height_lent.Symbol as lentHeightCode
 use Rattle.clock.proofs.series.Symbol as seriesCode
 use Rattle.clock.proofs.turns.Symbol as turnsCode
 use Rattle.clock.proofs.names.Symbol as namesCode
@@ -34,6 +35,7 @@ use Rattle.cuvalimodo_c.proofs.cuvalimodo_set_date.Symbol as heldDateCode
 use Rattle.cuvalimodo_c.proofs.cuvalimodo_height.Symbol as heldHeightCode
 use Rattle.cuvalimodo_c.proofs.cuvalimodo_series.Symbol as heldSeriesCode
 use Rattle.cuvalimodo_c.proofs.cuvalimodo_turns.Symbol as heldTurnsCode
+use Rattle.cuvalimodo_c.proofs.cuvalimodo_names.Symbol as heldNamesCode
 use Rattle.claim.specs.Document.{Request, Cards, Station, Date, Height, Series, Turns, Names, Gave, told, predicted, wrote, found, named}
 use Rattle.claim_runs.specs.Handed.{value, reads, writes, sees, changes, Ran, Leaves}
 use Rattle.claim_runs.specs.Values.{answerIn, heightIn, turnsIn, tableNamesIn, minutesAt, heightsAt, answerPart, clockIn, verdictIn, readingIn, turningsIn, clockAt, zeroMemory}
@@ -80,6 +82,9 @@ pub data Run : Val → Request → Val → Type 2 where
   heldDates : {vc : Val} {b o : ℕ} {year month : ℕ} {vy vm : Val}
       → (x : Ran heldDateCode.routine [] (changes ClockType.the-row vc b o ∷ value u32 year vy ∷ value u32 month vm ∷ []))
       → Run vc (Date year month) (clockAt (x .left) b o)
+  lentHeights : {vc : Val} {s : Share} {b o : ℕ} {minute : ℕ} {vm : Val}
+      → Ran lentHeightCode.routine [] (sees ClockType.the-row s vc b o ∷ value u32 minute vm ∷ [])
+      → Run vc (Height minute) vc
   heldHeights : {vc : Val} {s : Share} {b o : ℕ} {minute : ℕ} {vm : Val}
       → Ran heldHeightCode.routine [] (sees ClockType.the-row s vc b o ∷ value u32 minute vm ∷ [])
       → Run vc (Height minute) vc
@@ -89,6 +94,7 @@ pub data Run : Val → Request → Val → Type 2 where
   heldSearches : {vc : Val} {s : Share} {b o : ℕ} {first last : ℕ} {vf vl : Val} {ms : List ℕ} {b₁ o₁ : ℕ} {hs : List ℤ} {b₂ o₂ : ℕ}
       → Ran heldTurnsCode.routine [] (sees ClockType.the-row s vc b o ∷ value u32 first vf ∷ value u32 last vl ∷ writes u32 ms b₁ o₁ ∷ writes i64 hs b₂ o₂ ∷ [])
       → Run vc (Turns first last ms hs) vc
+  heldHands : {vc : Val} {s : Share} {b o : ℕ} → Ran heldNamesCode.routine [] (sees ClockType.the-row s vc b o ∷ []) → Run vc Names vc
 
 -- What a run gave is g: g is read off the value that it returned and, where it wrote to a buffer, off the memory at its end; and the buffers
 -- lie there with what is read, and the clock, where it was lent, with what it leaves.
@@ -109,6 +115,7 @@ Gives (hands x) g = Leaves x tt × (g ≡ named (tableNamesIn (x .value)))
 Gives (heldLoads {b = b} {o = o} x) g = Leaves x (clockAt (x .left) b o, tt) × (g ≡ told (verdictIn (x .value)))
 Gives (heldStations {b = b} {o = o} x) g = Leaves x (clockAt (x .left) b o, tt) × (g ≡ told (verdictIn (x .value)))
 Gives (heldDates {b = b} {o = o} x) g = Leaves x (clockAt (x .left) b o, tt) × (g ≡ told (verdictIn (x .value)))
+Gives (lentHeights x) g = Leaves x tt × (g ≡ predicted (heightIn (x .value)))
 Gives (heldHeights x) g = Leaves x tt × (g ≡ predicted (readingIn (x .value)))
 Gives (heldSerieses {hs = hs} {b₁ = b₁} {o₁ = o₁} x) g =
     let hs′ : List ℤ = heightsAt (x .left) b₁ o₁ (length hs) in
@@ -117,6 +124,7 @@ Gives (heldSearches {ms = ms} {b₁ = b₁} {o₁ = o₁} {hs = hs} {b₂ = b₂
     let ms′ : List ℕ = minutesAt (x .left) b₁ o₁ (length ms) in
     let hs′ : List ℤ = heightsAt (x .left) b₂ o₂ (length hs) in
     Leaves x (ms′, (hs′, tt)) × (g ≡ found (record { returned = turningsIn (x .value); minutes = ms′; heights = hs′ }))
+Gives (heldHands x) g = Leaves x tt × (g ≡ named (tableNamesIn (x .value)))
 
 -- the routine that was run
 abbrev pub routineOf : {vc vc′ : Val} {q : Request} → Run vc q vc′ → Routine
@@ -131,9 +139,11 @@ routineOf (hands x) = namesCode.routine
 routineOf (heldLoads x) = heldLoadCode.routine
 routineOf (heldStations x) = heldStationCode.routine
 routineOf (heldDates x) = heldDateCode.routine
+routineOf (lentHeights x) = lentHeightCode.routine
 routineOf (heldHeights x) = heldHeightCode.routine
 routineOf (heldSerieses x) = heldSeriesCode.routine
 routineOf (heldSearches x) = heldTurnsCode.routine
+routineOf (heldHands x) = heldNamesCode.routine
 
 -- "Each later one gets the clock as the one before it returned or left it." What is done to the memory between two calls is the caller's.
 pub data Runs : Val → List Request → Val → Type 2 where
