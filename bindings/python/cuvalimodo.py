@@ -248,8 +248,8 @@ class Clock:
     def names(self) -> list[str]:
         """The names of the table's constituents by place, without the blanks behind them; none where the clock has no table."""
         result = _library.cuvalimodo_names(self._memory)
-        names = bytes(result.bytes).decode("ascii")
-        return [names[at : at + NAME_SIZE].rstrip(" ") for at in range(0, result.count * NAME_SIZE, NAME_SIZE)]
+        names = bytes(result.bytes[: result.count * NAME_SIZE]).decode("ascii")
+        return [names[at : at + NAME_SIZE].rstrip(" ") for at in range(0, len(names), NAME_SIZE)]
 
     def place_of(self, name: str) -> int | None:
         """The place of the constituent with a name, for a station's record; None where the table has no such name."""
