@@ -24,7 +24,7 @@
  *
  * Units
  *   latitude    minutes of arc, north positive, -5,400 to 5,400
- *   place       position of a constituent among the card file's frequencies (part 1), from 0
+ *   place       position of a constituent among the card file's frequencies (part 1), from 0: see cuvalimodo_place_of
  *   amplitude   tenths of a millimetre, 0 to 65,535
  *   phase       phase lag in hundredths of a degree, 0 to 35,999
  *   year        1950 to 2049
@@ -41,6 +41,7 @@
 #include <stdbool.h>
 #include <stddef.h>
 #include <stdint.h>
+#include <string.h>
 
 #ifdef __cplusplus
 extern "C" {
@@ -109,6 +110,13 @@ typedef struct cuvalimodo_turnings {
     bool high;
 } cuvalimodo_turnings;
 
+/* The names of a table's constituents: that of place n is the five bytes from 5 * n on, with blanks behind a shorter one. */
+#define CUVALIMODO_NAME_SIZE 5
+typedef struct cuvalimodo_table_names {
+    size_t count;
+    char bytes[160 * CUVALIMODO_NAME_SIZE];
+} cuvalimodo_table_names;
+
 /* Words, with a NUL behind them. */
 typedef struct cuvalimodo_text {
     char text[64];
@@ -118,6 +126,7 @@ static_assert(sizeof(cuvalimodo_clock) == CUVALIMODO_CLOCK_SIZE && alignof(cuval
 static_assert(sizeof(cuvalimodo_record) == 12 && offsetof(cuvalimodo_record, amplitude) == 4, "a record lies as in the library");
 static_assert(sizeof(cuvalimodo_counts) == 48 && sizeof(cuvalimodo_verdict) == 16, "results lie as in the library");
 static_assert(sizeof(cuvalimodo_reading) == 24 && sizeof(cuvalimodo_turnings) == 32 && sizeof(bool) == 1, "results lie as in the library");
+static_assert(sizeof(cuvalimodo_table_names) == 808 && offsetof(cuvalimodo_table_names, bytes) == 8, "names lie as in the library");
 
 /* Checks a card file: frequencies, longitudes, main and shallow-water constituents. No clock is asked for. */
 cuvalimodo_counts cuvalimodo_check_cards(const uint8_t *file, size_t file_length);
@@ -127,6 +136,24 @@ void cuvalimodo_new(cuvalimodo_clock *clock);
 
 /* Takes a card file's table in place of the old one. Station and month go. */
 cuvalimodo_verdict cuvalimodo_load_cards(cuvalimodo_clock *clock, const uint8_t *file, size_t file_length);
+
+/* The names of the table's constituents by place; none where the clock has no table. */
+cuvalimodo_table_names cuvalimodo_names(const cuvalimodo_clock *clock);
+
+/* The place of the constituent with a name ("M2"), for a station's record; -1 where the table has no such name, as it has none over five bytes. */
+static inline int cuvalimodo_place_of(const cuvalimodo_clock *clock, const char *name)
+{
+    char wanted[CUVALIMODO_NAME_SIZE] = {' ', ' ', ' ', ' ', ' '};
+    size_t length = strlen(name);
+    if (length > CUVALIMODO_NAME_SIZE)
+        return -1;
+    memcpy(wanted, name, length);
+    cuvalimodo_table_names names = cuvalimodo_names(clock);
+    for (size_t place = 0; place < names.count; place++)
+        if (memcmp(names.bytes + place * CUVALIMODO_NAME_SIZE, wanted, CUVALIMODO_NAME_SIZE) == 0)
+            return (int)place;
+    return -1;
+}
 
 /* Takes a station, at most 146 records, in place of the old one. The table stays; the month goes. */
 cuvalimodo_verdict cuvalimodo_set_station(cuvalimodo_clock *clock, int32_t latitude, const cuvalimodo_record *records, size_t records_length);

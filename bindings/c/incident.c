@@ -33,29 +33,23 @@ static void accepted(const char *what, uint32_t number, size_t place)
     }
 }
 
-/* The place of a constituent: on which of the first lines of the card file its name stands in columns 5 to 9, from 0. */
-static uint8_t place_of(const uint8_t *cards, size_t length, const char *name)
+static uint8_t place_of(const char *name)
 {
-    char wanted[6];
-    snprintf(wanted, sizeof wanted, "%-5s", name);
-    size_t from = 0;
-    for (int place = 0; place < 160 && length - from >= 9; place++) {
-        if (memcmp(cards + from + 4, wanted, 5) == 0)
-            return (uint8_t)place;
-        const uint8_t *feed = memchr(cards + from, '\n', length - from);
-        from = feed ? (size_t)(feed - cards) + 1 : length;
+    int place = cuvalimodo_place_of(&berth, name);
+    if (place < 0) {
+        fprintf(stderr, "the card file has no %s\n", name);
+        exit(1);
     }
-    fprintf(stderr, "the card file has no %s\n", name);
-    exit(1);
+    return (uint8_t)place;
 }
 
 static void set_clock(const uint8_t *cards, size_t length)
 {
-    cuvalimodo_record records[CONSTITUENTS];
-    for (int k = 0; k < CONSTITUENTS; k++)
-        records[k] = (cuvalimodo_record){place_of(cards, length, victoria[k].name), victoria[k].amplitude, victoria[k].phase};
     cuvalimodo_verdict said = cuvalimodo_load_cards(&berth, cards, length);
     accepted("the card file", said.number, said.place);
+    cuvalimodo_record records[CONSTITUENTS];
+    for (int k = 0; k < CONSTITUENTS; k++)
+        records[k] = (cuvalimodo_record){place_of(victoria[k].name), victoria[k].amplitude, victoria[k].phase};
     said = cuvalimodo_set_station(&berth, latitude, records, CONSTITUENTS);
     accepted("the station", said.number, said.place);
     said = cuvalimodo_set_date(&berth, 1976, 7);

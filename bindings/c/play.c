@@ -82,12 +82,28 @@ static void clock_stands(bool may_change)
     stands(clock, may_change ? clock.size : 0, "the clock is changed");
 }
 
+/* The table has so many names, and each is found at its place. */
+static void names_stand(size_t count)
+{
+    cuvalimodo_table_names names = cuvalimodo_names(held());
+    clock_stands(false);
+    bool found = names.count == count && cuvalimodo_place_of(held(), "") == -1 && cuvalimodo_place_of(held(), "longer") == -1;
+    for (size_t place = 0; found && place < count; place++) {
+        char name[CUVALIMODO_NAME_SIZE + 1] = "";
+        memcpy(name, names.bytes + place * CUVALIMODO_NAME_SIZE, CUVALIMODO_NAME_SIZE);
+        found = cuvalimodo_place_of(held(), name) == (int)place;
+    }
+    if (!found)
+        end(3, "the names are others");
+}
+
 /* A clock without a table: zeroed memory for one script, `new` over the clock that is there for the next. `new` writes the last field too. */
 static void begin(int script)
 {
     unsigned char *last = clock.at + clock.size - LAST_FIELD;
     if (script % 2 == 0) {
         memset(clock.at, 0, clock.size);
+        names_stand(0);
         return;
     }
     memset(last, PAINT, LAST_FIELD);
@@ -95,6 +111,7 @@ static void begin(int script)
     clock_stands(true);
     if (memcmp(last, (unsigned char[LAST_FIELD]){0}, LAST_FIELD) != 0)
         end(3, "new leaves the clock's last field");
+    names_stand(0);
 }
 
 /* Whether a call is accepted; a refusal is written. */
@@ -185,6 +202,8 @@ static bool cards(struct script *s, const int64_t *n)
     set(said);
     if (checked.number != said.number || checked.line != said.place)
         end(3, "check_cards and load_cards differ");
+    if (said.number == 0)
+        names_stand(checked.frequencies);
     back(file, 0);
     return true;
 }

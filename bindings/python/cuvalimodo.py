@@ -2,7 +2,7 @@
 
     clock = Clock()
     clock.load_cards(cards)                       # bytes of a card file
-    clock.set_station(2905, [Record(place_of(cards, "M2"), 12130, 8700)])
+    clock.set_station(2905, [Record(clock.place_of("M2"), 12130, 8700)])
     clock.set_date(1976, 7)
     clock.height(510)
 
@@ -11,7 +11,7 @@ leaves the clock and the lent buffers as they were.
 It loads target/staticlib/libcuvalimodo_c.so (bindings/build makes it), or the file that the environment variable CUVALIMODO_LIBRARY names.
 
 Units: latitude in minutes of arc, north positive; amplitudes and heights in tenths of a millimetre; phase lags in hundredths of a degree; minutes
-after 00:00 GMT on the 1st of the month; a place is the position of a constituent among the card file's frequencies, from 0 (see place_of).
+after 00:00 GMT on the 1st of the month; a place is the position of a constituent among the card file's frequencies, from 0 (see Clock.place_of).
 A number that its C type cannot hold (place: one byte; latitude: 32 bits, signed; all others: 32 bits) raises OverflowError and reaches no call.
 
 The interpreter's lock is held during a call, so threads may share a clock.
@@ -30,6 +30,7 @@ if TYPE_CHECKING:
     from _typeshed import ReadableBuffer, WriteableBuffer
 
 CLOCK_SIZE = 16824
+NAME_SIZE = 5
 
 
 class Counts(NamedTuple):
@@ -112,6 +113,10 @@ class _Turnings(ctypes.Structure):
     _fields_ = [("number", ctypes.c_uint32), ("place", ctypes.c_size_t), ("count", ctypes.c_size_t), ("high", ctypes.c_bool)]
 
 
+class _TableNames(ctypes.Structure):
+    _fields_ = [("count", ctypes.c_size_t), ("bytes", ctypes.c_uint8 * (160 * NAME_SIZE))]
+
+
 class _Text(ctypes.Structure):
     _fields_ = [("text", ctypes.c_char * 64)]
 
@@ -125,6 +130,7 @@ def _load() -> ctypes.PyDLL:
         ("check_cards", _Counts, lent),
         ("new", None, [clock]),
         ("load_cards", _Verdict, [clock, *lent]),
+        ("names", _TableNames, [clock]),
         ("set_station", _Verdict, [clock, ctypes.c_int32, *lent]),
         ("set_date", _Verdict, [clock, u32, u32]),
         ("height", _Reading, [clock, u32]),
@@ -213,17 +219,6 @@ def check_cards(file: ReadableBuffer) -> Counts:
     return Counts(*(getattr(result, name) for name in Counts._fields))
 
 
-def place_of(cards: bytes, name: str) -> int | None:
-    """The place of a constituent in a card file that check_cards accepts: where its name stands in part 1; None where it does not."""
-    wanted = name.encode().ljust(5)
-    for place, card in enumerate(cards.split(b"\n")):
-        if not card.strip(b" "):
-            return None
-        if card[4:9].ljust(5) == wanted:
-            return place
-    return None
-
-
 class Clock:
     """A berth clock, at first without table, station and month. Its bytes are bytes(clock)."""
 
@@ -249,6 +244,17 @@ class Clock:
     def load_cards(self, file: ReadableBuffer) -> None:
         """Takes a card file's table in place of the old one. Station and month go."""
         _accept(_library.cuvalimodo_load_cards(self._memory, *_lent(_bytes(file))))
+
+    def names(self) -> list[str]:
+        """The names of the table's constituents by place, without the blanks behind them; none where the clock has no table."""
+        result = _library.cuvalimodo_names(self._memory)
+        names = bytes(result.bytes[: result.count * NAME_SIZE]).decode("ascii")
+        return [names[at : at + NAME_SIZE].rstrip(" ") for at in range(0, len(names), NAME_SIZE)]
+
+    def place_of(self, name: str) -> int | None:
+        """The place of the constituent with a name, for a station's record; None where the table has no such name."""
+        places = {each.ljust(NAME_SIZE): place for place, each in enumerate(self.names())}
+        return places.get(name.ljust(NAME_SIZE))
 
     def set_station(self, latitude: SupportsIndex, records: Iterable[Tuple[SupportsIndex, SupportsIndex, SupportsIndex]]) -> None:
         """Takes a station, at most 146 records (place, amplitude, phase), in place of the old one. The table stays; the month goes."""

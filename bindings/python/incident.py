@@ -5,7 +5,7 @@ Usage: python3 incident.py CARDS, where CARDS is a card file (data/standard-card
 
 import sys
 
-from cuvalimodo import Clock, Record, Refused, check_cards, place_of
+from cuvalimodo import Clock, Record, Refused, check_cards
 
 # The sample's constituents (001, appendix 7.4): name, amplitude, phase lag. Amplitudes are 10^-4 of the sample's unit, feet by their size, so the
 # heights are too.
@@ -35,7 +35,7 @@ def main():
     print("cards: %d frequencies, %d mains, %d satellites, %d shallow" % check_cards(cards))
     berth = Clock()
     berth.load_cards(cards)
-    berth.set_station(LATITUDE, [Record(place_of(cards, name), amplitude, phase) for name, amplitude, phase in VICTORIA])
+    berth.set_station(LATITUDE, [Record(berth.place_of(name), amplitude, phase) for name, amplitude, phase in VICTORIA])
     berth.set_date(1976, 7)
     before = read_month(berth)
     print_first_day(before[0])

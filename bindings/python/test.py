@@ -1,4 +1,4 @@
-"""What cuvalimodo.py does beyond the calls that play.py plays: which buffers and numbers it takes, copies, words, and its hints.
+"""What cuvalimodo.py does beyond the calls that play.py plays: which buffers and numbers it takes, copies, names, words, and its hints.
 
 Usage: python3 bindings/python/test.py
 """
@@ -8,13 +8,17 @@ import ctypes
 import inspect
 import os
 import re
+import sys
 import unittest
 from array import array
 
-from cuvalimodo import Clock, Counts, Refusal, Refused, Turn, check_cards, place_of, refusal_text
-from incident import LATITUDE, VICTORIA
-
 ROOT = os.path.join(os.path.dirname(os.path.abspath(__file__)), "..", "..")
+sys.path.insert(0, os.path.join(ROOT, "second"))
+
+from cards import read_card_file  # noqa: E402
+from cuvalimodo import Clock, Counts, Refusal, Refused, Turn, check_cards, refusal_text  # noqa: E402
+from incident import LATITUDE, VICTORIA  # noqa: E402
+
 LAST = 31 * 1440
 
 
@@ -29,7 +33,7 @@ CARDS = read("data/standard-cards.txt")
 def victoria():
     clock = Clock()
     clock.load_cards(CARDS)
-    clock.set_station(LATITUDE, [(place_of(CARDS, name), amplitude, phase) for name, amplitude, phase in VICTORIA])
+    clock.set_station(LATITUDE, [(clock.place_of(name), amplitude, phase) for name, amplitude, phase in VICTORIA])
     clock.set_date(1976, 7)
     return clock
 
@@ -148,13 +152,25 @@ class Others(unittest.TestCase):
 
     def test_cards(self):
         self.assertEqual(check_cards(memoryview(CARDS)), Counts(145, 45, 162, 100))
-        self.assertEqual((place_of(CARDS, "Z0"), place_of(CARDS, "none")), (0, None))
         with self.assertRaises(TypeError):
             Clock().load_cards("no bytes")
 
+    def test_names(self):
+        clock = victoria()
+        before = bytes(clock)
+        second = [name.decode("ascii").rstrip(" ") for name, _ in read_card_file(CARDS).frequencies]
+        self.assertEqual(clock.names(), second)
+        self.assertEqual([clock.place_of(name) for name in second], list(range(145)))
+        self.assertEqual([clock.place_of(name) for name in ("SA", "SA   ")], [1, 1])
+        self.assertEqual([clock.place_of(name) for name in ("", "sa", " SA", "SA    ", "longer", "SÅ")], [None] * 6)
+        self.assertEqual(bytes(clock), before)
+        clock.reset()
+        for bare in (clock, Clock()):
+            self.assertEqual((bare.names(), bare.place_of("Z0"), bare.place_of("")), ([], None, None))
+
     def test_hints(self):
         methods = [value for name, value in vars(Clock).items() if callable(value) and name != "__copy__"]
-        for function in (check_cards, place_of, refusal_text, *methods):
+        for function in (check_cards, refusal_text, *methods):
             signature = inspect.signature(function)
             hints = [signature.return_annotation] + [p.annotation for p in signature.parameters.values() if p.name != "self"]
             self.assertNotIn(inspect.Signature.empty, hints, function.__name__)

@@ -1,7 +1,7 @@
 //! A clock runs, an update is refused, and the clock goes on: Victoria, the manual's sample station, in July 1976.
 //! Usage: incident CARDS, where CARDS is a card file (data/standard-cards.txt).
 
-use cuvalimodo::{check_cards, place_of, Clock, Record, Refusal, Turns};
+use cuvalimodo::{check_cards, Clock, Record, Refusal, Turns};
 use std::error::Error;
 
 /// The sample's constituents (001, appendix 7.4): name, amplitude, phase lag. Amplitudes are 10^-4 of the sample's unit, feet by their size, so the
@@ -55,13 +55,13 @@ fn main() -> Result<(), Box<dyn Error>> {
         counts.frequencies, counts.mains, counts.satellites, counts.shallows
     );
 
-    let mut records = Vec::new();
-    for (name, amplitude, phase) in VICTORIA {
-        let place = place_of(&cards, name).ok_or(format!("the card file has no {name}"))?;
-        records.push(Record { place, amplitude, phase });
-    }
     let mut berth = Clock::new();
     berth.load_cards(&cards)?;
+    let mut records = Vec::new();
+    for (name, amplitude, phase) in VICTORIA {
+        let place = berth.place_of(name).ok_or(format!("the card file has no {name}"))?;
+        records.push(Record { place, amplitude, phase });
+    }
     berth.set_station(LATITUDE, &records)?;
     berth.set_date(1976, 7)?;
     let before = read_month(&berth)?;

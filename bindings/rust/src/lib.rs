@@ -7,12 +7,12 @@
 //! minutes after 00:00 GMT on the 1st of the month.
 //!
 //! ```
-//! use cuvalimodo::{place_of, Clock, Record, Refusal};
+//! use cuvalimodo::{Clock, Record, Refusal};
 //! # fn main() -> Result<(), Refusal> {
 //! let cards = include_bytes!(concat!(env!("CARGO_MANIFEST_DIR"), "/../../data/standard-cards.txt"));
 //! let mut clock = Clock::new();
 //! clock.load_cards(cards)?;
-//! let mean = Record { place: place_of(cards, "Z0").unwrap(), amplitude: 6067, phase: 0 };
+//! let mean = Record { place: clock.place_of("Z0").unwrap(), amplitude: 6067, phase: 0 };
 //! clock.set_station(2905, &[mean])?;
 //! clock.set_date(1976, 7)?;
 //! assert_eq!(clock.height(510), Ok(6067));
@@ -147,21 +147,6 @@ pub fn check_cards(file: &[u8]) -> Result<Counts, Refusal> {
     Ok(Counts { frequencies, mains, satellites, shallows })
 }
 
-/// The place of a constituent in a card file that [`check_cards`] accepts: where its name stands in part 1.
-///
-/// ```
-/// let cards = b"    Z0       0.0000000000\n    M2       0.0805114007\n\n    S2       0.0833333333\n";
-/// assert_eq!(cuvalimodo::place_of(cards, "M2"), Some(1));
-/// assert_eq!(cuvalimodo::place_of(cards, "S2"), None);
-/// ```
-pub fn place_of(cards: &[u8], name: &str) -> Option<u8> {
-    let column = |text: &[u8], k: usize| text.get(k).copied().unwrap_or(b' ');
-    let part = cards.split(|&byte| byte == b'\n').take_while(|line| line.iter().any(|&byte| byte != b' '));
-    let is_it = |line: &[u8]| name.len() <= 5 && (0..5).all(|k| column(line, 4 + k) == column(name.as_bytes(), k));
-    let place = part.map(is_it).position(|found| found)?;
-    u8::try_from(place).ok()
-}
-
 /// A berth clock: a table of constituents, a station and a month, each there or not.
 ///
 /// It has [`CLOCK_SIZE`] bytes and lies where you put it. Methods of `&self` may be called from several threads at once. [`Clock::height`] takes less than
@@ -192,6 +177,42 @@ impl Clock {
     pub fn load_cards(&mut self, file: &[u8]) -> Result<(), Refusal> {
         let said = sys::load_cards(&mut self.0, file);
         accepted(said.number, said.place)
+    }
+
+    /// The names of the table's constituents by place, without the blanks behind them; none where the clock has no table.
+    ///
+    /// ```
+    /// let cards = include_bytes!(concat!(env!("CARGO_MANIFEST_DIR"), "/../../data/standard-cards.txt"));
+    /// let mut clock = cuvalimodo::Clock::new();
+    /// assert!(clock.names().is_empty());
+    /// clock.load_cards(cards)?;
+    /// assert_eq!(clock.names().len(), 145);
+    /// assert_eq!(clock.names()[..3], ["Z0", "SA", "SSA"]);
+    /// # Ok::<(), cuvalimodo::Refusal>(())
+    /// ```
+    pub fn names(&self) -> Vec<String> {
+        let names = sys::names(&self.0);
+        let text = |name: &[u8]| name.iter().map(|&byte| char::from(byte)).collect::<String>();
+        names.bytes.chunks(sys::NAME_SIZE).take(names.count).map(|name| text(name).trim_end_matches(' ').to_string()).collect()
+    }
+
+    /// The place of the constituent with a name, for a station's [`Record`]; none where the table has no such name.
+    ///
+    /// ```
+    /// let cards = include_bytes!(concat!(env!("CARGO_MANIFEST_DIR"), "/../../data/standard-cards.txt"));
+    /// let mut clock = cuvalimodo::Clock::new();
+    /// assert_eq!(clock.place_of("SA"), None);
+    /// clock.load_cards(cards)?;
+    /// assert_eq!((clock.place_of("SA"), clock.place_of("none"), clock.place_of("longer")), (Some(1), None, None));
+    /// for (place, name) in clock.names().iter().enumerate() {
+    ///     assert_eq!(clock.place_of(name), u8::try_from(place).ok());
+    /// }
+    /// # Ok::<(), cuvalimodo::Refusal>(())
+    /// ```
+    pub fn place_of(&self, name: &str) -> Option<u8> {
+        let padded = |name: &str| format!("{name:0$}", sys::NAME_SIZE);
+        let place = self.names().iter().position(|each| padded(each) == padded(name))?;
+        u8::try_from(place).ok()
     }
 
     /// Takes a station, at most 146 records, in place of the old one. The table stays; the month goes.

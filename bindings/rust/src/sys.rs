@@ -8,6 +8,9 @@
 /// How many bytes a clock has.
 pub const CLOCK_SIZE: usize = 16824;
 
+/// How many bytes a name has.
+pub const NAME_SIZE: usize = 5;
+
 #[repr(C, align(8))]
 #[derive(Clone)]
 pub struct Clock {
@@ -29,7 +32,7 @@ impl Clock {
 #[repr(C)]
 #[derive(Clone, Copy, Debug, PartialEq, Eq, Hash)]
 pub struct Record {
-    /// Its position among the card file's frequencies, from 0: see [`crate::place_of`].
+    /// Its position among the card file's frequencies, from 0: see [`crate::Clock::place_of`].
     pub place: u8,
     /// Tenths of a millimetre, 0 to 65,535.
     pub amplitude: u32,
@@ -69,6 +72,12 @@ pub struct Turnings {
 }
 
 #[repr(C)]
+pub struct TableNames {
+    pub count: usize,
+    pub bytes: [u8; 160 * NAME_SIZE],
+}
+
+#[repr(C)]
 pub struct Text {
     pub text: [u8; 64],
 }
@@ -77,6 +86,7 @@ extern "C" {
     fn cuvalimodo_check_cards(file: *const u8, file_length: usize) -> Counts;
     fn cuvalimodo_new(clock: &mut Clock);
     fn cuvalimodo_load_cards(clock: &mut Clock, file: *const u8, file_length: usize) -> Verdict;
+    fn cuvalimodo_names(clock: &Clock) -> TableNames;
     fn cuvalimodo_set_station(clock: &mut Clock, latitude: i32, records: *const Record, records_length: usize) -> Verdict;
     fn cuvalimodo_set_date(clock: &mut Clock, year: u32, month: u32) -> Verdict;
     fn cuvalimodo_height(clock: &Clock, minute: u32) -> Reading;
@@ -106,6 +116,11 @@ pub fn new(clock: &mut Clock) {
 pub fn load_cards(clock: &mut Clock, file: &[u8]) -> Verdict {
     // SAFETY: see the head of this file.
     unsafe { cuvalimodo_load_cards(clock, file.as_ptr(), file.len()) }
+}
+
+pub fn names(clock: &Clock) -> TableNames {
+    // SAFETY: see the head of this file.
+    unsafe { cuvalimodo_names(clock) }
 }
 
 pub fn set_station(clock: &mut Clock, latitude: i32, records: &[Record]) -> Verdict {
