@@ -37,6 +37,8 @@ static void date(void) { number = cuvalimodo_set_date(&w.clock, w.year, w.month)
 static void single_height(void) { number = cuvalimodo_height(&w.clock, 1).number; }
 static void series(void) { number = cuvalimodo_series(&w.clock, 0, 1, heights, 1440).number; }
 static void turns(void) { number = cuvalimodo_turns(&w.clock, 0, MONTH, minutes, MONTH, heights, MONTH).number; }
+static cuvalimodo_table_names names_read;
+static void names(void) { names_read = cuvalimodo_names(&w.clock); }
 
 // The most that a call may use is asked in bytes.
 static void line(const char *what, void (*f)(void), size_t most) {
@@ -57,6 +59,7 @@ void print_stack(const char *file, size_t length, const char *deepest, size_t de
     line("a single height", single_height, 1024);
     line("a series", series, 1 << 20);
     line("turns of a month", turns, 1 << 20);
+    line("the names", names, 1 << 20);
     line("the standard card file", cards, 1 << 20);
     w.file = deepest;
     w.length = deepest_length;
