@@ -38,7 +38,7 @@ use Rattle.clock.specs.Posts.{NewPost, CardsPost, StationPost, DatePost, Height
 use Rattle.cuvalimodo_c.specs.declared.answers.Verdict.{Verdict}
 use Rattle.cuvalimodo_c.specs.declared.answers.Reading.{Reading}
 use Rattle.cuvalimodo_c.specs.declared.answers.Turnings.{Turnings}
-use Rattle.cuvalimodo_c.specs.Answers.{verdictIn, readingIn, turningsIn, verdictOf, readingOf, turningsOf, Plain, PlainReading, PlainTurnings}
+use Rattle.cuvalimodo_c.specs.Answers.{verdictReturned, readingReturned, turningsReturned, verdictOf, readingOf, turningsOf, Plain, PlainReading, PlainTurnings}
 use Rattle.claim.specs.Document.{Cards, Station, Date, Height, Series, Turns, Names, told, predicted, wrote, found, named}
 use Rattle.claim.specs.Calls.{Keeps, New, Call, Calls, done, _then_}
 use Rattle.claim.specs.Controls.{Controls, eachKind, eachRefused}
@@ -148,33 +148,33 @@ names-there c r p = Call.hands {r = r} (record { bound = λ w. tt; contract = ke
 held-new-there : (c c′ : Clock) → NewPost c′ → New c′
 held-new-there c c′ p = New.heldNews {κs = ([], tt)} {clock = lent c} (record { bound = λ w. tt; contract = kept _ _ p })
 
-held-cards-there : (c c′ : Clock) (file : List ℕ) (r : Verdict) → CardsPost c file (verdictIn r) c′ → Plain r → Call c (Cards file) (told (verdictIn r)) c′
+held-cards-there : (c c′ : Clock) (file : List ℕ) (r : Verdict) → CardsPost c file (verdictReturned r) c′ → Plain r → Call c (Cards file) (told (verdictReturned r)) c′
 held-cards-there c c′ file r p plain =
     Call.heldLoads {κs = ([], ([], tt))} {clock = lent c} {file = lent file} {r = r} (record { bound = λ w. tt; contract = kept _ _ (p, plain) })
 
-held-station-there : (c c′ : Clock) (latitude : ℤ) (records : List Record) (r : Verdict) → StationPost c latitude records (verdictIn r) c′ → Plain r
-    → Call c (Station latitude records) (told (verdictIn r)) c′
+held-station-there : (c c′ : Clock) (latitude : ℤ) (records : List Record) (r : Verdict) → StationPost c latitude records (verdictReturned r) c′ → Plain r
+    → Call c (Station latitude records) (told (verdictReturned r)) c′
 held-station-there c c′ latitude records r p plain =
     Call.heldStations {κs = ([], ([], tt))} {clock = lent c} {records = lent records} {r = r} (record { bound = λ w. tt; contract = kept _ _ (p, plain) })
 
-held-date-there : (c c′ : Clock) (year month : ℕ) (r : Verdict) → DatePost c year month (verdictIn r) c′ → Plain r → Call c (Date year month) (told (verdictIn r)) c′
+held-date-there : (c c′ : Clock) (year month : ℕ) (r : Verdict) → DatePost c year month (verdictReturned r) c′ → Plain r → Call c (Date year month) (told (verdictReturned r)) c′
 held-date-there c c′ year month r p plain =
     Call.heldDates {κs = ([], tt)} {clock = lent c} {r = r} (record { bound = λ w. tt; contract = kept _ _ (p, plain) })
 
 lent-height-there : (c : Clock) (minute : ℕ) (answer : HeightAnswer) → HeightPost c minute (heightReturned answer) → Call c (Height minute) (predicted (heightReturned answer)) c
 lent-height-there c minute answer p = Call.lentHeights {κs = ([], tt)} {clock = lent c} {r = answer} (record { bound = λ w. tt; contract = kept _ _ p })
 
-held-height-there : (c : Clock) (minute : ℕ) (r : Reading) → HeightPost c minute (readingIn r) → PlainReading r → Call c (Height minute) (predicted (readingIn r)) c
+held-height-there : (c : Clock) (minute : ℕ) (r : Reading) → HeightPost c minute (readingReturned r) → PlainReading r → Call c (Height minute) (predicted (readingReturned r)) c
 held-height-there c minute r p plain =
     Call.heldHeights {κs = ([], tt)} {clock = lent c} {r = r} (record { bound = λ w. tt; contract = kept _ _ (p, plain) })
 
-held-series-there : (c : Clock) (start step : ℕ) (hs hs′ : List ℤ) (r : Verdict) → SeriesPost c start step hs hs′ (verdictIn r) → Plain r
-    → Call c (Series start step hs) (wrote (record { returned = verdictIn r; heights = hs′ })) c
+held-series-there : (c : Clock) (start step : ℕ) (hs hs′ : List ℤ) (r : Verdict) → SeriesPost c start step hs hs′ (verdictReturned r) → Plain r
+    → Call c (Series start step hs) (wrote (record { returned = verdictReturned r; heights = hs′ })) c
 held-series-there c start step hs hs′ r p plain =
     Call.heldSerieses {κs = ([], ([], tt))} {clock = lent c} {before = lent hs} {r = r} (record { bound = λ w. tt; contract = kept _ _ (p, plain) })
 
-held-turns-there : (c : Clock) (first last : ℕ) (ms ms′ : List ℕ) (hs hs′ : List ℤ) (r : Turnings) → TurnsPost c first last ms ms′ hs hs′ (turningsIn r) → PlainTurnings r
-    → Call c (Turns first last ms hs) (found (record { returned = turningsIn r; minutes = ms′; heights = hs′ })) c
+held-turns-there : (c : Clock) (first last : ℕ) (ms ms′ : List ℕ) (hs hs′ : List ℤ) (r : Turnings) → TurnsPost c first last ms ms′ hs hs′ (turningsReturned r) → PlainTurnings r
+    → Call c (Turns first last ms hs) (found (record { returned = turningsReturned r; minutes = ms′; heights = hs′ })) c
 held-turns-there c first last ms ms′ hs hs′ r p plain =
     Call.heldSearches {κs = ([], ([], ([], tt)))} {clock = lent c} {ms = lent ms} {hs = lent hs} {r = r} (record { bound = λ w. tt; contract = kept _ _ (p, plain) })
 

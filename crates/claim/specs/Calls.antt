@@ -30,7 +30,7 @@ use Rattle.clock.specs.Returned.{heightReturned, turnsReturned}
 use Rattle.cuvalimodo_c.specs.declared.answers.Verdict.{Verdict}
 use Rattle.cuvalimodo_c.specs.declared.answers.Reading.{Reading}
 use Rattle.cuvalimodo_c.specs.declared.answers.Turnings.{Turnings}
-use Rattle.cuvalimodo_c.specs.Answers.{verdictIn, readingIn, turningsIn}
+use Rattle.cuvalimodo_c.specs.Answers.{verdictReturned, readingReturned, turningsReturned}
 use Rattle.claim.specs.Document.{Request, Cards, Station, Date, Height, Series, Turns, Names, Gave, told, predicted, wrote, found, named}
 use Rattle.claim.specs.Zeroed.{zeroed}
 use Rattle.clock.proofs.new as new
@@ -110,25 +110,25 @@ pub data Call : Clock → Request → Gave → Clock → Type 2 where
   -- the clock is lent: the call gets what is behind the reference, and leaves what is behind it at the end
   heldLoads : {κs : Lfts 2} {clock : RefT Clock} {file : RefT (List ℕ)} {r : Verdict} {left : Clock}
       → Once heldLoad.ended (λ M. heldLoad.clauses) κs (clock, (file, tt)) r (left, (tt, tt))
-      → Call (now clock) (Cards (now file)) (told (verdictIn r)) left
+      → Call (now clock) (Cards (now file)) (told (verdictReturned r)) left
   heldStations : {κs : Lfts 2} {clock : RefT Clock} {latitude : ℤ} {records : RefT (List Record)} {r : Verdict} {left : Clock}
       → Once heldStation.ended (λ M. heldStation.clauses) κs (clock, (latitude, (records, tt))) r (left, (tt, (tt, tt)))
-      → Call (now clock) (Station latitude (now records)) (told (verdictIn r)) left
+      → Call (now clock) (Station latitude (now records)) (told (verdictReturned r)) left
   heldDates : {κs : Lfts 1} {clock : RefT Clock} {year month : ℕ} {r : Verdict} {left : Clock}
       → Once heldDate.ended (λ M. heldDate.clauses) κs (clock, (year, (month, tt))) r (left, (tt, (tt, tt)))
-      → Call (now clock) (Date year month) (told (verdictIn r)) left
+      → Call (now clock) (Date year month) (told (verdictReturned r)) left
   lentHeights : {κs : Lfts 1} {clock : RefT Clock} {minute : ℕ} {r : HeightAnswer}
       → Once heightLent.ended (λ M. heightLent.clauses) κs (clock, (minute, tt)) r (tt, (tt, tt))
       → Call (now clock) (Height minute) (predicted (heightReturned r)) (now clock)
   heldHeights : {κs : Lfts 1} {clock : RefT Clock} {minute : ℕ} {r : Reading}
       → Once heldHeight.ended (λ M. heldHeight.clauses) κs (clock, (minute, tt)) r (tt, (tt, tt))
-      → Call (now clock) (Height minute) (predicted (readingIn r)) (now clock)
+      → Call (now clock) (Height minute) (predicted (readingReturned r)) (now clock)
   heldSerieses : {κs : Lfts 2} {clock : RefT Clock} {start step : ℕ} {before : RefT (List ℤ)} {after : List ℤ} {r : Verdict}
       → Once heldSeries.ended (λ M. heldSeries.clauses) κs (clock, (start, (step, (before, tt)))) r (tt, (tt, (tt, (after, tt))))
-      → Call (now clock) (Series start step (now before)) (wrote (record { returned = verdictIn r; heights = after })) (now clock)
+      → Call (now clock) (Series start step (now before)) (wrote (record { returned = verdictReturned r; heights = after })) (now clock)
   heldSearches : {κs : Lfts 3} {clock : RefT Clock} {first last : ℕ} {ms : RefT (List ℕ)} {hs : RefT (List ℤ)} {ms′ : List ℕ} {hs′ : List ℤ} {r : Turnings}
       → Once heldTurns.ended (λ M. heldTurns.clauses) κs (clock, (first, (last, (ms, (hs, tt))))) r (tt, (tt, (tt, (ms′, (hs′, tt)))))
-      → Call (now clock) (Turns first last (now ms) (now hs)) (found (record { returned = turningsIn r; minutes = ms′; heights = hs′ })) (now clock)
+      → Call (now clock) (Turns first last (now ms) (now hs)) (found (record { returned = turningsReturned r; minutes = ms′; heights = hs′ })) (now clock)
   heldHands : {κs : Lfts 1} {clock : RefT Clock} {r : TableNames}
       → Once heldNames.ended (λ M. heldNames.clauses) κs (clock, tt) r (tt, tt)
       → Call (now clock) Names (named (namesFrom (r .bytes) 0 (r .count))) (now clock)

@@ -23,7 +23,7 @@ use Rattle.clock.specs.Posts.{NewPost, CardsPost, StationPost, DatePost, Height
 use Rattle.cuvalimodo_c.specs.declared.answers.Verdict.{Verdict}
 use Rattle.cuvalimodo_c.specs.declared.answers.Reading.{Reading}
 use Rattle.cuvalimodo_c.specs.declared.answers.Turnings.{Turnings}
-use Rattle.cuvalimodo_c.specs.Answers.{verdictIn, readingIn, turningsIn, Plain, PlainReading, PlainTurnings}
+use Rattle.cuvalimodo_c.specs.Answers.{verdictReturned, readingReturned, turningsReturned, Plain, PlainReading, PlainTurnings}
 use Rattle.claim.specs.Document.{Request, Cards, Station, Date, Height, Series, Turns, Names, Gave, told, predicted, wrote, found, named}
 use Rattle.claim.specs.Calls.{New, Call, Calls}
 
@@ -62,15 +62,15 @@ pub record Controls : Type 2 where
   pub names : (c : Clock) (r : TableNames) → namesFrom (r .bytes) 0 (r .count) ≡ namesIn (view c) → Call c Names (named (namesFrom (r .bytes) 0 (r .count))) c
   -- with the clock lent: c is what is behind the reference
   pub held-new : (c c′ : Clock) → NewPost c′ → New c′
-  pub held-cards : (c c′ : Clock) (file : List ℕ) (r : Verdict) → CardsPost c file (verdictIn r) c′ → Plain r → Call c (Cards file) (told (verdictIn r)) c′
-  pub held-station : (c c′ : Clock) (latitude : ℤ) (records : List Record) (r : Verdict) → StationPost c latitude records (verdictIn r) c′ → Plain r
-      → Call c (Station latitude records) (told (verdictIn r)) c′
-  pub held-date : (c c′ : Clock) (year month : ℕ) (r : Verdict) → DatePost c year month (verdictIn r) c′ → Plain r → Call c (Date year month) (told (verdictIn r)) c′
+  pub held-cards : (c c′ : Clock) (file : List ℕ) (r : Verdict) → CardsPost c file (verdictReturned r) c′ → Plain r → Call c (Cards file) (told (verdictReturned r)) c′
+  pub held-station : (c c′ : Clock) (latitude : ℤ) (records : List Record) (r : Verdict) → StationPost c latitude records (verdictReturned r) c′ → Plain r
+      → Call c (Station latitude records) (told (verdictReturned r)) c′
+  pub held-date : (c c′ : Clock) (year month : ℕ) (r : Verdict) → DatePost c year month (verdictReturned r) c′ → Plain r → Call c (Date year month) (told (verdictReturned r)) c′
   pub lent-height : (c : Clock) (minute : ℕ) (answer : HeightAnswer) → HeightPost c minute (heightReturned answer) → Call c (Height minute) (predicted (heightReturned answer)) c
-  pub held-height : (c : Clock) (minute : ℕ) (r : Reading) → HeightPost c minute (readingIn r) → PlainReading r → Call c (Height minute) (predicted (readingIn r)) c
-  pub held-series : (c : Clock) (start step : ℕ) (hs hs′ : List ℤ) (r : Verdict) → SeriesPost c start step hs hs′ (verdictIn r) → Plain r
-      → Call c (Series start step hs) (wrote (record { returned = verdictIn r; heights = hs′ })) c
-  pub held-turns : (c : Clock) (first last : ℕ) (ms ms′ : List ℕ) (hs hs′ : List ℤ) (r : Turnings) → TurnsPost c first last ms ms′ hs hs′ (turningsIn r) → PlainTurnings r
-      → Call c (Turns first last ms hs) (found (record { returned = turningsIn r; minutes = ms′; heights = hs′ })) c
+  pub held-height : (c : Clock) (minute : ℕ) (r : Reading) → HeightPost c minute (readingReturned r) → PlainReading r → Call c (Height minute) (predicted (readingReturned r)) c
+  pub held-series : (c : Clock) (start step : ℕ) (hs hs′ : List ℤ) (r : Verdict) → SeriesPost c start step hs hs′ (verdictReturned r) → Plain r
+      → Call c (Series start step hs) (wrote (record { returned = verdictReturned r; heights = hs′ })) c
+  pub held-turns : (c : Clock) (first last : ℕ) (ms ms′ : List ℕ) (hs hs′ : List ℤ) (r : Turnings) → TurnsPost c first last ms ms′ hs hs′ (turningsReturned r) → PlainTurnings r
+      → Call c (Turns first last ms hs) (found (record { returned = turningsReturned r; minutes = ms′; heights = hs′ })) c
   pub held-names : (c : Clock) (r : TableNames) → namesFrom (r .bytes) 0 (r .count) ≡ namesIn (view c) → Call c Names (named (namesFrom (r .bytes) 0 (r .count))) c
   pub each-kind : (c : Clock) → NewPost c → Calls c eachKind eachRefused c

@@ -95,7 +95,7 @@ module _ {vc : Val} (l : Last) (h : Holds vc l) where
   left-same k = leaves (h .is) k
 
   left-there : {f : Routine} {hs : List Handed} {b o : ℕ} {q : Request} (x : Ran f [] (changes ClockType.the-row vc b o ∷ hs)) (ws : Written hs) (r : Verdict) (c′ : Clock)
-      → Is VerdictType.the-row r (x .value ∷ []) → Is ClockType.the-row c′ (ClockLaws.lowered c′ ∷ []) → Leaves x (ClockLaws.lowered c′, ws) → Call (h .clock) q (told (answers.verdictIn r)) c′
+      → Is VerdictType.the-row r (x .value ∷ []) → Is ClockType.the-row c′ (ClockLaws.lowered c′ ∷ []) → Leaves x (ClockLaws.lowered c′, ws) → Call (h .clock) q (told (answers.verdictReturned r)) c′
       → ∥ ((Leaves x (clockAt (x .left) b o, ws) × (gives l q ≡ told (verdictIn (x .value)))) × Holds (clockAt (x .left) b o) (after l q)) ∥₁
   left-there {b = b} {o = o} {q = q} x ws r c′ is is-clock lies k =
       ∥∥₁-elim (clock-left x ws (ClockLaws.lowered c′) lies) ∥∥₁-prop (λ e.

@@ -38,7 +38,7 @@ use Rattle.clock.specs.declared.TableNames.{TableNames}
 use Rattle.clock.proofs.TableNames as NamesType
 use Rattle.clock.proofs.TableNames.Laws as NamesLaws
 use Rattle.cuvalimodo_c.specs.Answers as answers
-use Rattle.cuvalimodo_c.specs.Answers.{outcomeIn}
+use Rattle.cuvalimodo_c.specs.Answers.{returnedBy}
 use Rattle.cuvalimodo_c.specs.declared.answers.Verdict.{Verdict}
 use Rattle.cuvalimodo_c.specs.declared.answers.Reading.{Reading}
 use Rattle.cuvalimodo_c.specs.declared.answers.Turnings.{Turnings}
@@ -115,19 +115,19 @@ names-read r v is = ap (λ (vs : List Val). tableNamesIn (first vs)) (NamesLaws.
 
 -- ---- what a call by reference returns
 
-said-lowered : {A : Type 0} (number place : ℕ) (given : A) → cond (eqb number 0) (accepted given) (refused number place) ≡ outcomeIn number place given
+said-lowered : {A : Type 0} (number place : ℕ) (given : A) → cond (eqb number 0) (accepted given) (refused number place) ≡ returnedBy number place given
 said-lowered zero place given = refl
 said-lowered (suc n) place given = rw (eqb·suc-zero n)
 
-pub verdict-reads : (r : Verdict) (v : Val) → Is VerdictType.the-row r (v ∷ []) → verdictIn v ≡ answers.verdictIn r
+pub verdict-reads : (r : Verdict) (v : Val) → Is VerdictType.the-row r (v ∷ []) → verdictIn v ≡ answers.verdictReturned r
 verdict-reads r v is = ap (λ (vs : List Val). verdictIn (first vs)) (VerdictLaws.lowers .val-is r (v ∷ []) is) ∙ said-lowered (r .number) (r .place) tt
 
-pub reading-reads : (r : Reading) (v : Val) → Is ReadingType.the-row r (v ∷ []) → readingIn v ≡ answers.readingIn r
+pub reading-reads : (r : Reading) (v : Val) → Is ReadingType.the-row r (v ∷ []) → readingIn v ≡ answers.readingReturned r
 reading-reads r v is =
     ap (λ (vs : List Val). readingIn (first vs)) (ReadingLaws.lowers .val-is r (v ∷ []) is)
     ∙ (ap (λ (h : ℤ). cond (eqb (r .number) 0) (accepted h) (refused (r .number) (r .place))) (toZ-ofZ w64 (r .height) (record { sfits = is .1 .1 .1 .1 .0 .1 }))
     ∙ said-lowered (r .number) (r .place) (r .height))
 
-pub turnings-read : (r : Turnings) (v : Val) → Is TurningsType.the-row r (v ∷ []) → turningsIn v ≡ answers.turningsIn r
+pub turnings-read : (r : Turnings) (v : Val) → Is TurningsType.the-row r (v ∷ []) → turningsIn v ≡ answers.turningsReturned r
 turnings-read r v is =
     ap (λ (vs : List Val). turningsIn (first vs)) (TurningsLaws.lowers .val-is r (v ∷ []) is) ∙ said-lowered (r .number) (r .place) (record { count = r .count; high = r .high })

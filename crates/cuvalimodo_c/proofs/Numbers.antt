@@ -4,9 +4,9 @@ use mathlib.Core.Path.{_≡_, refl}
 use Rattle.refusals.specs.Outcome.{refused, numberOf}
 use Rattle.refusals.specs.declared.Refusal.{Refusal}
 use Rattle.refusals.specs.declared.Refusal.the-variants.{BadLine, Malformed, OutOfRange, BadName, Missing, TooMany, Ended, BadDate, BadMinutes, TooManyTurns, TooLarge, NoTable, NoStation, NoMonth}
-use Rattle.cuvalimodo_c.specs.Answers.{outcomeIn}
+use Rattle.cuvalimodo_c.specs.Answers.{returnedBy}
 
-pub refusal-read : {A : Type 0} (r : Refusal) (place : ℕ) (a : A) → outcomeIn (numberOf r) place a ≡ refused (numberOf r) place
+pub refusal-read : {A : Type 0} (r : Refusal) (place : ℕ) (a : A) → returnedBy (numberOf r) place a ≡ refused (numberOf r) place
 refusal-read BadLine place a = refl
 refusal-read Malformed place a = refl
 refusal-read OutOfRange place a = refl

@@ -12,19 +12,19 @@ use Rattle.cuvalimodo_c.specs.declared.answers.Reading.{Reading}
 use Rattle.cuvalimodo_c.specs.declared.answers.Turnings.{Turnings}
 
 -- "A refusal returns its number and a place": number 0 says that the call is accepted
-abbrev pub outcomeIn : {A : Type 0} → ℕ → ℕ → A → Outcome A
-outcomeIn zero place a = accepted a
-outcomeIn (suc n) place a = refused (suc n) place
+abbrev pub returnedBy : {A : Type 0} → ℕ → ℕ → A → Outcome A
+returnedBy zero place a = accepted a
+returnedBy (suc n) place a = refused (suc n) place
 
-abbrev pub verdictIn : Verdict → Outcome Unit
-verdictIn v = outcomeIn (v .number) (v .place) tt
+abbrev pub verdictReturned : Verdict → Outcome Unit
+verdictReturned v = returnedBy (v .number) (v .place) tt
 
-abbrev pub readingIn : Reading → Outcome ℤ
-readingIn r = outcomeIn (r .number) (r .place) (r .height)
+abbrev pub readingReturned : Reading → Outcome ℤ
+readingReturned r = returnedBy (r .number) (r .place) (r .height)
 
 -- "returned: how many, and whether the first is high"
-abbrev pub turningsIn : Turnings → Outcome TurnsFound
-turningsIn t = outcomeIn (t .number) (t .place) (record { count = t .count; high = t .high })
+abbrev pub turningsReturned : Turnings → Outcome TurnsFound
+turningsReturned t = returnedBy (t .number) (t .place) (record { count = t .count; high = t .high })
 
 -- ---- the struct of an answer: whatever it does not say is 0
 
@@ -42,10 +42,10 @@ turningsOf (refused number place) = record { number = number; place = place; cou
 
 -- the struct is that of the answer that it is read as: an accepted one has place 0, a refused one height 0, count 0 and no high water
 abbrev pub Plain : Verdict → Type 0
-Plain v = v ≡ verdictOf (verdictIn v)
+Plain v = v ≡ verdictOf (verdictReturned v)
 
 abbrev pub PlainReading : Reading → Type 0
-PlainReading r = r ≡ readingOf (readingIn r)
+PlainReading r = r ≡ readingOf (readingReturned r)
 
 abbrev pub PlainTurnings : Turnings → Type 0
-PlainTurnings t = t ≡ turningsOf (turningsIn t)
+PlainTurnings t = t ≡ turningsOf (turningsReturned t)

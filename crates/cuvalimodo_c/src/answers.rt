@@ -2,7 +2,7 @@
 ghost use mathlib.Core.Path.{_≡_};
 ghost use Rattle.refusals.specs.Outcome.{outcomeOf};
 ghost use Rattle.clock.specs.Returned.{heightReturned, turnsReturned};
-ghost use Rattle.cuvalimodo_c.specs.Answers.{verdictIn, readingIn, turningsIn, Plain, PlainReading, PlainTurnings};
+ghost use Rattle.cuvalimodo_c.specs.Answers.{verdictReturned, readingReturned, turningsReturned, Plain, PlainReading, PlainTurnings};
 use clock::HeightAnswer;
 use clock::TurnsAnswer;
 use refusals::Answer;
@@ -39,7 +39,7 @@ pub struct Text {
 
 // An answer in numbers.
 pub fn told(answer: Answer) -> Verdict
-    ensures { λ r. ⌜ (verdictIn r ≡ outcomeOf answer) × Plain r ⌝ }
+    ensures { λ r. ⌜ (verdictReturned r ≡ outcomeOf answer) × Plain r ⌝ }
 {
     match answer {
         Answer::Accepted => Verdict {
@@ -55,7 +55,7 @@ pub fn told(answer: Answer) -> Verdict
 
 // A height's answer in numbers.
 pub fn told_height(answer: HeightAnswer) -> Reading
-    ensures { λ r. ⌜ (readingIn r ≡ heightReturned answer) × PlainReading r ⌝ }
+    ensures { λ r. ⌜ (readingReturned r ≡ heightReturned answer) × PlainReading r ⌝ }
 {
     match answer {
         HeightAnswer::Height(height) => Reading {
@@ -73,7 +73,7 @@ pub fn told_height(answer: HeightAnswer) -> Reading
 
 // A search's answer in numbers.
 pub fn told_turns(answer: TurnsAnswer) -> Turnings
-    ensures { λ r. ⌜ (turningsIn r ≡ turnsReturned answer) × PlainTurnings r ⌝ }
+    ensures { λ r. ⌜ (turningsReturned r ≡ turnsReturned answer) × PlainTurnings r ⌝ }
 {
     match answer {
         TurnsAnswer::Turns(count, high) => Turnings {

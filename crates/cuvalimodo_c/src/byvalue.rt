@@ -4,7 +4,7 @@ ghost use Rattle.refusals.specs.Outcome.{outcomeOf};
 ghost use Rattle.clock.specs.View.{Made};
 ghost use Rattle.clock.specs.Posts.{CardsPost, StationPost, DatePost, SeriesPost, TurnsPost};
 ghost use Rattle.station.specs.Records.{recordsOf};
-ghost use Rattle.cuvalimodo_c.specs.Answers.{verdictIn, turningsIn, Plain, PlainTurnings};
+ghost use Rattle.cuvalimodo_c.specs.Answers.{verdictReturned, turningsReturned, Plain, PlainTurnings};
 use crate::answers;
 use crate::answers::Turnings;
 use crate::answers::Verdict;
@@ -20,7 +20,7 @@ pub struct Left {
 
 // What a call said and left, in numbers.
 fn in_numbers(after: After) -> Left
-    ensures { λ r. ⌜ (verdictIn (r .verdict) ≡ outcomeOf (after .answer)) × (Plain (r .verdict) × (r .clock ≡ after .clock)) ⌝ }
+    ensures { λ r. ⌜ (verdictReturned (r .verdict) ≡ outcomeOf (after .answer)) × (Plain (r .verdict) × (r .clock ≡ after .clock)) ⌝ }
 {
     let answer = after.answer;
     let verdict = answers::told(answer);
@@ -31,7 +31,7 @@ fn in_numbers(after: After) -> Left
 // A card file.
 pub fn load_cards(clock: Clock, file: &[u8]) -> Left
     requires { ⌜ Made clock ⌝ }
-    ensures { λ r. ⌜ CardsPost clock (now (file .entry)) (verdictIn (r .verdict)) (r .clock) × Plain (r .verdict) ⌝ }
+    ensures { λ r. ⌜ CardsPost clock (now (file .entry)) (verdictReturned (r .verdict)) (r .clock) × Plain (r .verdict) ⌝ }
 {
     in_numbers(clock::load_cards(clock, file))
 }
@@ -39,7 +39,7 @@ pub fn load_cards(clock: Clock, file: &[u8]) -> Left
 // A station whose records are taken apart.
 pub fn place_station(clock: Clock, latitude: i32, n: usize, rows: Rows) -> Left
     requires { ⌜ Made clock ⌝ }
-    ensures { λ r. ⌜ StationPost clock latitude (recordsOf rows n) (verdictIn (r .verdict)) (r .clock) × Plain (r .verdict) ⌝ }
+    ensures { λ r. ⌜ StationPost clock latitude (recordsOf rows n) (verdictReturned (r .verdict)) (r .clock) × Plain (r .verdict) ⌝ }
 {
     in_numbers(clock::place_station(clock, latitude, n, rows))
 }
@@ -47,7 +47,7 @@ pub fn place_station(clock: Clock, latitude: i32, n: usize, rows: Rows) -> Left
 // A date.
 pub fn set_date(clock: Clock, year: u32, month: u32) -> Left
     requires { ⌜ Made clock ⌝ }
-    ensures { λ r. ⌜ DatePost clock year month (verdictIn (r .verdict)) (r .clock) × Plain (r .verdict) ⌝ }
+    ensures { λ r. ⌜ DatePost clock year month (verdictReturned (r .verdict)) (r .clock) × Plain (r .verdict) ⌝ }
 {
     in_numbers(clock::set_date(clock, year, month))
 }
@@ -55,7 +55,7 @@ pub fn set_date(clock: Clock, year: u32, month: u32) -> Left
 // A series.
 pub fn series(clock: Clock, start: u32, step: u32, heights: &mut [i64]) -> Verdict
     requires { ⌜ Made clock ⌝ }
-    ensures { λ r. ⌜ SeriesPost clock start step (now (heights .entry)) (now (heights .exit)) (verdictIn r) × Plain r ⌝ }
+    ensures { λ r. ⌜ SeriesPost clock start step (now (heights .entry)) (now (heights .exit)) (verdictReturned r) × Plain r ⌝ }
 {
     answers::told(clock::series(clock, start, step, heights))
 }
@@ -69,7 +69,7 @@ pub fn turns(
     heights: &mut [i64],
 ) -> Turnings
     requires { ⌜ Made clock ⌝ }
-    ensures { λ r. ⌜ TurnsPost clock first last (now (minutes .entry)) (now (minutes .exit)) (now (heights .entry)) (now (heights .exit)) (turningsIn r) × PlainTurnings r ⌝ }
+    ensures { λ r. ⌜ TurnsPost clock first last (now (minutes .entry)) (now (minutes .exit)) (now (heights .entry)) (now (heights .exit)) (turningsReturned r) × PlainTurnings r ⌝ }
 {
     answers::told_turns(clock::turns(clock, first, last, minutes, heights))
 }

@@ -13,7 +13,7 @@ ghost use Rattle.columns.specs.Names.{namesFrom};
 ghost use Rattle.calls.specs.Names.{namesIn};
 ghost use Rattle.clock.specs.View.{view, Made};
 ghost use Rattle.clock.specs.Posts.{NewPost, CardsPost, StationPost, DatePost, HeightPost, SeriesPost, TurnsPost};
-ghost use Rattle.cuvalimodo_c.specs.Answers.{verdictIn, readingIn, turningsIn, Plain, PlainReading, PlainTurnings};
+ghost use Rattle.cuvalimodo_c.specs.Answers.{verdictReturned, readingReturned, turningsReturned, Plain, PlainReading, PlainTurnings};
 
 mod answers; // what the calls say, in numbers
 mod byvalue; // the calls by value, in numbers
@@ -49,7 +49,7 @@ pub extern "C" fn cuvalimodo_new(clock: &mut Clock)
 #[no_mangle]
 pub extern "C" fn cuvalimodo_load_cards(clock: &mut Clock, file: &[u8]) -> Verdict
     requires { ⌜ Made (now clock) ⌝ }
-    ensures { λ r. ⌜ CardsPost (now (clock .entry)) (now (file .entry)) (verdictIn r) (now (clock .exit)) × Plain r ⌝ }
+    ensures { λ r. ⌜ CardsPost (now (clock .entry)) (now (file .entry)) (verdictReturned r) (now (clock .exit)) × Plain r ⌝ }
 {
     let after = byvalue::load_cards(*clock, file);
     *clock = after.clock;
@@ -64,7 +64,7 @@ pub extern "C" fn cuvalimodo_set_station(
     records: &[Record],
 ) -> Verdict
     requires { ⌜ Made (now clock) ⌝ }
-    ensures { λ r. ⌜ StationPost (now (clock .entry)) latitude (now (records .entry)) (verdictIn r) (now (clock .exit)) × Plain r ⌝ }
+    ensures { λ r. ⌜ StationPost (now (clock .entry)) latitude (now (records .entry)) (verdictReturned r) (now (clock .exit)) × Plain r ⌝ }
 {
     let n = records.len();
     let rows = records::rows_of(records);
@@ -77,7 +77,7 @@ pub extern "C" fn cuvalimodo_set_station(
 #[no_mangle]
 pub extern "C" fn cuvalimodo_set_date(clock: &mut Clock, year: u32, month: u32) -> Verdict
     requires { ⌜ Made (now clock) ⌝ }
-    ensures { λ r. ⌜ DatePost (now (clock .entry)) year month (verdictIn r) (now (clock .exit)) × Plain r ⌝ }
+    ensures { λ r. ⌜ DatePost (now (clock .entry)) year month (verdictReturned r) (now (clock .exit)) × Plain r ⌝ }
 {
     let after = byvalue::set_date(*clock, year, month);
     *clock = after.clock;
@@ -88,7 +88,7 @@ pub extern "C" fn cuvalimodo_set_date(clock: &mut Clock, year: u32, month: u32) 
 #[no_mangle]
 pub extern "C" fn cuvalimodo_height(clock: &Clock, minute: u32) -> Reading
     requires { ⌜ Made (now clock) ⌝ }
-    ensures { λ r. ⌜ HeightPost (now (clock .entry)) minute (readingIn r) × PlainReading r ⌝ }
+    ensures { λ r. ⌜ HeightPost (now (clock .entry)) minute (readingReturned r) × PlainReading r ⌝ }
 {
     let answer = clock::height_lent(clock, minute);
     answers::told_height(answer)
@@ -103,7 +103,7 @@ pub extern "C" fn cuvalimodo_series(
     heights: &mut [i64],
 ) -> Verdict
     requires { ⌜ Made (now clock) ⌝ }
-    ensures { λ r. ⌜ SeriesPost (now (clock .entry)) start step (now (heights .entry)) (now (heights .exit)) (verdictIn r) × Plain r ⌝ }
+    ensures { λ r. ⌜ SeriesPost (now (clock .entry)) start step (now (heights .entry)) (now (heights .exit)) (verdictReturned r) × Plain r ⌝ }
 {
     byvalue::series(*clock, start, step, heights)
 }
@@ -118,7 +118,7 @@ pub extern "C" fn cuvalimodo_turns(
     heights: &mut [i64],
 ) -> Turnings
     requires { ⌜ Made (now clock) ⌝ }
-    ensures { λ r. ⌜ TurnsPost (now (clock .entry)) first last (now (minutes .entry)) (now (minutes .exit)) (now (heights .entry)) (now (heights .exit)) (turningsIn r) × PlainTurnings r ⌝ }
+    ensures { λ r. ⌜ TurnsPost (now (clock .entry)) first last (now (minutes .entry)) (now (minutes .exit)) (now (heights .entry)) (now (heights .exit)) (turningsReturned r) × PlainTurnings r ⌝ }
 {
     byvalue::turns(*clock, first, last, minutes, heights)
 }

@@ -18,7 +18,7 @@ use Rattle.clock.proofs.height_lent.Symbol as first-def
 use Rattle.clock.proofs.height_lent.Symbol.{name as #first}
 use Rattle.clock.proofs.height_lent.Met as first-thm
 use Rattle.cuvalimodo_c.specs.declared.answers.Reading.{Reading}
-use Rattle.cuvalimodo_c.specs.Answers.{readingIn, PlainReading}
+use Rattle.cuvalimodo_c.specs.Answers.{readingReturned, PlainReading}
 use Rattle.cuvalimodo_c.proofs.PassedOn.{all-passed, all-go}
 use Rattle.cuvalimodo_c.proofs.answers.Reading as R
 use Rattle.cuvalimodo_c.proofs.answers.Reading.Laws as R′
@@ -39,7 +39,7 @@ abbrev Found : Clock → ℕ → HeightAnswer → Type 0
 Found c minute r = HeightPost c minute (heightReturned r)
 
 abbrev Told : HeightAnswer → Reading → Type 0
-Told r d = (readingIn d ≡ heightReturned r) × PlainReading d
+Told r d = (readingReturned d ≡ heightReturned r) × PlainReading d
 
 module _ {M : Type 1} (𝓤 : URA M) (H : Heap 𝓤) (A : Atoms 𝓤) (W : Given 𝓤 H A) (at-mem : Memory → SProp 𝓤) (run : Routine → Fun 𝓤) (𝓒 : Calls 𝓤 H) (Λ : Loops 𝓤 H) (fm : FmC 𝓤 H (W .laws) 𝓒)
     (known-first : Triple 𝓤 (𝓒 #first) (Met 𝓤 H A first.ended (first.clauses 𝓤 H A at-mem run))) (known-then : Triple 𝓤 (𝓒 #then) (Met 𝓤 H A then.ended (then.clauses 𝓤 H A at-mem run))) where

@@ -10,7 +10,7 @@ use Rattle.clock.specs.View.{Made}
 use Rattle.clock.specs.Posts.{CardsPost}
 use Rattle.clock.proofs.Clock as T
 use Rattle.cuvalimodo_c.specs.declared.byvalue.Left.{Left}
-use Rattle.cuvalimodo_c.specs.Answers.{verdictIn, Plain}
+use Rattle.cuvalimodo_c.specs.Answers.{verdictReturned, Plain}
 use Rattle.cuvalimodo_c.proofs.Stored.{clockVal, verdictVal, stored}
 use Rattle.cuvalimodo_c.proofs.byvalue.load_cards as inner
 use Rattle.cuvalimodo_c.proofs.byvalue.load_cards.Symbol as inner-def
@@ -40,7 +40,7 @@ module _ {M : Type 1} (𝓤 : URA M) (H : Heap 𝓤) (A : Atoms 𝓤) (W : Given
     at = (ptr-vals x, (sv ∷ [], tt))
 
     abbrev Said : Left → Type 0
-    Said s = CardsPost (x .now) (bytes .now) (verdictIn (s .verdict)) (s .clock) × Plain (s .verdict)
+    Said s = CardsPost (x .now) (bytes .now) (verdictReturned (s .verdict)) (s .clock) × Plain (s .verdict)
 
     abbrev ghosts : Walk .Ghost
     ghosts = (((κ, (κ₁, tt)), (q, (q₁, tt)), tt, (x, (bytes, tt)), at), tt)

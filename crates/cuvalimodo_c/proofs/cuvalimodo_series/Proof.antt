@@ -13,7 +13,7 @@ use Rattle.clock.specs.View.{Made}
 use Rattle.clock.specs.Posts.{SeriesPost}
 use Rattle.clock.proofs.Clock as T
 use Rattle.cuvalimodo_c.specs.declared.answers.Verdict.{Verdict}
-use Rattle.cuvalimodo_c.specs.Answers.{verdictIn, Plain}
+use Rattle.cuvalimodo_c.specs.Answers.{verdictReturned, Plain}
 use Rattle.cuvalimodo_c.proofs.Stored.{clockVal}
 use Rattle.cuvalimodo_c.proofs.Copied.{copied}
 use Rattle.cuvalimodo_c.proofs.PassedOn.{all-passed, all-go}
@@ -44,7 +44,7 @@ module _ {M : Type 1} (𝓤 : URA M) (H : Heap 𝓤) (A : Atoms 𝓤) (W : Given
     at = (ptr-vals x, (vint w32 start ∷ [], (vint w32 step ∷ [], (hv ∷ [], tt))))
 
     abbrev Said : Verdict → List ℤ → Type 0
-    Said r left = SeriesPost (x .now) start step (heights .now) left (verdictIn r) × Plain r
+    Said r left = SeriesPost (x .now) start step (heights .now) left (verdictReturned r) × Plain r
 
     abbrev ghosts : Walk .Ghost
     ghosts = (((κ, (κ₁, tt)), (q, (q₁, tt)), tt, (x, (start, (step, (heights, tt)))), at), tt)

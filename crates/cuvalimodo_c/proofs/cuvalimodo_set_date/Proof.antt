@@ -7,7 +7,7 @@ use Rattle.clock.specs.View.{Made}
 use Rattle.clock.specs.Posts.{DatePost}
 use Rattle.clock.proofs.Clock as T
 use Rattle.cuvalimodo_c.specs.declared.byvalue.Left.{Left}
-use Rattle.cuvalimodo_c.specs.Answers.{verdictIn, Plain}
+use Rattle.cuvalimodo_c.specs.Answers.{verdictReturned, Plain}
 use Rattle.cuvalimodo_c.proofs.Stored.{clockVal, verdictVal, stored}
 use Rattle.cuvalimodo_c.proofs.byvalue.set_date as inner
 use Rattle.cuvalimodo_c.proofs.byvalue.set_date.Symbol as inner-def
@@ -31,7 +31,7 @@ module _ {M : Type 1} (𝓤 : URA M) (H : Heap 𝓤) (A : Atoms 𝓤) (W : Given
     at = (ptr-vals x, (vint w32 y ∷ [], (vint w32 m ∷ [], tt)))
 
     abbrev Said : Left → Type 0
-    Said s = DatePost (x .now) y m (verdictIn (s .verdict)) (s .clock) × Plain (s .verdict)
+    Said s = DatePost (x .now) y m (verdictReturned (s .verdict)) (s .clock) × Plain (s .verdict)
 
     abbrev ghosts : Walk .Ghost
     ghosts = (((κ, tt), (q, tt), tt, (x, (y, (m, tt))), at), tt)

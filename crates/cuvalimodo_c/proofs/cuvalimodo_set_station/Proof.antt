@@ -27,7 +27,7 @@ use Rattle.clock.specs.Posts.{StationPost}
 use Rattle.clock.proofs.Stations.{lent-post}
 use Rattle.clock.proofs.Clock as T
 use Rattle.cuvalimodo_c.specs.declared.byvalue.Left.{Left}
-use Rattle.cuvalimodo_c.specs.Answers.{verdictIn, Plain}
+use Rattle.cuvalimodo_c.specs.Answers.{verdictReturned, Plain}
 use Rattle.cuvalimodo_c.proofs.Stored.{clockVal, verdictVal, stored}
 use Rattle.cuvalimodo_c.proofs.byvalue.place_station as inner
 use Rattle.cuvalimodo_c.proofs.byvalue.place_station.Symbol as inner-def
@@ -60,7 +60,7 @@ module _ {M : Type 1} (𝓤 : URA M) (H : Heap 𝓤) (A : Atoms 𝓤) (W : Given
     at = (ptr-vals x, (zv ∷ [], (sv ∷ [], tt)))
 
     abbrev Said : Rows → Left → Type 0
-    Said r s = StationPost (x .now) z (recordsOf r (length (ys .now))) (verdictIn (s .verdict)) (s .clock) × Plain (s .verdict)
+    Said r s = StationPost (x .now) z (recordsOf r (length (ys .now))) (verdictReturned (s .verdict)) (s .clock) × Plain (s .verdict)
 
     abbrev ghosts : Walk .Ghost
     ghosts = (((κ, (κ₁, tt)), (q, (q₁, tt)), tt, (x, (z, (ys, tt))), at), tt)
@@ -85,7 +85,7 @@ module _ {M : Type 1} (𝓤 : URA M) (H : Heap 𝓤) (A : Atoms 𝓤) (W : Given
         (λ u s ws. k u s _))
         (λ s p. forget ! 12 refl $ forget ! 14 refl $ forget ! 16 refl $ forget ! 18 refl $
         move ! (7 ∷ 21 ∷ []) $ free1 ! $ move ! (6 ∷ 19 ∷ []) $ free1 ! $ move ! (16 ∷ 17 ∷ []) $ free1 ! $ move ! (14 ∷ 15 ∷ []) $ free1 ! $ move ! (12 ∷ 13 ∷ []) $ free1 ! $ move ! (10 ∷ 11 ∷ []) $ free1 ! $ move ! (5 ∷ 9 ∷ []) $ free1 ! $ move ! (4 ∷ 7 ∷ []) $ free1 ! $ free0 ! $
-        suffices ! _ (ends-at 𝓤 H A it.ended stayed (it.clauses 𝓤 H A at-mem run) W ghosts (verdictVal s) (s .verdict) (s .clock, (tt, (tt, tt))) (tt, (tt, (tt, tt)))) $ says ! (lent-post (x .now) z (ys .now) (verdictIn (s .verdict)) (s .clock) r e (p .0), p .1) $
+        suffices ! _ (ends-at 𝓤 H A it.ended stayed (it.clauses 𝓤 H A at-mem run) W ghosts (verdictVal s) (s .verdict) (s .clock, (tt, (tt, tt))) (tt, (tt, (tt, tt)))) $ says ! (lent-post (x .now) z (ys .now) (verdictReturned (s .verdict)) (s .clock) r e (p .0), p .1) $
         move ! (2 ∷ 4 ∷ []) $ join ! $ frame ! $ keep ! (0 ∷ 1 ∷ []) $ nothing ! $ nothing ! $ fjoin ! $ nothing ! $ fjoin ! $ move ! (2 ∷ 0 ∷ []) $ fjoin ! $ frame ! $ done !))))))))))))
 
   walks : Walks 𝓤 H A it.ended stayed (WpFn 𝓤 H 𝓒 Λ code.function) (it.clauses 𝓤 H A at-mem run)

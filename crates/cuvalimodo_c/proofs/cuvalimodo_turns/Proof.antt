@@ -13,7 +13,7 @@ use Rattle.clock.specs.View.{Made}
 use Rattle.clock.specs.Posts.{TurnsPost}
 use Rattle.clock.proofs.Clock as T
 use Rattle.cuvalimodo_c.specs.declared.answers.Turnings.{Turnings}
-use Rattle.cuvalimodo_c.specs.Answers.{turningsIn, PlainTurnings}
+use Rattle.cuvalimodo_c.specs.Answers.{turningsReturned, PlainTurnings}
 use Rattle.cuvalimodo_c.proofs.Stored.{clockVal}
 use Rattle.cuvalimodo_c.proofs.Copied.{copied}
 use Rattle.cuvalimodo_c.proofs.PassedOn.{all-passed, all-go}
@@ -47,7 +47,7 @@ module _ {M : Type 1} (𝓤 : URA M) (H : Heap 𝓤) (A : Atoms 𝓤) (W : Given
     at = (ptr-vals x, (vint w32 first ∷ [], (vint w32 last ∷ [], (mv ∷ [], (hv ∷ [], tt)))))
 
     abbrev Said : Turnings → List ℕ → List ℤ → Type 0
-    Said r minutesLeft heightsLeft = TurnsPost (x .now) first last (minutes .now) minutesLeft (heights .now) heightsLeft (turningsIn r) × PlainTurnings r
+    Said r minutesLeft heightsLeft = TurnsPost (x .now) first last (minutes .now) minutesLeft (heights .now) heightsLeft (turningsReturned r) × PlainTurnings r
 
     abbrev ghosts : Walk .Ghost
     ghosts = (((κ, (κ₁, (κ₂, tt))), (q, (q₁, (q₂, tt))), tt, (x, (first, (last, (minutes, (heights, tt))))), at), tt)
