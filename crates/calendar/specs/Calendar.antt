@@ -11,6 +11,10 @@ use lib.ListN.{getD}
 abbrev pub monthLengths : List ℕ
 monthLengths = 31 ∷ 28 ∷ 31 ∷ 30 ∷ 31 ∷ 30 ∷ 31 ∷ 31 ∷ 30 ∷ 31 ∷ 30 ∷ 31 ∷ []
 
+-- a year has twelve
+abbrev pub monthsAYear : ℕ
+monthsAYear = 12
+
 -- 01, Arguments: "every fourth year, 1976 being one"
 unfoldable pub isFourth : ℕ → Bool
 isFourth year = eqb (year % 4) (1976 % 4)
@@ -28,6 +32,10 @@ unfoldable pub monthsDays : ℕ → ℕ → ℕ
 monthsDays year zero = 0
 monthsDays year (suc months) = monthsDays year months + monthDays year (suc months)
 
+-- 02, No. 1: "minutes counted from 1 January", to "the year's last instant". The year's last minute.
+unfoldable pub yearMinutes : ℕ → ℕ
+yearMinutes year = monthsDays year monthsAYear * 1_440
+
 -- The days of whole years from a year on, as many as are asked
 unfoldable pub yearsDays : ℕ → ℕ → ℕ
 yearsDays year zero = 0
@@ -43,6 +51,10 @@ dayCount year month day =
 unfoldable pub between : ℕ → ℕ → ℕ → Bool
 between low high number = leb low number && leb number high
 
--- 01, the head: "years 1950 to 2049". A date that is not in range is refused by 8, "year or month out of range".
+-- 01, the head: "years 1950 to 2049"
+abbrev pub yearInRange : ℕ → Bool
+yearInRange year = between 1950 2049 year
+
+-- A date that is not in range is refused by 8, "year or month out of range".
 unfoldable pub inRange : ℕ → ℕ → Bool
-inRange year month = between 1950 2049 year && between 1 12 month
+inRange year month = yearInRange year && between 1 12 month

@@ -3,7 +3,7 @@ ghost use mathlib.Core.Path.{_≡_};
 ghost use mathlib.Core.Bool.{_&&_};
 ghost use Prim.Native.Nat.{_+_, _*_, _/_, _^_, _≤_, _<_, _-_};
 ghost use lib.Dec.{eqb};
-ghost use Rattle.calendar.specs.Calendar.{between, dayCount, inRange, isFourth, monthDays, monthMinutes, monthsDays};
+ghost use Rattle.calendar.specs.Calendar.{between, dayCount, inRange, isFourth, monthDays, monthMinutes, monthsDays, yearInRange, yearMinutes};
 
 // The lengths of the months, January first.
 const LENGTHS: [u32; 12] = [31, 28, 31, 30, 31, 30, 31, 31, 30, 31, 30, 31];
@@ -15,11 +15,18 @@ fn between(low: u32, high: u32, number: u32) -> bool
     low <= number && number <= high
 }
 
+// Whether a year is 1950 to 2049.
+pub fn year_in_range(year: u32) -> bool
+    ensures { λ r. ⌜ r ≡ yearInRange year ⌝ }
+{
+    between(1950, 2049, year)
+}
+
 // Whether a date's year is 1950 to 2049 and its month 1 to 12; any other date is refused by 8.
 pub fn in_range(year: u32, month: u32) -> bool
     ensures { λ r. ⌜ r ≡ inRange year month ⌝ }
 {
-    between(1950, 2049, year) && between(1, 12, month)
+    year_in_range(year) && between(1, 12, month)
 }
 
 // Whether a month is a February with a 29th.
@@ -64,6 +71,14 @@ fn days_before(year: u32, month: u32) -> u64
         passed += 1;
     }
     days
+}
+
+// The last minute of a year, counted from 1 January.
+pub fn year_minutes(year: u32) -> u64
+    ensures is { λ r. ⌜ r ≡ yearMinutes year ⌝ }
+    ensures small { λ r. ⌜ r ≤ 12 * 31 * 1_440 ⌝ }
+{
+    days_before(year, 13) * 1_440
 }
 
 // A date's number in days, counted from 1 January of a year 0.

@@ -11,7 +11,8 @@ use Rattle.station.specs.Station.{Station}
 use Rattle.calendar.specs.Calendar.{inRange, monthMinutes}
 use Rattle.month_prepared.specs.Prepared.{Constituent}
 use Rattle.month.specs.Month.{monthOf}
-use Rattle.calls.specs.State.{Month, State, some}
+use Rattle.month_prepared.specs.Prepared.{Month}
+use Rattle.calls.specs.State.{State, some}
 use Rattle.calls.specs.inner.Flags.{when, stateOf, dateBy}
 use Rattle.calls.specs.Calls.{dateGives, dateReturns, dateLeaves}
 

@@ -17,7 +17,8 @@ use Rattle.heights.specs.Series.{seriesOf}
 use Rattle.turns.specs.Slope.{slopeAt}
 use Rattle.turns.specs.Search.{turnsOf}
 use Rattle.turns.specs.Written.{TurnsGiven, unlessRefused, given}
-use Rattle.calls.specs.State.{Month, State}
+use Rattle.month_prepared.specs.Prepared.{Month}
+use Rattle.calls.specs.State.{State}
 use Rattle.calls.specs.Asked.{minuteOutside, seriesOutside, turnsOutside}
 use Rattle.calls.specs.inner.Flags.{stateOf, minutesBy}
 use Rattle.calls.specs.Calls.{ready, heightReturns, seriesHeights, seriesGives, turnsGives}
@@ -31,7 +32,7 @@ abbrev pub height-of : ℕ → Asked → Outcome ℤ
 height-of minute o = o >>= λ (table, station, month). accepted (heightAt (month .constituents) minute)
 
 abbrev pub series-of : ℕ → ℕ → ℕ → Asked → Outcome (List ℤ)
-series-of start step places o = o >>= λ (table, station, month). accepted (seriesOf (month .constituents) start step places)
+series-of start step places o = o >>= λ (table, station, month). accepted (seriesOf (heightAt (month .constituents)) start step places)
 
 abbrev pub turns-of : ℕ → ℕ → List ℕ → List ℤ → Asked → TurnsGiven
 turns-of first last minutes heights o =
@@ -97,7 +98,7 @@ module _ (t : Bool) (table : Table) (s : Bool) (station : Station) (d : Bool) (m
     series-refused number place e = rw (ap (series-of start step (length heights)) (refused-by outside-series table station month t s d number place e))
 
     pub series-given : minutesBy t s d (seriesOutside (month .last) start step (length heights)) ≡ accepted tt
-        → record { returned = accepted tt; heights = seriesOf (month .constituents) start step (length heights) } ≡ seriesGives before start step heights
+        → record { returned = accepted tt; heights = seriesOf (heightAt (month .constituents)) start step (length heights) } ≡ seriesGives before start step heights
     unfolding seriesGives seriesHeights
     series-given e = rw (ap (series-of start step (length heights)) (given-by outside-series table station month t s d e))
 

@@ -9,7 +9,8 @@ use Rattle.refusals.specs.Outcome.{Outcome, accepted, refused}
 use Rattle.station.specs.declared.records.Record.{Record}
 use Rattle.table.specs.Table.{Table}
 use Rattle.station.specs.Station.{Station}
-use Rattle.calls.specs.State.{Month, State}
+use Rattle.month_prepared.specs.Prepared.{Month}
+use Rattle.calls.specs.State.{State}
 use Rattle.calls.specs.inner.Flags.{stateOf, tabledOnly}
 use Rattle.calls.specs.Calls.{stationReturns, stationLeaves}
 

@@ -19,7 +19,8 @@ use Rattle.turns.specs.Slope.{slopeAt}
 use Rattle.turns.specs.Search.{turnsOf}
 use Rattle.turns.specs.Written.{TurnsGiven, unlessRefused, given}
 use Rattle.turns.specs.Strides.{stationStride}
-use Rattle.calls.specs.State.{Maybe, none, some, Month, State}
+use Rattle.month_prepared.specs.Prepared.{Month}
+use Rattle.calls.specs.State.{Maybe, none, some, State}
 use Rattle.calls.specs.Asked.{tableAsked, dateAsked, minutesAsked, minuteOutside, seriesOutside, turnsOutside}
 
 -- ---- a card file
@@ -82,7 +83,7 @@ heightReturns k minute = do
 unfoldable pub seriesHeights : State → ℕ → ℕ → ℕ → Outcome (List ℤ)
 seriesHeights k start step places = do
   (table, station, month) ← ready (λ month. seriesOutside (month .last) start step places) k
-  accepted (seriesOf (month .constituents) start step places)
+  accepted (seriesOf (heightAt (month .constituents)) start step places)
 
 -- what a series returns, and the lent places as it leaves them
 pub record SeriesGiven : Type 0 where

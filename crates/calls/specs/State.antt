@@ -1,20 +1,13 @@
 -- 01, "Heights and turns": what a clock has. A table, a station and a month, each there or not.
 -- Assumes nothing.
-use Prim.Native.Nat.{ℕ}
-use mathlib.Core.List.{List}
 use Rattle.table.specs.Table.{Table}
 use Rattle.station.specs.Station.{Station}
-use Rattle.month_prepared.specs.Prepared.{Constituent}
+use Rattle.month_prepared.specs.Prepared.{Month}
 
 -- what is there, or is not
 pub data Maybe (A : Type 0) : Type 0 where
   none : Maybe A
   some : A → Maybe A
-
--- a prepared month: its last minute, and the station's constituents in it, with V, P and Q
-pub record Month : Type 0 where
-  pub last : ℕ
-  pub constituents : List Constituent
 
 pub record State : Type 0 where
   pub table : Maybe Table

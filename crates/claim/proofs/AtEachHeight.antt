@@ -8,7 +8,7 @@ use lib.IntN.{ℤ, pos}
 use lib.ListN.{length, getD, take, drop, length-map, length-append}
 use Rattle.table.specs.Table.{Table}
 use Rattle.station.specs.Station as station
-use Rattle.month_prepared.specs.Prepared.{Constituent}
+use Rattle.month_prepared.specs.Prepared.{Constituent, Month}
 use Rattle.heights.specs.Exact.{Near}
 use Rattle.heights.specs.Height.{heightAt}
 use Rattle.turns.specs.Search.{minutesOf}
@@ -68,7 +68,7 @@ AllStand t = Stand (t .returned) (t .minutes) (t .heights)
 front-holds : {A : Type 0} (new old : List A) (n : ℕ) → length new ≡ n → n ≤ length (fromFront new old)
 front-holds new old n e = omega (arith, e, length-append new (drop (length new) old))
 
-turns-stand : (first last : ℕ) (ms : List ℕ) (hs : List ℤ) (t : Maybe Table) (s : Maybe station.Station) (m : Maybe state.Month)
+turns-stand : (first last : ℕ) (ms : List ℕ) (hs : List ℤ) (t : Maybe Table) (s : Maybe station.Station) (m : Maybe Month)
     → AllStand (turnsGives (record { table = t; station = s; month = m }) first last ms hs)
 turns-stand first last ms hs =
     turns-give (λ m g. AllStand g) first last ms hs (λ m number. tt) (λ m ts.

@@ -15,7 +15,8 @@ use Rattle.table.specs.Table.{Table}
 use Rattle.card_file.specs.Cards.{cardsOutcome}
 use Rattle.station.specs.declared.records.Record.{Record}
 use Rattle.clock.specs.declared.Clock.{Clock}
-use Rattle.calls.specs.State.{Month, State, some, none}
+use Rattle.month_prepared.specs.Prepared.{Month}
+use Rattle.calls.specs.State.{State, some, none}
 use Rattle.calls.specs.Names.{namesIn}
 use Rattle.calls.specs.Calls.{cardsReturns, cardsLeaves, stationReturns, stationLeaves, dateGives, dateReturns, dateLeaves, heightReturns, seriesGives, turnsGives}
 use Rattle.turns.specs.Written.{TurnsFound}

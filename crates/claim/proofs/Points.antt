@@ -11,7 +11,7 @@ use lib.IntN.{ℤ}
 use Rattle.refusals.specs.Outcome.{accepted, refused, refuseIf, answered, onAccepted}
 use Rattle.table.specs.Table.{Table}
 use Rattle.station.specs.Station as station
-use Rattle.month_prepared.specs.Prepared.{Constituent}
+use Rattle.month_prepared.specs.Prepared.{Constituent, Month}
 use Rattle.heights.specs.Height.{heightAt}
 use Rattle.heights.specs.Series.{seriesFrom, seriesOf}
 use Rattle.heights.proofs.distance.Distance.{height-is-near}
@@ -29,9 +29,9 @@ use Rattle.claim.specs.Document.{Request, Cards, Station, Date, Height, 
 
 -- ---- what is asked first: a refusal, or the month that is there
 
-ready-by : (P : Maybe state.Month → Asked → Type 0) (outside : state.Month → Bool) → ((m : Maybe state.Month) (number : ℕ) → P m (refused number 0))
-    → ((t : Table) (s : station.Station) (m : state.Month) → P (state.some m) (accepted (t, s, m)))
-    → (t : Maybe Table) (s : Maybe station.Station) (m : Maybe state.Month) → P m (ready outside (record { table = t; station = s; month = m }))
+ready-by : (P : Maybe Month → Asked → Type 0) (outside : Month → Bool) → ((m : Maybe Month) (number : ℕ) → P m (refused number 0))
+    → ((t : Table) (s : station.Station) (m : Month) → P (state.some m) (accepted (t, s, m)))
+    → (t : Maybe Table) (s : Maybe station.Station) (m : Maybe Month) → P m (ready outside (record { table = t; station = s; month = m }))
 ready-by P outside turned there state.none s m = turned m 21
 ready-by P outside turned there (state.some t) state.none m = turned m 22
 ready-by P outside turned there (state.some t) (state.some s) state.none = turned state.none 23
@@ -43,7 +43,7 @@ ready-by P outside turned there (state.some t) (state.some s) (state.some m) = n
 
 -- ---- a height
 
-height-near : (minute : ℕ) (t : Maybe Table) (s : Maybe station.Station) (m : Maybe state.Month)
+height-near : (minute : ℕ) (t : Maybe Table) (s : Maybe station.Station) (m : Maybe Month)
     → AllNear (constituentsThere m) (heightPoints minute (heightReturns (record { table = t; station = s; month = m }) minute))
 unfolding heightReturns
 height-near minute =
@@ -52,20 +52,20 @@ height-near minute =
 
 -- ---- a series
 
-from-near : (cs : List Constituent) (start step j n : ℕ) → AllNear cs (pointsFrom (start + j * step) step (seriesFrom cs start step j n))
+from-near : (cs : List Constituent) (start step j n : ℕ) → AllNear cs (pointsFrom (start + j * step) step (seriesFrom (heightAt cs) start step j n))
 unfolding pointsFrom seriesFrom
 from-near cs start step j zero = nil
 from-near cs start step j (suc n) =
     let on : start + (j + 1) * step ≡ start + j * step + step = omega arith in
-    cons (height-is-near cs (start + j * step)) (subst (λ (m : ℕ). AllNear cs (pointsFrom m step (seriesFrom cs start step (j + 1) n))) on (from-near cs start step (j + 1) n))
+    cons (height-is-near cs (start + j * step)) (subst (λ (m : ℕ). AllNear cs (pointsFrom m step (seriesFrom (heightAt cs) start step (j + 1) n))) on (from-near cs start step (j + 1) n))
 
-series-near : (start step : ℕ) (heights : List ℤ) (t : Maybe Table) (s : Maybe station.Station) (m : Maybe state.Month)
+series-near : (start step : ℕ) (heights : List ℤ) (t : Maybe Table) (s : Maybe station.Station) (m : Maybe Month)
     → AllNear (constituentsThere m) (seriesPoints start step (seriesGives (record { table = t; station = s; month = m }) start step heights .returned) (seriesGives (record { table = t; station = s; month = m }) start step heights .heights))
 unfolding seriesGives seriesHeights
 series-near start step heights =
     ready-by (λ m o. AllNear (constituentsThere m) (seriesPoints start step (answered (series-of start step (length heights) o)) (onAccepted (series-of start step (length heights) o) (λ new. new) heights)))
     (λ m. seriesOutside (m .last) start step (length heights)) (λ m number. nil)
-    (λ t s m. subst (λ (k : ℕ). AllNear (m .constituents) (pointsFrom k step (seriesOf (m .constituents) start step (length heights)))) (let e : start + 0 * step ≡ start = omega arith in e) (from-near (m .constituents) start step 0 (length heights)))
+    (λ t s m. subst (λ (k : ℕ). AllNear (m .constituents) (pointsFrom k step (seriesOf (heightAt (m .constituents)) start step (length heights)))) (let e : start + 0 * step ≡ start = omega arith in e) (from-near (m .constituents) start step 0 (length heights)))
 
 -- ---- turns
 
@@ -82,21 +82,21 @@ front-is : {A : Type 0} (new old : List A) (n : ℕ) → length new ≡ n → ta
 front-is new old n e = take-at new (drop (length new) old) n e
 
 -- what a search for turns gives: a refusal, with both buffers as they were, or what was found, in front of both
-pub turns-give : (P : Maybe state.Month → TurnsGiven → Type 0) (first last : ℕ) (ms : List ℕ) (hs : List ℤ)
-    → ((m : Maybe state.Month) (number : ℕ) → P m (record { returned = refused number 0; minutes = ms; heights = hs }))
-    → ((m : state.Month) (ts : List Turn) → P (state.some m) (record {
+pub turns-give : (P : Maybe Month → TurnsGiven → Type 0) (first last : ℕ) (ms : List ℕ) (hs : List ℤ)
+    → ((m : Maybe Month) (number : ℕ) → P m (record { returned = refused number 0; minutes = ms; heights = hs }))
+    → ((m : Month) (ts : List Turn) → P (state.some m) (record {
       returned = accepted (record { count = length ts; high = firstHigh ts });
       minutes = fromFront (minutesOf ts) ms;
       heights = fromFront (map (heightAt (m .constituents)) (minutesOf ts)) hs;
     }))
-    → (t : Maybe Table) (s : Maybe station.Station) (m : Maybe state.Month) → P m (turnsGives (record { table = t; station = s; month = m }) first last ms hs)
+    → (t : Maybe Table) (s : Maybe station.Station) (m : Maybe Month) → P m (turnsGives (record { table = t; station = s; month = m }) first last ms hs)
 unfolding turnsGives given
 turns-give P first last ms hs none-found all-found =
     ready-by (λ m o. P m (turns-of first last ms hs o))
     (λ m. turnsOutside (m .last) first last) none-found
     (λ t s m. room m (turnsOf (slopeAt (m .constituents)) (stationStride t s) first last) (tooMany (turnsOf (slopeAt (m .constituents)) (stationStride t s) first last) (length ms) (length hs)))
   where
-    room : (m : state.Month) (ts : List Turn) (short : Bool) → P (state.some m) (unlessRefused (refuseIf short 10 0 (accepted ts)) ms hs λ ts.
+    room : (m : Month) (ts : List Turn) (short : Bool) → P (state.some m) (unlessRefused (refuseIf short 10 0 (accepted ts)) ms hs λ ts.
         (record { returned = accepted (record { count = length ts; high = firstHigh ts }); minutes = fromFront (minutesOf ts) ms; heights = fromFront (map (heightAt (m .constituents)) (minutesOf ts)) hs }))
     room m ts true = none-found (state.some m) 10
     room m ts false = all-found m ts
@@ -104,7 +104,7 @@ turns-give P first last ms hs none-found all-found =
 pub as-many : (ts : List Turn) → length (minutesOf ts) ≡ length ts
 as-many ts = length-map ts (λ (u : Turn). u .minute)
 
-turns-near : (first last : ℕ) (ms : List ℕ) (hs : List ℤ) (t : Maybe Table) (s : Maybe station.Station) (m : Maybe state.Month)
+turns-near : (first last : ℕ) (ms : List ℕ) (hs : List ℤ) (t : Maybe Table) (s : Maybe station.Station) (m : Maybe Month)
     → AllNear (constituentsThere m) (foundPoints (turnsGives (record { table = t; station = s; month = m }) first last ms hs))
 turns-near first last ms hs =
     turns-give (λ m g. AllNear (constituentsThere m) (foundPoints g)) first last ms hs (λ m number. nil) (λ m ts.

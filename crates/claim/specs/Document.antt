@@ -11,9 +11,8 @@ use Rattle.table.specs.Table.{Table}
 use Rattle.card_file.specs.Cards.{cardsOutcome}
 use Rattle.station.specs.declared.records.Record.{Record}
 use Rattle.station.specs.Station as station
-use Rattle.month_prepared.specs.Prepared.{Constituent}
+use Rattle.month_prepared.specs.Prepared.{Constituent, Month}
 use Rattle.heights.specs.Exact.{Near}
-use Rattle.calls.specs.State as state
 use Rattle.calls.specs.State.{Maybe, none, some, State}
 use Rattle.calls.specs.Names.{namesIn}
 use Rattle.turns.specs.Written.{TurnsFound, TurnsGiven}
@@ -59,7 +58,7 @@ abbrev pub tableOfCards : Maybe (List ℕ) → Maybe Table
 tableOfCards none = none
 tableOfCards (some file) = onAccepted (cardsOutcome file) (λ table. some table) none
 
-abbrev pub monthOn : Maybe Table → Maybe station.Station → Maybe Day → Maybe state.Month
+abbrev pub monthOn : Maybe Table → Maybe station.Station → Maybe Day → Maybe Month
 monthOn t s none = none
 monthOn t s (some day) = onAccepted (dateGives t s (day .year) (day .month)) (λ month. some month) none
 
@@ -158,7 +157,7 @@ points (Turns first end minutes heights) (found t) = turnsPoints (t .returned) (
 points (Turns first end minutes heights) (named names) = []
 
 -- V, P and Q of the station's constituents, worked out from what was last accepted
-abbrev pub constituentsThere : Maybe state.Month → List Constituent
+abbrev pub constituentsThere : Maybe Month → List Constituent
 constituentsThere none = []
 constituentsThere (some month) = month .constituents
 

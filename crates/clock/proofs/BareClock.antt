@@ -2,7 +2,7 @@
 use mathlib.Core.Bool.{Bool}
 use native.Mathlib.Omega.{arith}
 use Rattle.table.specs.declared.Table.{Table}
-use Rattle.turns.specs.inner.Lists.{InRange}
+use Rattle.month_prepared.specs.inner.Rows.{InRange}
 use Rattle.clock.specs.declared.Clock.{Clock}
 use Rattle.clock.specs.View.{Sound}
 use Rattle.clock.specs.inner.Posts.{BarePost}

@@ -14,7 +14,7 @@ use Rattle.table.specs.Table.{Frequency, noCards}
 use Rattle.table.specs.inner.View.{tableOf, listed, frequencyOf}
 use Rattle.table.specs.declared.Table.{Table}
 use Rattle.table.proofs.Rows.{listed-length, listed-at}
-use Rattle.turns.specs.inner.Lists.{InRange}
+use Rattle.month_prepared.specs.inner.Rows.{InRange}
 use Rattle.calls.proofs.settings.Tables.{frequencies-count}
 
 -- a table of no cards has none

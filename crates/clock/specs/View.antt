@@ -8,10 +8,10 @@ use Rattle.limits.specs.Limits.{mostMinutes, mostRecords}
 use Rattle.cosine.specs.Fixed.{IsTable}
 use Rattle.table.specs.inner.View.{tableOf}
 use Rattle.station.specs.inner.Station.{stationOf}
-use Rattle.month_prepared.specs.Prepared.{Constituent}
+use Rattle.month_prepared.specs.Prepared.{Constituent, Month}
 use Rattle.month_prepared.specs.inner.View.{constituentsFrom}
-use Rattle.turns.specs.inner.Lists.{InRange}
-use Rattle.calls.specs.State.{Month, State}
+use Rattle.month_prepared.specs.inner.Rows.{InRange}
+use Rattle.calls.specs.State.{State}
 use Rattle.calls.specs.inner.Flags.{stateOf}
 use Rattle.clock.specs.declared.Clock.{Clock}
 

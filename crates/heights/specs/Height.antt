@@ -4,7 +4,8 @@ use Prim.Native.Nat.{ℕ}
 use mathlib.Core.List.{List, [], _∷_}
 use lib.IntN.{ℤ, pos, _+ℤ_}
 use Rattle.angles.specs.Floor.{floorDiv}
-use Rattle.month_prepared.specs.Prepared.{Constituent}
+use Rattle.month_prepared.specs.Prepared.{Constituent, Month}
+use Rattle.month_prepared.specs.Months.{atOwner}
 use Rattle.heights.specs.Angle.{angleAt}
 use Rattle.heights.specs.Share.{share}
 
@@ -16,3 +17,7 @@ sumOfShares (c ∷ cs) minute = share (c .p) (c .q) (angleAt c minute) +ℤ sumO
 -- "the height is floor((sum of shares + 2,048)/4,096) tenths of a millimetre"
 unfoldable pub heightAt : List Constituent → ℕ → ℤ
 heightAt cs minute = floorDiv (sumOfShares cs minute +ℤ pos 2_048) 4_096
+
+-- 02, No. 1: "Each month uses its own weights": the height at a minute of months that follow one another
+abbrev pub heightOver : List Month → ℕ → ℤ
+heightOver months = atOwner heightAt months

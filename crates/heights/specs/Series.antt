@@ -1,16 +1,14 @@
--- 01, "Heights and turns": a series.
+-- 01, "Heights and turns": a series, for any height (a minute's).
 -- Assumes nothing.
 use Prim.Native.Nat.{ℕ, zero, suc, _+_, _*_}
 use mathlib.Core.List.{List, [], _∷_}
 use lib.IntN.{ℤ}
-use Rattle.month_prepared.specs.Prepared.{Constituent}
-use Rattle.heights.specs.Height.{heightAt}
 
 -- "a series' height n, from 0, at start + n × step": `left` heights from height n on
-unfoldable pub seriesFrom : List Constituent → ℕ → ℕ → ℕ → ℕ → List ℤ
-seriesFrom cs start step n zero = []
-seriesFrom cs start step n (suc left) = heightAt cs (start + n * step) ∷ seriesFrom cs start step (n + 1) left
+unfoldable pub seriesFrom : (ℕ → ℤ) → ℕ → ℕ → ℕ → ℕ → List ℤ
+seriesFrom height start step n zero = []
+seriesFrom height start step n (suc left) = height (start + n * step) ∷ seriesFrom height start step (n + 1) left
 
 -- "A series has a start, a step .., and one height for each lent place."
-abbrev pub seriesOf : List Constituent → ℕ → ℕ → ℕ → List ℤ
-seriesOf cs start step places = seriesFrom cs start step 0 places
+abbrev pub seriesOf : (ℕ → ℤ) → ℕ → ℕ → ℕ → List ℤ
+seriesOf height start step places = seriesFrom height start step 0 places

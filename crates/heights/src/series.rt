@@ -8,6 +8,8 @@ ghost use Rattle.limits.specs.Limits.{mostMinutes, mostRecords, mostStep};
 ghost use Rattle.angles.specs.Ticks.{turn};
 ghost use Rattle.cosine.specs.Fixed.{IsTable};
 ghost use Rattle.month_prepared.specs.inner.View.{constituentsFrom};
+ghost use Rattle.month_prepared.specs.inner.Rows.{IsRow};
+ghost use Rattle.heights.specs.Height.{heightAt};
 ghost use Rattle.heights.specs.Series.{seriesOf};
 ghost use Rattle.heights.specs.inner.Angles.{Angles, Advances, Below, MovedOn, HeightOf};
 use crate::minuteangle::ADVANCE;
@@ -20,13 +22,13 @@ use limits::RECORDS;
 
 // The angles of the first `count` constituents at a minute.
 fn angles_at<'a>(
-    arguments: &'a [u64; RECORDS],
+    arguments: &'a [u64],
     lags: &'a [u16; RECORDS],
     frequencies: &'a [u64; RECORDS],
     count: usize,
     minute: u64,
 ) -> [u64; RECORDS]
-    requires { ⌜ (count ≤ mostRecords) × (minute ≤ mostMinutes) ⌝ }
+    requires { ⌜ (count ≤ mostRecords) × ((minute ≤ mostMinutes) × (length (now arguments) ≡ mostRecords)) ⌝ }
     ensures { λ r. ⌜ Angles (now (arguments .entry)) (now (lags .entry)) (now (frequencies .entry)) count minute r ⌝ }
 {
     let mut angles = [0u64; RECORDS];
@@ -86,11 +88,12 @@ fn move_on(angles: &mut [u64; RECORDS], ticks: &[u64; RECORDS], count: usize)
 fn height_of<'a>(
     table: &'a [u32; ENTRIES],
     angles: &'a [u64; RECORDS],
-    ps: &'a [i32; RECORDS],
-    qs: &'a [i32; RECORDS],
+    ps: &'a [i32],
+    qs: &'a [i32],
     count: usize,
 ) -> i64
     requires { ⌜ IsTable (now table) × (count ≤ mostRecords) ⌝ }
+    requires { ⌜ (length (now ps) ≡ mostRecords) × (length (now qs) ≡ mostRecords) ⌝ }
     ensures { λ r. ⌜ HeightOf (now (angles .entry)) (now (ps .entry)) (now (qs .entry)) count r ⌝ }
     ensures { λ r. ⌜ natAbs r ≤ 2 ^ 28 ⌝ }
 {
@@ -106,18 +109,19 @@ fn height_of<'a>(
 // The heights at start, start + step, start + 2 × step and so on, one for each lent place.
 pub fn series<'a>(
     table: &'a [u32; ENTRIES],
-    arguments: &'a [u64; RECORDS],
+    arguments: &'a [u64],
     lags: &'a [u16; RECORDS],
     frequencies: &'a [u64; RECORDS],
-    ps: &'a [i32; RECORDS],
-    qs: &'a [i32; RECORDS],
+    ps: &'a [i32],
+    qs: &'a [i32],
     count: usize,
     start: u64,
     step: u64,
     out: &mut [i64],
 )
     requires { ⌜ IsTable (now table) × ((count ≤ mostRecords) × ((start ≤ mostMinutes) × (step ≤ mostStep))) ⌝ }
-    ensures { λ r. ⌜ now (out .exit) ≡ seriesOf (constituentsFrom (now (arguments .entry)) (now (lags .entry)) (now (frequencies .entry)) (now (ps .entry)) (now (qs .entry)) count) start step (length (now (out .entry))) ⌝ }
+    requires { ⌜ IsRow (now arguments) (now ps) (now qs) ⌝ }
+    ensures { λ r. ⌜ now (out .exit) ≡ seriesOf (heightAt (constituentsFrom (now (arguments .entry)) (now (lags .entry)) (now (frequencies .entry)) (now (ps .entry)) (now (qs .entry)) count)) start step (length (now (out .entry))) ⌝ }
 {
     let mut angles = angles_at(arguments, lags, frequencies, count, start);
     let ticks = advances(frequencies, count, step);

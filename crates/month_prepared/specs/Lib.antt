@@ -1,2 +1,3 @@
 pub mod Prepared
+pub mod Months
 pub mod inner

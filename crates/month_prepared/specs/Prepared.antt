@@ -1,5 +1,6 @@
--- A station's constituent in a prepared month, in document 01's terms.
+-- A prepared month and a station's constituents in it, in document 01's terms.
 use Prim.Native.Nat.{ℕ}
+use mathlib.Core.List.{List}
 use lib.IntN.{ℤ}
 
 pub record Constituent : Type 0 where
@@ -12,3 +13,8 @@ pub record Constituent : Type 0 where
   -- the weights P and Q
   pub p : ℤ
   pub q : ℤ
+
+-- a prepared month: its last minute, and the station's constituents in it, with V, P and Q
+pub record Month : Type 0 where
+  pub last : ℕ
+  pub constituents : List Constituent

@@ -5,7 +5,8 @@ use mathlib.Core.Bool.{Bool, true, false}
 use Rattle.refusals.specs.Outcome.{Outcome, answered}
 use Rattle.table.specs.Table.{Table}
 use Rattle.station.specs.Station.{Station}
-use Rattle.calls.specs.State.{Maybe, none, some, Month, State}
+use Rattle.month_prepared.specs.Prepared.{Month}
+use Rattle.calls.specs.State.{Maybe, none, some, State}
 use Rattle.calls.specs.Asked.{monthAsked, dateAsked, minutesAsked}
 
 -- what a flag says is there

@@ -28,7 +28,7 @@ pub record Writing (arguments lags frequencies : List ℕ) (ps qs : List ℤ) (c
   pub long : length out ≡ length out₀
   pub room : length angles ≡ mostRecords
   pub here : Angles arguments lags frequencies count (start + n * step) angles
-  pub left : sets out n (seriesFrom (constituentsFrom arguments lags frequencies ps qs count) start step n (length out₀ - n)) ≡ sets out₀ 0 (seriesOf (constituentsFrom arguments lags frequencies ps qs count) start step (length out₀))
+  pub left : sets out n (seriesFrom (heightAt (constituentsFrom arguments lags frequencies ps qs count)) start step n (length out₀ - n)) ≡ sets out₀ 0 (seriesOf (heightAt (constituentsFrom arguments lags frequencies ps qs count)) start step (length out₀))
 
 abbrev Inv-loop : tie.InvT-loop
 Inv-loop table arguments lags frequencies ps qs count start step out₀ angles₀ ticks n₀ out angles n =
@@ -53,7 +53,7 @@ loop-holds c =
       long = refl;
       room = search needs;
       here = subst (λ (m : ℕ). Angles (a .arguments .now) (a .lags .now) (a .frequencies .now) (a .count) m (r .result)) (sym e) (r .ensures);
-      left = ap (λ (n : ℕ). sets (a .out .now) 0 (seriesFrom (constituentsFrom (a .arguments .now) (a .lags .now) (a .frequencies .now) (a .ps .now) (a .qs .now) (a .count)) (a .start) (a .step) 0 n)) (sub-zero (length (a .out .now)));
+      left = ap (λ (n : ℕ). sets (a .out .now) 0 (seriesFrom (heightAt (constituentsFrom (a .arguments .now) (a .lags .now) (a .frequencies .now) (a .ps .now) (a .qs .now) (a .count))) (a .start) (a .step) 0 n)) (sub-zero (length (a .out .now)));
     }
 
 height-of-requires : tie.Need-height-of-requires Inv-loop μ-loop
