@@ -16,7 +16,7 @@ pub struct Months {
 }
 
 // The month, from 0, that owns a minute, and the minute in it.
-pub struct Owner {
+pub struct InMonth {
     pub month: usize,
     pub minute: u64,
 }
@@ -33,7 +33,7 @@ pub fn one_month(count: usize, last: u64) -> Months
 }
 
 // The owner of a minute: midnight at a month's end belongs to the month that begins, the last minute of all to the last month.
-pub fn owner(months: Months, minute: u64) -> Owner
+pub fn owner(months: Months, minute: u64) -> InMonth
     requires { ⌜ Following months × (minute ≤ lastOf months) ⌝ }
     ensures { λ r. ⌜ OwnerPost months minute r ⌝ }
 {
@@ -43,7 +43,7 @@ pub fn owner(months: Months, minute: u64) -> Owner
         left = left - months.lasts[month];
         month = month + 1;
     }
-    Owner {
+    InMonth {
         month,
         minute: left,
     }

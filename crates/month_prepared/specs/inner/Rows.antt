@@ -9,14 +9,14 @@ use Rattle.limits.specs.Limits.{mostRecords, mostMinutes, mostFrequency}
 use Rattle.month_prepared.specs.Prepared.{Month}
 use Rattle.month_prepared.specs.Months.{Owned, ownerOf}
 use Rattle.month_prepared.specs.declared.months.Months.{Months}
-use Rattle.month_prepared.specs.declared.months.Owner.{Owner}
+use Rattle.month_prepared.specs.declared.months.InMonth.{InMonth}
 use Rattle.month_prepared.specs.inner.View.{constituentsFrom}
 
 -- a month's arguments, ps and qs have a place for each record
-pub record IsRow (arguments : List ℕ) (ps qs : List ℤ) : Type 0 where
-  pub arguments : length arguments ≡ mostRecords
-  pub ps : length ps ≡ mostRecords
-  pub qs : length qs ≡ mostRecords
+pub record IsRow (vs : List ℕ) (ps qs : List ℤ) : Type 0 where
+  pub arguments : length vs ≡ mostRecords
+  pub cosines : length ps ≡ mostRecords
+  pub sines : length qs ≡ mostRecords
 
 -- "cycles an hour, 0 to 0.4999999999": the first `count` frequencies are in the range of the cards
 abbrev pub InRange : ℕ → List ℕ → Type 0
@@ -61,14 +61,14 @@ pub record Following (months : Months) : Type 0 where
   pub lasts : (m : ℕ) → m < months .many → getD (months .lasts) m 0 ≤ mostMinutes
 
 -- the arrays have a row for each month
-pub record HasRows (months : Months) (arguments : List ℕ) (ps qs : List ℤ) : Type 0 where
-  pub arguments : months .many * mostRecords ≤ length arguments
-  pub ps : months .many * mostRecords ≤ length ps
-  pub qs : months .many * mostRecords ≤ length qs
+pub record HasRows (months : Months) (vs : List ℕ) (ps qs : List ℤ) : Type 0 where
+  pub arguments : months .many * mostRecords ≤ length vs
+  pub cosines : months .many * mostRecords ≤ length ps
+  pub sines : months .many * mostRecords ≤ length qs
 
 -- the owner of a minute, whatever stands in the rows
-pub record OwnerPost (months : Months) (minute : ℕ) (r : Owner) : Type 0 where
-  pub month : r .month < months .many
-  pub minute : r .minute ≤ mostMinutes
+pub record OwnerPost (months : Months) (minute : ℕ) (r : InMonth) : Type 0 where
+  pub there : r .month < months .many
+  pub within : r .minute ≤ mostMinutes
   pub owns : (arguments lags frequencies : List ℕ) (ps qs : List ℤ)
       → ownerOf (monthsIn arguments lags frequencies ps qs months) minute ≡ record { month = monthAt arguments lags frequencies ps qs months (r .month); minute = r .minute }
