@@ -1,77 +1,69 @@
+-- `heights::months::month_series` meets its contract: the parts that are lent are the month's rows.
 use borrow.Author.Needs.{needs}
+use mathlib.Core.Path.{ap, _∙_}
+use mathlib.Core.List.{List}
+use lib.ListN.{length}
+use Rattle.month_prepared.specs.Prepared.{Constituent}
+use Rattle.heights.specs.Height.{heightAt}
+use Rattle.heights.specs.Series.{seriesOf}
+use Rattle.heights.proofs.months.Rows.{is-row, lent-month}
 use Rattle.heights.proofs.months.month_series.Statement.{statement}
 use Rattle.heights.proofs.months.month_series.Tie as tie
-use Rattle.heights.proofs.months.month_series.Reads as reads
-use Rattle.heights.proofs.months.month_series.Lts as lts
-use Rattle.heights.proofs.series.series.Reads as series-reads
 
--- src/months.rt:77:16
 mul-from : tie.Need-mul-from
 mul-from c = search needs
 
--- src/months.rt:78:14
 add-to : tie.Need-add-to
 add-to c = search needs
 
--- src/months.rt:81:9
 mul-series : tie.Need-mul-series
 mul-series c = search needs
 
--- src/months.rt:81:9
 sub-series : tie.Need-sub-series
 sub-series c = search needs
 
--- src/months.rt:81:9
 part-series-start : tie.Need-part-series-start
 part-series-start c = search needs
 
--- src/months.rt:81:9
 part-series-end : tie.Need-part-series-end
 part-series-end c = search needs
 
--- src/months.rt:84:9
 mul-series-2 : tie.Need-mul-series-2
 mul-series-2 c = search needs
 
--- src/months.rt:84:9
 sub-series-2 : tie.Need-sub-series-2
 sub-series-2 c = search needs
 
--- src/months.rt:84:9
 part-series-start-2 : tie.Need-part-series-start-2
 part-series-start-2 c = search needs
 
--- src/months.rt:84:9
 part-series-end-2 : tie.Need-part-series-end-2
 part-series-end-2 c = search needs
 
--- src/months.rt:85:9
 mul-series-3 : tie.Need-mul-series-3
 mul-series-3 c = search needs
 
--- src/months.rt:85:9
 sub-series-3 : tie.Need-sub-series-3
 sub-series-3 c = search needs
 
--- src/months.rt:85:9
 part-series-start-3 : tie.Need-part-series-start-3
 part-series-start-3 c = search needs
 
--- src/months.rt:85:9
 part-series-end-3 : tie.Need-part-series-end-3
 part-series-end-3 c = search needs
 
--- src/months.rt:79:5
 series-requires : tie.Need-series-requires
-series-requires c κs = ?
+series-requires c κs =
+    let pre = c .before .before .before .before .before .before .pre in let own = c .before .before .before .before .before .before .args .own in
+    ((pre .0 .0, (pre .0 .1 .0 .count, (pre .1 .0 .within, pre .1 .1))), is-row (pre .0 .1 .1) (own .month) (pre .1 .0 .there))
 
--- src/months.rt:61:1
 same-length : tie.Need-same-length
 same-length c = search needs
 
--- src/months.rt:61:1
 returns : tie.Need-returns
-returns c = ?
+returns c =
+    let a = c .before .before .before .before .before .before .before .before .args in
+    c .before .series .ensures ∙ ap (λ (cs : List Constituent). seriesOf (heightAt cs) (a .own .minute) (a .step) (length (a .out .now))) (lent-month (a .own .month) (a .arguments .now) (a .lags .now) (a .frequencies .now) (a .ps .now) (a .qs .now) (a .months))
 
 pub month-series-spec : {M : Type 1} → statement M
 month-series-spec =
