@@ -8,10 +8,8 @@ use mathlib.Core.Path.{_≡_}
 use mathlib.Core.List.{List}
 use lib.IntN.{ℤ}
 use lib.ListN.{getD}
-use Rattle.limits.specs.Limits.{mostMinutes}
 use Rattle.month_prepared.specs.declared.months.Months.{Months}
-use Rattle.month_prepared.specs.Months.{Owned, ownerOf}
-use Rattle.month_prepared.specs.inner.Rows.{Following, OwnerPost, lastOf, minutesAfter, monthAt, monthsIn}
+use Rattle.month_prepared.specs.inner.Rows.{Following, OwnerPost, lastOf, minutesAfter}
 use Rattle.month_prepared.proofs.Owners.{minutes-next, owner-at}
 use Rattle.month_prepared.proofs.months.owner.Statement.{statement}
 use Rattle.month_prepared.proofs.months.owner.Tie as tie
