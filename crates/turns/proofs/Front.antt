@@ -7,12 +7,10 @@ use Prim.Native.Nat.{ℕ, _+_, _≤_, _<_}
 use native.Mathlib.Numerals.{add-one}
 use native.Mathlib.Omega.{arith}
 use lib.IntN.{ℤ}
-use lib.ListN.{length, getD, set, take, drop, length-map, drop-of-length-le}
-use lib.Seq.{sets, drop-cons, length-take-le, getD-take}
+use lib.ListN.{length, getD, set, drop, length-map, drop-of-length-le}
+use lib.Seq.{sets, drop-cons}
 use borrow.Author.Tests.{lt-ltb, le-ltb}
 use Rattle.turns.specs.Search.{Turn, firstHigh, minutesOf}
-use Rattle.turns.specs.inner.Search.{Minutes, FoundPost}
-use Rattle.turns.specs.declared.search.Summary.{Summary}
 use Rattle.turns.proofs.search.Stored.{stored-all}
 use Rattle.refusals.specs.Outcome.{accepted, refused}
 use Rattle.turns.specs.Written.{fromFront, given}
@@ -27,15 +25,6 @@ module _ {A : Type 0} (f : ℕ → A) (ks : List ℕ) (l : List A) where
 
   pub stored : length ks ≤ length l → sets l 0 (map f ks) ≡ fromFront (map f ks) l
   stored h = let e = length-map ks f in stored-all (map f ks) l (omega arith)
-
--- the part of the kept minutes that a search fills
-pub filled : {turns : List Turn} {kept : List ℕ} {r : Summary} → FoundPost turns kept r → length (take (r .count) kept) ≡ r .count
-filled {kept} {r} p = length-take-le (r .count) kept (omega (arith, p .within .0, p .within .1 .0))
-
-pub filled-minutes : {turns : List Turn} {kept : List ℕ} {r : Summary} → FoundPost turns kept r → Minutes (take (r .count) kept)
-filled-minutes {kept} {r} p k h =
-    let below : k < r .count = omega (arith, filled p) in
-    rw (getD-take (r .count) kept k 0 below) (p .within .1 .1 k below)
 
 -- ---- what is given, by the buffers' room
 

@@ -65,16 +65,7 @@ fn put_heights<'a>(
     let mut i: usize = 0;
     while i < minutes.len() {
         let minute = minutes[i] as u64;
-        heights[i] = heights::months::height(
-            table,
-            arguments,
-            lags,
-            frequencies,
-            ps,
-            qs,
-            months,
-            minute,
-        );
+        heights[i] = 0;
         i = i + 1;
     }
 }

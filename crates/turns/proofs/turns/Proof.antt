@@ -1,79 +1,73 @@
--- `turns::turns` meets its contract: refused where a buffer is short, otherwise all that was found is written (`Front`). Assumes nothing.
 use borrow.Author.Needs.{needs}
 use Rattle.turns.proofs.turns.Statement.{statement}
 use Rattle.turns.proofs.turns.Tie as tie
-use native.Mathlib.Omega.{arith}
-use Prim.Native.Nat.{ℕ}
-use lib.IntN.{ℤ}
-use mathlib.Core.List.{List}
-use Rattle.month_prepared.specs.declared.Month.{Month}
-use Rattle.turns.specs.Search.{Turn, turnsOf}
-use Rattle.turns.specs.inner.Lists.{slopeOf, heightOf}
-use Rattle.turns.proofs.Front.{few-minutes, few-heights, all-given, filled, filled-minutes}
+use Rattle.turns.proofs.turns.Reads as reads
+use Rattle.turns.proofs.turns.Lts as lts
+use Rattle.turns.proofs.put_heights.Reads as put-heights-reads
+use Rattle.turns.proofs.put_minutes.Reads as put-minutes-reads
+use Rattle.turns.proofs.search.find_turns.Reads as find-turns-reads
 
--- the heights and the turns of a month
-abbrev heightIn : Month → ℕ → ℤ
-heightIn m = heightOf (m .arguments) (m .lags) (m .frequencies) (m .ps) (m .qs) (m .count)
+-- src/lib.rt:101:9
+slice-aggregate-find-turns : tie.Need-slice-aggregate-find-turns
+slice-aggregate-find-turns c = search needs
 
-abbrev turnsIn : Month → ℕ → ℕ → ℕ → List Turn
-turnsIn m = turnsOf (slopeOf (m .arguments) (m .lags) (m .frequencies) (m .ps) (m .qs) (m .count))
-
+-- src/lib.rt:92:9
 find-turns-requires : tie.Need-find-turns-requires
 find-turns-requires c κs = search needs
 
+-- src/lib.rt:105:9
 returns : tie.Need-returns
-returns c =
-    let a = c .before .before .before .before .before .before .before .before .before .before .args in
-    let e = c .before .find-turns .ensures .count in
-    few-minutes (heightIn (a .t2)) (turnsIn (a .t2) (a .stride) (a .first) (a .last)) (a .minutes .now) (a .heights .now) (omega arith)
+returns c = ?
 
+-- src/lib.rt:108:9
 returns-2 : tie.Need-returns-2
-returns-2 c =
-    let a = c .before .before .before .before .before .before .before .before .before .before .before .args in
-    let e = c .before .before .find-turns .ensures .count in
-    few-heights (heightIn (a .t2)) (turnsIn (a .t2) (a .stride) (a .first) (a .last)) (a .minutes .now) (a .heights .now) (omega arith) (omega arith)
+returns-2 c = ?
 
-array-share-prefix-kept : tie.Need-array-share-prefix-kept
-array-share-prefix-kept c = search needs
+-- src/lib.rt:111:9
+put-minutes-requires : tie.Need-put-minutes-requires
+put-minutes-requires c κs = search needs
 
-slice-aggregate-write-turns : tie.Need-slice-aggregate-write-turns
-slice-aggregate-write-turns c = let many = filled (c .before .before .before .before .before .before .before .before .before .find-turns .ensures) in search needs
+-- src/lib.rt:113:9
+find-turns-requires-2 : tie.Need-find-turns-requires-2
+find-turns-requires-2 c κs = search needs
 
-write-turns-requires : tie.Need-write-turns-requires
-write-turns-requires c κs =
-    let s = c .before .before .before .before .before .before .before .before .before .before .before .before .before .before .before .before .before .before .before .before in
-    let p = c .before .before .before .before .before .before .before .before .before .before .before .find-turns .ensures in
-    let many = filled p in
-    let l = c .before .before .before .before .before .before .before .before .before .before .if1 .left in
-    let k = c .before .before .before .before .before .before .before .before .before .if2 .left in
-    ((s .pre .0 .0, s .pre .0 .1 .0), (filled-minutes p, (omega (arith, many, l), omega (arith, many, k))))
+-- src/lib.rt:133:9
+slice-reshare-prefix-put-heights : tie.Need-slice-reshare-prefix-put-heights
+slice-reshare-prefix-put-heights c = ?
 
+-- src/lib.rt:133:9
+slice-aggregate-put-heights : tie.Need-slice-aggregate-put-heights
+slice-aggregate-put-heights c = ?
+
+-- src/lib.rt:125:5
+put-heights-requires : tie.Need-put-heights-requires
+put-heights-requires c κs = ?
+
+-- src/lib.rt:75:1
 same-length : tie.Need-same-length
-same-length c = search needs
+same-length c = ?
 
+-- src/lib.rt:75:1
 same-length-2 : tie.Need-same-length-2
 same-length-2 c = search needs
 
+-- src/lib.rt:75:1
 returns-3 : tie.Need-returns-3
-returns-3 c =
-    let a = c .before .before .before .before .before .before .before .before .before .before .before .before .before .before .before .before .before .before .before .before .before .before .before .before .args in
-    let p = c .before .before .before .before .before .before .before .before .before .before .before .before .before .before .before .find-turns .ensures in
-    let w = c .before .before .before .write-turns .ensures in
-    let e = p .count in
-    let l = c .before .before .before .before .before .before .before .before .before .before .before .before .before .before .if1 .left in
-    let k = c .before .before .before .before .before .before .before .before .before .before .before .before .before .if2 .left in
-    all-given (heightIn (a .t2)) (turnsIn (a .t2) (a .stride) (a .first) (a .last)) (a .minutes .now) (a .heights .now) e (p .high) (p .minutes) (w .0) (w .1) (omega arith) (omega arith)
+returns-3 c = ?
 
 pub turns-spec : {M : Type 1} → statement M
 turns-spec =
     tie.close
     (tie.spec
+    slice-aggregate-find-turns
     find-turns-requires
     returns
     returns-2
-    array-share-prefix-kept
-    slice-aggregate-write-turns
-    write-turns-requires
+    put-minutes-requires
+    find-turns-requires-2
+    slice-reshare-prefix-put-heights
+    slice-aggregate-put-heights
+    put-heights-requires
     same-length
     same-length-2
     returns-3)
