@@ -3,7 +3,7 @@
 ghost use mathlib.Core.Path.{_≡_};
 ghost use mathlib.Core.List.{map};
 ghost use Prim.Native.Nat.{_≤_};
-ghost use lib.ListN.{length, take};
+ghost use lib.ListN.{length};
 ghost use Rattle.month_prepared.specs.inner.Rows.{lastOf};
 ghost use Rattle.turns.specs.inner.Lists.{Rows, slopesIn, heightsIn};
 ghost use Rattle.turns.specs.Search.{turnsOf};
@@ -34,19 +34,19 @@ pub enum Searched {
     TooMany,
 }
 
-// Puts the first `many` kept minutes at the front of the lent places.
-fn put_minutes(kept: &[u32; KEPT], many: usize, minutes: &mut [u32])
-    requires { ⌜ (many ≤ 4_096) × (many ≤ length (now minutes)) ⌝ }
-    ensures { λ r. ⌜ now (minutes .exit) ≡ fromFront (take many (now (kept .entry))) (now (minutes .entry)) ⌝ }
+// Puts the kept minutes at the front of the lent places.
+fn put_minutes(kept: &[u32], minutes: &mut [u32])
+    requires { ⌜ length (now kept) ≤ length (now minutes) ⌝ }
+    ensures { λ r. ⌜ now (minutes .exit) ≡ fromFront (now (kept .entry)) (now (minutes .entry)) ⌝ }
 {
     let mut i: usize = 0;
-    while i < many {
+    while i < kept.len() {
         minutes[i] = kept[i];
         i = i + 1;
     }
 }
 
-// Puts the heights at the first `many` minutes at the front of the lent places.
+// Puts the heights at the minutes at the front of the lent places.
 fn put_heights<'a>(
     table: &'a [u32; ENTRIES],
     arguments: &'a [u64],
@@ -65,7 +65,16 @@ fn put_heights<'a>(
     let mut i: usize = 0;
     while i < minutes.len() {
         let minute = minutes[i] as u64;
-        heights[i] = 0;
+        heights[i] = heights::months::height(
+            table,
+            arguments,
+            lags,
+            frequencies,
+            ps,
+            qs,
+            months,
+            minute,
+        );
         i = i + 1;
     }
 }
@@ -108,7 +117,7 @@ pub fn turns<'a>(
         return Searched::TooMany;
     }
     if many <= KEPT {
-        put_minutes(&kept, many, minutes);
+        put_minutes(&kept[..many], minutes);
     } else {
         search::find_turns(
             table,

@@ -85,17 +85,17 @@ module _ {slope : ℕ → ℤ} {stride first last : ℕ} where
       pub left-fewer : length (onwards slope stride last s) < length (onwards slope stride last next)
       left-fewer = let m = ap length one-more in omega arith
 
-      pub left-more : Left slope stride first last kept₀ (set kept n (next .turn)) s (n + 1)
-      left-more =
+      pub left-more : {kept' : List ℕ} → kept' ≡ set kept n (next .turn) → Left slope stride first last kept₀ kept' s (n + 1)
+      left-more is =
           let m = ap length one-more in
           let all = l .count in
           record {
             turn = p .turn;
             later = p .later;
             there = p .there;
-            room = length-set kept n (next .turn) ∙ l .room;
+            room = ap length is ∙ (length-set kept n (next .turn) ∙ l .room);
             count = omega arith;
-            minutes = rw add-one (rw one-more at (l .minutes));
+            minutes = rw (is, add-one) (rw one-more at (l .minutes));
           }
 
     pub left-none : {high : Bool} → next .found ≡ false → high ≡ firstHigh (turnsOf slope stride first last) → FoundPost (turnsOf slope stride first last) kept₀ kept (record { count = n; high = high })

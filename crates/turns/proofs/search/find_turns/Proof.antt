@@ -11,6 +11,10 @@ use Rattle.turns.specs.inner.Lists.{slopesIn}
 use Rattle.turns.specs.inner.Search.{onwards}
 use Rattle.turns.proofs.bisection.Halves.{kept, kept-result}
 use Rattle.turns.proofs.search.Kept.{Left, left-first, left-room, left-fewer, left-more, left-none}
+use mathlib.Core.Path.{sym, _∙_}
+use mathlib.Core.Logic.{⊎-elim}
+use native.Mathlib.Omega.{arith}
+use lib.Seq.{set-out}
 
 abbrev Inv-loop : tie.InvT-loop
 Inv-loop table arguments lags frequencies ps qs months reach kept₀ first here next₀ high found₀ kept next found =
@@ -62,7 +66,10 @@ loop-less : tie.Need-loop-less Inv-loop μ-loop
 loop-less c = left-fewer (c .before .before .before .before .loop .inv) (c .before .before .before .loop-test .taken) (c .next-turn2 .ensures)
 
 loop-again : tie.Need-loop-again Inv-loop μ-loop
-loop-again c = ?
+loop-again c =
+    let l = c .before .before .before .before .loop in
+    let kept' = ⊎-elim (λ w. w .2) (λ w. w .1 ∙ sym (set-out (l .kept) (l .found) (l .next .turn) (omega arith))) (c .before .before .if1 .came) in
+    left-more (l .inv) (c .before .before .before .loop-test .taken) (c .next-turn2 .ensures) kept'
 
 same-length : tie.Need-same-length Inv-loop μ-loop
 same-length c = search needs
