@@ -40,6 +40,9 @@ module _ {turns : List Turn} {before after : List ℕ} {r : Summary} (p : FoundP
   pub kept-front : take (r .count) after ≡ minutesOf turns
   kept-front = ap (λ (l : List ℕ). take (r .count) l) all-kept ∙ taken-from-front (minutesOf turns) before many
 
+  pub kept-length : length (take (r .count) after) ≡ r .count
+  kept-length = ap length kept-front ∙ many
+
 -- the minutes of turns at the front of others
 module _ (turns : List Turn) (minutes : List ℕ) {after : List ℕ} {n : ℕ} (is : after ≡ fromFront (minutesOf turns) minutes) (all : n ≡ length turns) where
   many' : length (minutesOf turns) ≡ n
@@ -47,6 +50,9 @@ module _ (turns : List Turn) (minutes : List ℕ) {after : List ℕ} {n : ℕ} (
 
   pub front-minutes : take n after ≡ minutesOf turns
   front-minutes = ap (λ (l : List ℕ). take n l) is ∙ taken-from-front (minutesOf turns) minutes many'
+
+  pub front-count : length (take n after) ≡ n
+  front-count = ap length front-minutes ∙ many'
 
   pub front-length : n ≤ length minutes → length after ≡ length minutes
   front-length h =
@@ -68,5 +74,5 @@ module _ (height : ℕ → ℤ) (turns : List Turn) (minutes : List ℕ) (height
   unfolding given
   room-for-all l k = simp (le-ltb _ _ l, le-ltb _ _ k)
 
-  pub all-given : {n : ℕ} {high : Bool} {ks ms : List ℕ} {hs : List ℤ} → n ≡ length turns → high ≡ firstHigh turns → ks ≡ minutesOf turns → ms ≡ fromFront ks minutes → hs ≡ fromFront (map height ks) heights → length turns ≤ length minutes → length turns ≤ length heights → record { returned = accepted (record { count = n; high = high }); minutes = ms; heights = hs } ≡ given height turns minutes heights
+  pub all-given : {n : ℕ} {high : Bool} {ks ms : List ℕ} {hs : List ℤ} → n ≡ length turns → high ≡ firstHigh turns → ks ≡ minutesOf turns → ms ≡ fromFront (minutesOf turns) minutes → hs ≡ fromFront (map height ks) heights → length turns ≤ length minutes → length turns ≤ length heights → record { returned = accepted (record { count = n; high = high }); minutes = ms; heights = hs } ≡ given height turns minutes heights
   all-given en eh ek em es l k = rw (en, eh, em, es, ek) (room-for-all l k)

@@ -18,11 +18,11 @@ mod search; // strides and turns
 mod tides; // the kind of tides
 pub mod strides; // a station's stride
 
-pub use search::Reach;
 use crate::search::Summary;
 use cosine::ENTRIES;
 use limits::RECORDS;
 use month_prepared::months::Months;
+pub use search::Reach;
 
 // How many turns are kept while they are counted. (A year of two high and two low waters a day has 1,411; one with more than these is
 // searched a second time.)

@@ -72,7 +72,7 @@ returns c =
     let a = s .args in
     let height = heightsIn (a .arguments .now) (a .lags .now) (a .frequencies .now) (a .ps .now) (a .qs .now) (a .months) in
     sym (store-none height (a .minutes .now) (l .heights) (l .i) (c .loop-test .left))
-        ∙ (l .inv .1 .1 ∙ stored height (a .minutes .now) (a .heights .now) (s .pre .1 .1))
+    ∙ (l .inv .1 .1 ∙ stored height (a .minutes .now) (a .heights .now) (s .pre .1 .1))
 
 pub put-heights-spec : {M : Type 1} → statement M
 put-heights-spec =

@@ -53,7 +53,7 @@ returns c =
     let l = c .before .loop in
     let a = c .before .before .args in
     sym (store-none (λ (m : ℕ). m) (a .kept .now) (l .minutes) (l .i) (c .loop-test .left))
-        ∙ (l .inv .1 .1 ∙ (stored (λ (m : ℕ). m) (a .kept .now) (a .minutes .now) (c .before .before .pre) ∙ simp map-id))
+    ∙ (l .inv .1 .1 ∙ (stored (λ (m : ℕ). m) (a .kept .now) (a .minutes .now) (c .before .before .pre) ∙ simp map-id))
 
 pub put-minutes-spec : {M : Type 1} → statement M
 put-minutes-spec =

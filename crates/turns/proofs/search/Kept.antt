@@ -5,6 +5,7 @@ use mathlib.Core.Path.{_≡_, refl, sym, ap, _∙_}
 use mathlib.Core.Bool.{Bool, true, false}
 use mathlib.Core.List.{List, [], _∷_}
 use Prim.Native.Nat.{ℕ, zero, suc, _+_, _-_, _≤_, _<_}
+use native.Mathlib.Nat.{le-trans}
 use native.Mathlib.Numerals.{add-one}
 use native.Mathlib.Omega.{arith}
 use lib.Dec.{ltb}
@@ -18,7 +19,7 @@ use Rattle.turns.specs.Cuts.{earlierEnd, laterEnd}
 use Rattle.turns.proofs.bisection.Cuts.{by-test, end-within}
 use Rattle.turns.specs.Search.{Turn, turnIn, turnsFrom, turnsOf}
 use Rattle.turns.specs.Search.{firstHigh, minutesOf}
-use Rattle.turns.specs.inner.Search.{NextPost, FoundPost, onwards}
+use Rattle.turns.specs.inner.Search.{NextPost, FoundPost, Upto, onwards}
 use Rattle.turns.specs.declared.search.Next.{Next}
 use Rattle.turns.proofs.search.Strides.{smaller-within, turns-few}
 use Rattle.turns.proofs.search.Stored.{stored-in-front}
@@ -40,8 +41,8 @@ module _ (slope : ℕ → ℤ) (stride : ℕ) (some : 0 < stride) (last : ℕ) w
       let one = smaller-within slope last (earlierEnd slope minute stride) (omega arith) in
       by-test (λ ts. getD (minutesOf ts) k 0 ≤ last) (differ (slope minute) (slope (minute + stride))) (turnIn slope minute stride ∷ turnsFrom slope stride last n (laterEnd slope minute stride)) (turnsFrom slope stride last n (minute + stride)) (λ d. cons-within (turnIn slope minute stride .minute) (minutesOf (turnsFrom slope stride last n (laterEnd slope minute stride))) one (within-from n (laterEnd slope minute stride)) k) (λ d. within-from n (minute + stride) k))
 
-  pub minutes-within : (minute k : ℕ) → getD (minutesOf (turnsOf slope stride minute last)) k 0 ≤ last
-  minutes-within minute k = within-from (last - minute) minute k
+  pub minutes-upto : (minute : ℕ) {end : ℕ} {ks : List ℕ} → last ≤ end → ks ≡ minutesOf (turnsOf slope stride minute last) → Upto end ks
+  minutes-upto minute h e k l = rw e (le-trans (within-from (last - minute) minute k) h)
 
 -- ---- while turns are left: `next` is known, and `n` are kept in a list that was `kept₀`
 
