@@ -1,0 +1,2 @@
+-- The months that are done while a year is prepared: one more, all twelve, or the first that is refused. Each month's row is what was put
+-- (`Put`), and one row of lags and frequencies serves every month (`Recorded`).

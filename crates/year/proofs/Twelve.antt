@@ -1,0 +1,38 @@
+-- The months of a year from a month on: all of them where each is accepted, and the refusal of the first that is refused. By recursion on the months.
+use mathlib.Core.Path.{_≡_, refl}
+use mathlib.Core.List.{List, [], _∷_}
+use Prim.Native.Nat.{ℕ, zero, suc, _+_, _<_}
+use native.Mathlib.Omega.{arith}
+use lib.IntN.{ℤ}
+use lib.ListN.{getD}
+use Rattle.refusals.specs.Outcome.{accepted, refused}
+use Rattle.calendar.specs.Calendar.{monthMinutes, monthsAYear}
+use Rattle.table.specs.Table.{Table}
+use Rattle.station.specs.Station.{Station}
+use Rattle.month_prepared.specs.Prepared.{Constituent}
+use Rattle.month_prepared.specs.declared.months.Months.{Months}
+use Rattle.month_prepared.specs.inner.Rows.{monthAt, monthsAfter}
+use Rattle.month.specs.Month.{monthOf}
+use Rattle.year.specs.Year.{monthsFrom}
+
+module _ (t : Table) (s : Station) (year : ℕ) where
+  pub months-ready : (vs lags fs : List ℕ) (ps qs : List ℤ) (months : Months)
+      → ((m : ℕ) → m < monthsAYear → monthOf t s year (m + 1) ≡ accepted (monthAt vs lags fs ps qs months m .constituents))
+      → ((m : ℕ) → m < monthsAYear → getD (months .lasts) m 0 ≡ monthMinutes year (m + 1))
+      → (m left : ℕ) → m + left ≡ monthsAYear → monthsFrom t s year (m + 1) left ≡ accepted (monthsAfter vs lags fs ps qs months m left)
+  unfolding monthsFrom monthsAfter
+  months-ready vs lags fs ps qs months ready lasts m zero e = refl
+  months-ready vs lags fs ps qs months ready lasts m (suc left) e =
+      rw (ready m (omega arith), months-ready vs lags fs ps qs months ready lasts (m + 1) left (omega arith), lasts m (omega arith))
+
+  -- `before` months are accepted, the next is not
+  pub months-refused : (number place : ℕ) (cs : ℕ → List Constituent) (m before left : ℕ)
+      → ((j : ℕ) → j < before → monthOf t s year (m + j) ≡ accepted (cs (m + j)))
+      → monthOf t s year (m + before) ≡ refused number place → before < left → monthsFrom t s year m left ≡ refused number place
+  unfolding monthsFrom
+  months-refused number place cs m before zero ready e h = absurd (omega arith)
+  months-refused number place cs m zero (suc left) ready e h = let same : m + 0 ≡ m = omega arith in rw (rw same at e)
+  months-refused number place cs m (suc before) (suc left) ready e h =
+      let same : m + 0 ≡ m = omega arith in
+      let next : m + suc before ≡ m + 1 + before = omega arith in
+      rw (rw same at (ready 0 (omega arith)), months-refused number place cs (m + 1) before left (λ j l. let later : m + 1 + j ≡ m + suc j = omega arith in rw later (ready (suc j) (omega arith))) (rw next at e) (omega arith))
