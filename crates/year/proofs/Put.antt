@@ -1,6 +1,6 @@
 -- A row put into its place: one more number of it while there are any; then row m is what was put, and the rows before it stand.
 -- By the laws of a paste. Assumes nothing.
-use mathlib.Core.Path.{_≡_, sym, ap, _∙_}
+use mathlib.Core.Path.{_≡_, _∙_}
 use mathlib.Core.List.{List, [], _∷_, _++_, append-assoc}
 use Prim.Native.Nat.{ℕ, zero, suc, _+_, _*_, _≤_, _<_}
 use native.Mathlib.Numerals.{add-one}
@@ -10,6 +10,7 @@ use lib.Seq.{paste, paste-suc, length-paste, length-take-le, take-append-le, tak
 use Rattle.limits.specs.Limits.{mostRecords}
 use Rattle.calendar.specs.Calendar.{monthsAYear}
 use Rattle.month_prepared.specs.inner.Rows.{rowAt}
+use Rattle.year.specs.inner.Rows.{RowInto}
 
 module _ {A : Type 0} where
   -- a part of the front of a list
@@ -19,12 +20,12 @@ module _ {A : Type 0} where
   part-of-front (suc i) n (suc at) [] ys h l = absurd (omega arith)
   part-of-front (suc i) n (suc at) (x ∷ xs) ys h l = part-of-front i n at xs ys (omega arith) (omega arith)
 
-  module _ (rows : List A) (m : ℕ) (row : List A) (here : m < monthsAYear) (long : length rows ≡ monthsAYear * mostRecords) (whole : length row ≡ mostRecords) where
+  module _ (row : List A) (m : ℕ) (rows : List A) (fits : RowInto row m rows) where
     pub put-more : (k : ℕ) (none : A) → k < mostRecords → set (paste rows (m * mostRecords) row k) (m * mostRecords + k) (getD row k none) ≡ paste rows (m * mostRecords) row (k + 1)
     put-more k none h = rw (add-one k) (paste-suc rows (m * mostRecords) row k none (omega arith) (omega arith))
 
-    pub put-length : (k : ℕ) → k ≤ mostRecords → length (paste rows (m * mostRecords) row k) ≡ monthsAYear * mostRecords
-    put-length k h = length-paste rows (m * mostRecords) row k (omega arith) (omega arith) ∙ long
+    pub put-length : length (paste rows (m * mostRecords) row mostRecords) ≡ monthsAYear * mostRecords
+    put-length = length-paste rows (m * mostRecords) row mostRecords (omega arith) (omega arith) ∙ fits .long
 
     pub row-put : rowAt m (paste rows (m * mostRecords) row mostRecords) ≡ row
     row-put =

@@ -11,9 +11,14 @@ use Rattle.table.specs.Table.{Table}
 use Rattle.station.specs.Station.{Station}
 use Rattle.month_prepared.specs.Prepared.{Constituent}
 use Rattle.month_prepared.specs.declared.months.Months.{Months}
-use Rattle.month_prepared.specs.inner.Rows.{monthAt, monthsAfter}
+use Rattle.month_prepared.specs.inner.Rows.{HasRows, monthAt, monthsAfter}
 use Rattle.month.specs.Month.{monthOf}
 use Rattle.year.specs.Year.{monthsFrom}
+use Rattle.year.specs.inner.Rows.{IsYear, TwelveRows}
+
+-- the rows of a year are the rows of its months
+pub has-rows : (year count : ℕ) (months : Months) (vs : List ℕ) (ps qs : List ℤ) → IsYear year count months → TwelveRows vs ps qs → HasRows months vs ps qs
+has-rows year count months vs ps qs is rows = record { arguments = omega (arith, is .twelve, rows .arguments); cosines = omega (arith, is .twelve, rows .cosines); sines = omega (arith, is .twelve, rows .sines) }
 
 module _ (t : Table) (s : Station) (year : ℕ) where
   pub months-ready : (vs lags fs : List ℕ) (ps qs : List ℤ) (months : Months)
@@ -27,12 +32,11 @@ module _ (t : Table) (s : Station) (year : ℕ) where
 
   -- `before` months are accepted, the next is not
   pub months-refused : (number place : ℕ) (cs : ℕ → List Constituent) (m before left : ℕ)
-      → ((j : ℕ) → j < before → monthOf t s year (m + j) ≡ accepted (cs (m + j)))
-      → monthOf t s year (m + before) ≡ refused number place → before < left → monthsFrom t s year m left ≡ refused number place
+      → ((j : ℕ) → j < m + before → monthOf t s year (j + 1) ≡ accepted (cs j))
+      → monthOf t s year (m + before + 1) ≡ refused number place → before < left → monthsFrom t s year (m + 1) left ≡ refused number place
   unfolding monthsFrom
   months-refused number place cs m before zero ready e h = absurd (omega arith)
   months-refused number place cs m zero (suc left) ready e h = let same : m + 0 ≡ m = omega arith in rw (rw same at e)
   months-refused number place cs m (suc before) (suc left) ready e h =
-      let same : m + 0 ≡ m = omega arith in
       let next : m + suc before ≡ m + 1 + before = omega arith in
-      rw (rw same at (ready 0 (omega arith)), months-refused number place cs (m + 1) before left (λ j l. let later : m + 1 + j ≡ m + suc j = omega arith in rw later (ready (suc j) (omega arith))) (rw next at e) (omega arith))
+      rw (ready m (omega arith), months-refused number place cs (m + 1) before left (λ j l. ready j (omega arith)) (rw next at e) (omega arith))

@@ -3,10 +3,8 @@ use borrow.Author.Needs.{needs}
 use mathlib.Core.Path.{_≡_, refl}
 use Prim.Native.Nat.{_*_, _-_, _≤_}
 use native.Mathlib.Omega.{arith}
-use lib.ListN.{length}
 use lib.Seq.{paste, paste-zero}
 use Rattle.limits.specs.Limits.{mostRecords}
-use Rattle.calendar.specs.Calendar.{monthsAYear}
 use Rattle.year.proofs.Put.{put-more}
 use Rattle.year.proofs.put_arguments.Statement.{statement}
 use Rattle.year.proofs.put_arguments.Tie as tie
@@ -50,9 +48,7 @@ loop-again : tie.Need-loop-again Inv-loop μ-loop
 loop-again c =
     let a = c .before .before .before .args in
     let s = c .before .before .loop in
-    let long : length (a .rows .now) ≡ monthsAYear * mostRecords = search needs in
-    let whole : length (a .row .now) ≡ mostRecords = search needs in
-    (omega arith, s .inv .1, rw (s .inv .2, s .inv .1) (put-more (a .rows .now) (a .m) (a .row .now) (c .before .before .before .pre) long whole (s .k) 0 (c .before .loop-test .taken)))
+    (omega arith, s .inv .1, rw (s .inv .2, s .inv .1) (put-more (a .row .now) (a .m) (a .rows .now) (c .before .before .before .pre) (s .k) 0 (c .before .loop-test .taken)))
 
 returns : tie.Need-returns Inv-loop μ-loop
 returns c =

@@ -3,11 +3,13 @@ use borrow.Author.Needs.{needs}
 use mathlib.Core.Path.{_≡_, refl}
 use Prim.Native.Nat.{_*_, _-_, _≤_}
 use native.Mathlib.Omega.{arith}
-use lib.ListN.{length}
 use lib.IntN.{pos}
+use lib.ListN.{getD}
 use lib.Seq.{paste, paste-zero}
+use mir.Syntax.{w32}
+use mir.Val.{SFits}
+use mir.ValLaws.{toZ-ofZ}
 use Rattle.limits.specs.Limits.{mostRecords}
-use Rattle.calendar.specs.Calendar.{monthsAYear}
 use Rattle.year.proofs.Put.{put-more}
 use Rattle.year.proofs.put_weights.Statement.{statement}
 use Rattle.year.proofs.put_weights.Tie as tie
@@ -51,9 +53,9 @@ loop-again : tie.Need-loop-again Inv-loop μ-loop
 loop-again c =
     let a = c .before .before .before .args in
     let s = c .before .before .loop in
-    let long : length (a .rows .now) ≡ monthsAYear * mostRecords = search needs in
-    let whole : length (a .row .now) ≡ mostRecords = search needs in
-    (omega arith, s .inv .1, rw (s .inv .2, s .inv .1) (put-more (a .rows .now) (a .m) (a .row .now) (c .before .before .before .pre) long whole (s .k) (pos 0) (c .before .loop-test .taken)))
+    let weight = getD (a .row .now) (s .k) (pos 0) in
+    let fits : SFits w32 weight = search needs in
+    (omega arith, s .inv .1, rw (s .inv .2, s .inv .1, toZ-ofZ w32 weight fits) (put-more (a .row .now) (a .m) (a .rows .now) (c .before .before .before .pre) (s .k) (pos 0) (c .before .loop-test .taken)))
 
 returns : tie.Need-returns Inv-loop μ-loop
 returns c =
