@@ -2,7 +2,7 @@
 -- (`Put`), and one row of lags and frequencies serves every month (`Recorded`).
 use mathlib.Core.Path.{_≡_, refl, sym, ap, _∙_}
 use mathlib.Core.Bool.{Bool, true, false}
-use mathlib.Core.List.{List, []}
+use mathlib.Core.List.{List}
 use Prim.Native.Nat.{ℕ, _+_, _*_, _≤_, _<_}
 use native.Mathlib.Omega.{arith}
 use native.Mathlib.Nat.{zero-add}
@@ -12,7 +12,7 @@ use lib.IntN.{ℤ}
 use lib.ListN.{length}
 use lib.Seq.{paste}
 use Rattle.limits.specs.Limits.{mostRecords}
-use Rattle.refusals.specs.Outcome.{Outcome, accepted, refused}
+use Rattle.refusals.specs.Outcome.{accepted}
 use Rattle.calendar.specs.Calendar.{between, inRange, yearInRange, monthsAYear}
 use Rattle.table.specs.declared.Table.{Table}
 use Rattle.table.specs.inner.View.{tableOf}

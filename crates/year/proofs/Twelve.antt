@@ -1,6 +1,6 @@
 -- The months of a year from a month on: all of them where each is accepted, and the refusal of the first that is refused. By recursion on the months.
 use mathlib.Core.Path.{_≡_, refl}
-use mathlib.Core.List.{List, [], _∷_}
+use mathlib.Core.List.{List}
 use Prim.Native.Nat.{ℕ, zero, suc, _+_, _<_}
 use native.Mathlib.Omega.{arith}
 use lib.IntN.{ℤ}

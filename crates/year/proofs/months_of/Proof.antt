@@ -1,10 +1,9 @@
 -- `year::months_of` meets its contract: the minutes of one more month while there are any, and those of twelve make the year's.
 use borrow.Author.Needs.{needs}
 use mathlib.Core.Path.{_≡_, refl, _∙_}
-use mathlib.Core.List.{List}
 use Prim.Native.Nat.{ℕ, _+_, _-_, _≤_, _<_}
 use native.Mathlib.Omega.{arith}
-use lib.ListN.{length, getD, set, length-set}
+use lib.ListN.{length, getD, length-set}
 use Rattle.calendar.specs.Calendar.{monthMinutes, monthsAYear}
 use Rattle.calendar.proofs.Months.{minutes-short}
 use Rattle.year.proofs.Minutes.{put-last, year-minutes}
