@@ -18,6 +18,7 @@ from month import argument, day_count, days_in_month, latitude_factors, longitud
 from refusal import Refusal
 from replay import replay
 from stationfile import read_station_file, station_name, time_zone
+from years import midnights
 
 FOLDER = sys.argv[1] if len(sys.argv) > 1 else os.path.join(os.path.dirname(os.path.abspath(__file__)), "..", "data")
 PASSED = 0
@@ -313,17 +314,11 @@ TIDE = [(b"Z0", 18_000, 0), (b"O1", 12_110, 12_340), (b"K1", 20_700, 14_000), (b
 PLENTY = 44_641
 
 
-def midnights(year):
-    """The minute of the year at which each month begins."""
-    return [1_440 * sum(days_in_month(year, before) for before in range(1, month)) for month in range(1, 13)]
-
-
 def check_year_by_months(year):
     """A year's heights and turns are those that its months give one by one."""
     clock = clock_with(2_905, TIDE, year, 7)
     kept = clock.month
-    begins = midnights(year)
-    last = begins[11] + 44_640
+    *begins, last = midnights(year)
     sheet = clock.year(year, (0, 720, last // 720 + 1), (0, 0, 0, 0))[0]
     ends = []
     for month, begin in enumerate(begins, 1):
