@@ -5,7 +5,8 @@ use mathlib.Core.List.{List, [], _∷_}
 use lib.IntN.{ℤ, pos, negℤ, _+ℤ_, _*ℤ_}
 use Rattle.angles.specs.Floor.{floorDiv}
 use Rattle.cosine.specs.Fixed.{fixedCosine, fixedSine}
-use Rattle.month_prepared.specs.Prepared.{Constituent}
+use Rattle.month_prepared.specs.Prepared.{Constituent, Month}
+use Rattle.month_prepared.specs.Months.{atOwner}
 use Rattle.heights.specs.Angle.{angleAt}
 
 -- "floor((P × sine + Q × cosine)/2^30) × floor(frequency/1,000)", of the fixed sine and cosine at the angle
@@ -21,3 +22,7 @@ fallsAt (c ∷ cs) minute = fall (c .p) (c .q) (c .frequency) (angleAt c minute)
 -- "Slope is minus the sum"
 unfoldable pub slopeAt : List Constituent → ℕ → ℤ
 slopeAt cs minute = negℤ (fallsAt cs minute)
+
+-- 02, No. 1: "with the slope of the month that owns each minute", in months that follow one another
+abbrev pub slopeOver : List Month → ℕ → ℤ
+slopeOver months = atOwner slopeAt months

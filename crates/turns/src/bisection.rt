@@ -1,18 +1,17 @@
 // Bisection: a bracket in which the slope changes sense is halved to the turn in it.
 ghost use mathlib.Core.Path.{_≡_};
 ghost use mathlib.Core.Bool.{cond};
-ghost use Prim.Native.Nat.{_+_, _≤_, _<_};
+ghost use Prim.Native.Nat.{_+_, _≤_, _<_, _^_};
 ghost use lib.Dec.{ltb};
 ghost use lib.IntN.{natAbs};
-ghost use Rattle.limits.specs.Limits.{mostMinutes, mostRecords};
-ghost use Rattle.cosine.specs.Fixed.{IsTable};
-ghost use Rattle.month_prepared.specs.inner.Rows.{InRange};
-ghost use Rattle.turns.specs.inner.Lists.{slopeOf};
+ghost use Rattle.month_prepared.specs.inner.Rows.{lastOf};
+ghost use Rattle.turns.specs.inner.Lists.{Rows, slopesIn};
 ghost use Rattle.turns.specs.inner.Bisection.{BracketPre, TurnedPost};
 use crate::sense::differs;
 use crate::slopes::slope;
 use cosine::ENTRIES;
 use limits::RECORDS;
+use month_prepared::months::Months;
 
 // A turn's minute; the later of the two ends that hold the change, and the slope there.
 pub struct Turned {
@@ -31,7 +30,7 @@ pub struct Bracket {
 
 // The turn between two ends one minute apart: the end with the smaller slope size, the earlier if equal.
 fn turn_between(minute: u64, early: i64, late: i64) -> Turned
-    requires { ⌜ minute < mostMinutes ⌝ }
+    requires { ⌜ minute < 2 ^ 32 ⌝ }
     ensures { λ r. ⌜ r .turn ≡ cond (ltb (natAbs late) (natAbs early)) (minute + 1) minute ⌝ }
     ensures { λ r. ⌜ (r .later ≡ minute + 1) × (r .slope ≡ late) ⌝ }
 {
@@ -53,17 +52,17 @@ fn turn_between(minute: u64, early: i64, late: i64) -> Turned
 // Halves a bracket until its ends are one minute apart, and gives the turn between them.
 pub fn bisect<'a>(
     table: &'a [u32; ENTRIES],
-    arguments: &'a [u64; RECORDS],
+    arguments: &'a [u64],
     lags: &'a [u16; RECORDS],
     frequencies: &'a [u64; RECORDS],
-    ps: &'a [i32; RECORDS],
-    qs: &'a [i32; RECORDS],
-    count: usize,
+    ps: &'a [i32],
+    qs: &'a [i32],
+    months: Months,
     bracket: Bracket,
 ) -> Turned
-    requires { ⌜ IsTable (now table) × ((count ≤ mostRecords) × InRange count (now frequencies)) ⌝ }
-    requires { ⌜ BracketPre (slopeOf (now arguments) (now lags) (now frequencies) (now ps) (now qs) count) bracket ⌝ }
-    ensures { λ r. ⌜ TurnedPost (slopeOf (now (arguments .entry)) (now (lags .entry)) (now (frequencies .entry)) (now (ps .entry)) (now (qs .entry)) count) (bracket .start) (bracket .length) r ⌝ }
+    requires { ⌜ Rows (now table) months (now arguments) (now frequencies) (now ps) (now qs) ⌝ }
+    requires { ⌜ BracketPre (slopesIn (now arguments) (now lags) (now frequencies) (now ps) (now qs) months) (lastOf months) bracket ⌝ }
+    ensures { λ r. ⌜ TurnedPost (slopesIn (now (arguments .entry)) (now (lags .entry)) (now (frequencies .entry)) (now (ps .entry)) (now (qs .entry)) months) (bracket .start) (bracket .length) r ⌝ }
 {
     let start = bracket.start;
     let length = bracket.length;
@@ -74,7 +73,7 @@ pub fn bisect<'a>(
     }
     let half = length / 2;
     let cut = start + half;
-    let middle = slope(table, arguments, lags, frequencies, ps, qs, count, cut);
+    let middle = slope(table, arguments, lags, frequencies, ps, qs, months, cut);
     if differs(early, middle) {
         let first = Bracket {
             start: start,
@@ -82,7 +81,7 @@ pub fn bisect<'a>(
             early: early,
             late: middle,
         };
-        return bisect(table, arguments, lags, frequencies, ps, qs, count, first);
+        return bisect(table, arguments, lags, frequencies, ps, qs, months, first);
     }
     let second = Bracket {
         start: cut,
@@ -90,5 +89,5 @@ pub fn bisect<'a>(
         early: middle,
         late: late,
     };
-    bisect(table, arguments, lags, frequencies, ps, qs, count, second)
+    bisect(table, arguments, lags, frequencies, ps, qs, months, second)
 }

@@ -1,17 +1,14 @@
-// Turns of the water in a prepared month: the stride of a station's tides, the search for where the slope changes sense, and what is
-// written of the turns. The table of cosines and the arrays of the constituents are lent.
+// Turns of the water in months that follow one another, a single one or a year's: the stride of a station's tides, the search for where the
+// slope changes sense, and what is written of the turns. The table of cosines and the arrays of the constituents are lent.
 ghost use mathlib.Core.Path.{_≡_};
 ghost use mathlib.Core.List.{map};
-ghost use Prim.Native.Nat.{_≤_, _<_};
-ghost use lib.ListN.{length};
-ghost use Rattle.limits.specs.Limits.{mostMinutes, mostRecords};
-ghost use Rattle.cosine.specs.Fixed.{IsTable};
-ghost use Rattle.month_prepared.specs.inner.Rows.{InRange};
-ghost use Rattle.turns.specs.inner.Lists.{slopeOf};
+ghost use Prim.Native.Nat.{_≤_};
+ghost use lib.ListN.{length, take};
+ghost use Rattle.month_prepared.specs.inner.Rows.{lastOf};
+ghost use Rattle.turns.specs.inner.Lists.{Rows, slopesIn, heightsIn};
 ghost use Rattle.turns.specs.Search.{turnsOf};
-ghost use Rattle.turns.specs.inner.Search.{Minutes};
+ghost use Rattle.turns.specs.inner.Search.{Reaches, Upto};
 ghost use Rattle.turns.specs.Written.{fromFront, given};
-ghost use Rattle.turns.specs.inner.Lists.{heightOf};
 ghost use Rattle.turns.specs.inner.Answers.{givenOf};
 
 mod slopes; // the slope at a minute
@@ -21,12 +18,15 @@ mod search; // strides and turns
 mod tides; // the kind of tides
 pub mod strides; // a station's stride
 
-use crate::search::Reach;
+pub use search::Reach;
 use crate::search::Summary;
 use cosine::ENTRIES;
-use limits::MINUTES;
 use limits::RECORDS;
-use month_prepared::Month;
+use month_prepared::months::Months;
+
+// How many turns are kept while they are counted. (A year of two high and two low waters a day has 1,411; one with more than these is
+// searched a second time.)
+const KEPT: usize = 4_096;
 
 // What a search returns: what it found, or that there are more turns than a lent buffer holds.
 pub enum Searched {
@@ -34,63 +34,79 @@ pub enum Searched {
     TooMany,
 }
 
-// Writes the kept minutes and their heights from the front of the lent buffers.
-fn write_turns<'a>(
-    table: &'a [u32; ENTRIES],
-    arguments: &'a [u64; RECORDS],
-    lags: &'a [u16; RECORDS],
-    frequencies: &'a [u64; RECORDS],
-    ps: &'a [i32; RECORDS],
-    qs: &'a [i32; RECORDS],
-    count: usize,
-    kept: &'a [u16],
-    minutes: &mut [u32],
-    heights: &mut [i64],
-)
-    requires { ⌜ IsTable (now table) × (count ≤ mostRecords) ⌝ }
-    requires { ⌜ Minutes (now kept) × ((length (now kept) ≤ length (now minutes)) × (length (now kept) ≤ length (now heights))) ⌝ }
-    ensures { λ r. ⌜ now (minutes .exit) ≡ fromFront (now (kept .entry)) (now (minutes .entry)) ⌝ }
-    ensures { λ r. ⌜ now (heights .exit) ≡ fromFront (map (heightOf (now (arguments .entry)) (now (lags .entry)) (now (frequencies .entry)) (now (ps .entry)) (now (qs .entry)) count) (now (kept .entry))) (now (heights .entry)) ⌝ }
+// Puts the first `many` kept minutes at the front of the lent places.
+fn put_minutes(kept: &[u32; KEPT], many: usize, minutes: &mut [u32])
+    requires { ⌜ (many ≤ 4_096) × (many ≤ length (now minutes)) ⌝ }
+    ensures { λ r. ⌜ now (minutes .exit) ≡ fromFront (take many (now (kept .entry))) (now (minutes .entry)) ⌝ }
 {
     let mut i: usize = 0;
-    while i < kept.len() {
-        let minute = kept[i] as u64;
-        minutes[i] = minute as u32;
-        heights[i] = heights::height(table, arguments, lags, frequencies, ps, qs, count, minute);
+    while i < many {
+        minutes[i] = kept[i];
         i = i + 1;
     }
 }
 
-// Searches a prepared month for turns from the first minute to the last: returns how many and whether the first is high, and writes their
+// Puts the heights at the first `many` minutes at the front of the lent places.
+fn put_heights<'a>(
+    table: &'a [u32; ENTRIES],
+    arguments: &'a [u64],
+    lags: &'a [u16; RECORDS],
+    frequencies: &'a [u64; RECORDS],
+    ps: &'a [i32],
+    qs: &'a [i32],
+    months: Months,
+    minutes: &'a [u32],
+    heights: &mut [i64],
+)
+    requires { ⌜ Rows (now table) months (now arguments) (now frequencies) (now ps) (now qs) ⌝ }
+    requires { ⌜ Upto (lastOf months) (now minutes) × (length (now minutes) ≤ length (now heights)) ⌝ }
+    ensures { λ r. ⌜ now (heights .exit) ≡ fromFront (map (heightsIn (now (arguments .entry)) (now (lags .entry)) (now (frequencies .entry)) (now (ps .entry)) (now (qs .entry)) months) (now (minutes .entry))) (now (heights .entry)) ⌝ }
+{
+    let mut i: usize = 0;
+    while i < minutes.len() {
+        let minute = minutes[i] as u64;
+        heights[i] = heights::months::height(
+            table,
+            arguments,
+            lags,
+            frequencies,
+            ps,
+            qs,
+            months,
+            minute,
+        );
+        i = i + 1;
+    }
+}
+
+// Searches the months for turns from the first minute to the last: returns how many and whether the first is high, and writes their
 // minutes and heights from the front of the lent buffers; refuses, and writes nothing, where there are more than either holds.
-pub fn turns(
-    table: &[u32; ENTRIES],
-    month: Month,
-    stride: u64,
-    first: u64,
-    last: u64,
+pub fn turns<'a>(
+    table: &'a [u32; ENTRIES],
+    arguments: &'a [u64],
+    lags: &'a [u16; RECORDS],
+    frequencies: &'a [u64; RECORDS],
+    ps: &'a [i32],
+    qs: &'a [i32],
+    months: Months,
+    reach: Reach,
     minutes: &mut [u32],
     heights: &mut [i64],
 ) -> Searched
-    requires { ⌜ IsTable (now table) × ((month .count ≤ mostRecords) × InRange (month .count) (month .frequencies)) ⌝ }
-    requires { ⌜ (0 < stride) × ((stride ≤ 720) × ((first ≤ last) × (last ≤ mostMinutes))) ⌝ }
-    ensures { λ r. ⌜ givenOf r (now (minutes .exit)) (now (heights .exit)) ≡ given (heightOf (month .arguments) (month .lags) (month .frequencies) (month .ps) (month .qs) (month .count)) (turnsOf (slopeOf (month .arguments) (month .lags) (month .frequencies) (month .ps) (month .qs) (month .count)) stride first last) (now (minutes .entry)) (now (heights .entry)) ⌝ }
+    requires { ⌜ Rows (now table) months (now arguments) (now frequencies) (now ps) (now qs) ⌝ }
+    requires { ⌜ Reaches (lastOf months) reach ⌝ }
+    ensures { λ r. ⌜ givenOf r (now (minutes .exit)) (now (heights .exit)) ≡ given (heightsIn (now (arguments .entry)) (now (lags .entry)) (now (frequencies .entry)) (now (ps .entry)) (now (qs .entry)) months) (turnsOf (slopesIn (now (arguments .entry)) (now (lags .entry)) (now (frequencies .entry)) (now (ps .entry)) (now (qs .entry)) months) (reach .stride) (reach .first) (reach .last)) (now (minutes .entry)) (now (heights .entry)) ⌝ }
 {
-    let reach = Reach {
-        stride: stride,
-        last: last,
-    };
-    let mut kept = [0u16; MINUTES];
+    let mut kept = [0u32; KEPT];
     let found = search::find_turns(
         table,
-        &month.arguments,
-        &month.lags,
-        &month.frequencies,
-        &month.ps,
-        &month.qs,
-        month.count,
+        arguments,
+        lags,
+        frequencies,
+        ps,
+        qs,
+        months,
         reach,
-        first,
         &mut kept,
     );
     let many = found.count;
@@ -100,16 +116,30 @@ pub fn turns(
     if heights.len() < many {
         return Searched::TooMany;
     }
-    write_turns(
+    if many <= KEPT {
+        put_minutes(&kept, many, minutes);
+    } else {
+        search::find_turns(
+            table,
+            arguments,
+            lags,
+            frequencies,
+            ps,
+            qs,
+            months,
+            reach,
+            minutes,
+        );
+    }
+    put_heights(
         table,
-        &month.arguments,
-        &month.lags,
-        &month.frequencies,
-        &month.ps,
-        &month.qs,
-        month.count,
-        &kept[..many],
-        minutes,
+        arguments,
+        lags,
+        frequencies,
+        ps,
+        qs,
+        months,
+        &minutes[..many],
         heights,
     );
     Searched::Found(found)

@@ -1,11 +1,8 @@
-// The search for turns: strides in a prepared month, and the turn in each in which the slope changes sense.
+// The search for turns: strides in months that follow one another, and the turn in each in which the slope changes sense.
 ghost use mathlib.Core.Path.{_≡_};
-ghost use Prim.Native.Nat.{_≤_, _<_};
-ghost use lib.ListN.{length};
-ghost use Rattle.limits.specs.Limits.{mostMinutes, mostRecords};
-ghost use Rattle.cosine.specs.Fixed.{IsTable};
-ghost use Rattle.month_prepared.specs.inner.Rows.{InRange};
-ghost use Rattle.turns.specs.inner.Lists.{slopeOf};
+ghost use Prim.Native.Nat.{_≤_};
+ghost use Rattle.month_prepared.specs.inner.Rows.{lastOf};
+ghost use Rattle.turns.specs.inner.Lists.{Rows, slopesIn};
 ghost use Rattle.turns.specs.Search.{turnsOf};
 ghost use Rattle.turns.specs.inner.Search.{Reaches, NextPost, FoundPost};
 use crate::bisection::Bracket;
@@ -14,8 +11,8 @@ use crate::sense::differs;
 use crate::sense::rises;
 use crate::slopes::slope;
 use cosine::ENTRIES;
-use limits::MINUTES;
 use limits::RECORDS;
+use month_prepared::months::Months;
 
 // How many turns were found, and whether the first is high.
 pub struct Summary {
@@ -23,9 +20,10 @@ pub struct Summary {
     pub high: bool,
 }
 
-// How far a search goes: the length of its strides, and the last minute.
+// What is searched: the length of the strides, the first minute and the last.
 pub struct Reach {
     pub stride: u64,
+    pub first: u64,
     pub last: u64,
 }
 
@@ -41,20 +39,20 @@ struct Next {
 // Strides from a minute until the ends' slopes differ in sense, and finds the turn between them.
 fn next_turn<'a>(
     table: &'a [u32; ENTRIES],
-    arguments: &'a [u64; RECORDS],
+    arguments: &'a [u64],
     lags: &'a [u16; RECORDS],
     frequencies: &'a [u64; RECORDS],
-    ps: &'a [i32; RECORDS],
-    qs: &'a [i32; RECORDS],
-    count: usize,
+    ps: &'a [i32],
+    qs: &'a [i32],
+    months: Months,
     reach: Reach,
     minute: u64,
     here: i64,
 ) -> Next
-    requires { ⌜ IsTable (now table) × ((count ≤ mostRecords) × InRange count (now frequencies)) ⌝ }
-    requires { ⌜ Reaches reach × (minute ≤ reach .last) ⌝ }
-    requires { ⌜ here ≡ slopeOf (now arguments) (now lags) (now frequencies) (now ps) (now qs) count minute ⌝ }
-    ensures { λ r. ⌜ NextPost (slopeOf (now (arguments .entry)) (now (lags .entry)) (now (frequencies .entry)) (now (ps .entry)) (now (qs .entry)) count) (reach .stride) (reach .last) minute r ⌝ }
+    requires { ⌜ Rows (now table) months (now arguments) (now frequencies) (now ps) (now qs) ⌝ }
+    requires { ⌜ Reaches (lastOf months) reach × (minute ≤ reach .last) ⌝ }
+    requires { ⌜ here ≡ slopesIn (now arguments) (now lags) (now frequencies) (now ps) (now qs) months minute ⌝ }
+    ensures { λ r. ⌜ NextPost (slopesIn (now (arguments .entry)) (now (lags .entry)) (now (frequencies .entry)) (now (ps .entry)) (now (qs .entry)) months) (reach .stride) (reach .last) minute r ⌝ }
 {
     let stride = reach.stride;
     let last = reach.last;
@@ -62,7 +60,7 @@ fn next_turn<'a>(
     let mut behind = here;
     while from + stride <= last {
         let to = from + stride;
-        let ahead = slope(table, arguments, lags, frequencies, ps, qs, count, to);
+        let ahead = slope(table, arguments, lags, frequencies, ps, qs, months, to);
         if differs(behind, ahead) {
             let bracket = Bracket {
                 start: from,
@@ -70,7 +68,7 @@ fn next_turn<'a>(
                 early: behind,
                 late: ahead,
             };
-            let t = bisect(table, arguments, lags, frequencies, ps, qs, count, bracket);
+            let t = bisect(table, arguments, lags, frequencies, ps, qs, months, bracket);
             return Next {
                 found: true,
                 turn: t.turn,
@@ -91,25 +89,24 @@ fn next_turn<'a>(
     }
 }
 
-// Finds every turn, and keeps the minutes.
+// Finds every turn, counts them all, and keeps the minutes from the front of the lent places, as many as these hold.
 pub fn find_turns<'a>(
     table: &'a [u32; ENTRIES],
-    arguments: &'a [u64; RECORDS],
+    arguments: &'a [u64],
     lags: &'a [u16; RECORDS],
     frequencies: &'a [u64; RECORDS],
-    ps: &'a [i32; RECORDS],
-    qs: &'a [i32; RECORDS],
-    count: usize,
+    ps: &'a [i32],
+    qs: &'a [i32],
+    months: Months,
     reach: Reach,
-    first: u64,
-    kept: &mut [u16; MINUTES],
+    kept: &mut [u32],
 ) -> Summary
-    requires { ⌜ IsTable (now table) × ((count ≤ mostRecords) × InRange count (now frequencies)) ⌝ }
-    requires { ⌜ Reaches reach × (first ≤ reach .last) ⌝ }
-    requires { ⌜ length (now kept) ≡ mostMinutes ⌝ }
-    ensures { λ r. ⌜ FoundPost (turnsOf (slopeOf (now (arguments .entry)) (now (lags .entry)) (now (frequencies .entry)) (now (ps .entry)) (now (qs .entry)) count) (reach .stride) first (reach .last)) (now (kept .exit)) r ⌝ }
+    requires { ⌜ Rows (now table) months (now arguments) (now frequencies) (now ps) (now qs) ⌝ }
+    requires { ⌜ Reaches (lastOf months) reach ⌝ }
+    ensures { λ r. ⌜ FoundPost (turnsOf (slopesIn (now (arguments .entry)) (now (lags .entry)) (now (frequencies .entry)) (now (ps .entry)) (now (qs .entry)) months) (reach .stride) (reach .first) (reach .last)) (now (kept .entry)) (now (kept .exit)) r ⌝ }
 {
-    let here = slope(table, arguments, lags, frequencies, ps, qs, count, first);
+    let first = reach.first;
+    let here = slope(table, arguments, lags, frequencies, ps, qs, months, first);
     let mut next = next_turn(
         table,
         arguments,
@@ -117,7 +114,7 @@ pub fn find_turns<'a>(
         frequencies,
         ps,
         qs,
-        count,
+        months,
         reach,
         first,
         here,
@@ -125,7 +122,9 @@ pub fn find_turns<'a>(
     let high = next.high;
     let mut found: usize = 0;
     while next.found {
-        kept[found] = next.turn as u16;
+        if found < kept.len() {
+            kept[found] = next.turn as u32;
+        }
         found = found + 1;
         next = next_turn(
             table,
@@ -134,7 +133,7 @@ pub fn find_turns<'a>(
             frequencies,
             ps,
             qs,
-            count,
+            months,
             reach,
             next.later,
             next.slope,

@@ -3,15 +3,14 @@
 use Prim.Native.Nat.{ℕ, _+_, _≤_, _<_}
 use mathlib.Core.Path.{_≡_}
 use lib.IntN.{ℤ}
-use Rattle.limits.specs.Limits.{mostMinutes}
 use Rattle.turns.specs.Cuts.{earlierEnd, laterEnd, smaller}
 use Rattle.turns.specs.declared.bisection.Bracket.{Bracket}
 use Rattle.turns.specs.declared.bisection.Turned.{Turned}
 
--- a bracket of a minute or more in a month, with the slopes at its ends
-pub record BracketPre (slope : ℕ → ℤ) (b : Bracket) : Type 0 where
+-- a bracket of a minute or more, no later than an end, with the slopes at its ends
+pub record BracketPre (slope : ℕ → ℤ) (end : ℕ) (b : Bracket) : Type 0 where
   pub some : 0 < b .length
-  pub within : b .start + b .length ≤ mostMinutes
+  pub within : b .start + b .length ≤ end
   pub early : b .early ≡ slope (b .start)
   pub late : b .late ≡ slope (b .start + b .length)
 

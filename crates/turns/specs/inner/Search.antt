@@ -6,17 +6,18 @@ use mathlib.Core.Bool.{cond}
 use mathlib.Core.List.{List, [], _∷_}
 use lib.IntN.{ℤ}
 use lib.ListN.{length, getD, take}
-use Rattle.limits.specs.Limits.{mostMinutes}
 use Rattle.turns.specs.Search.{Turn, turnsOf, firstHigh, minutesOf}
+use Rattle.turns.specs.Written.{fromFront}
 use Rattle.turns.specs.declared.search.Next.{Next}
 use Rattle.turns.specs.declared.search.Reach.{Reach}
 use Rattle.turns.specs.declared.search.Summary.{Summary}
 
--- strides of a minute to half a day, in a month
-pub record Reaches (reach : Reach) : Type 0 where
+-- strides of a minute to half a day, from a first minute to a last that is no later than the end of the months
+pub record Reaches (end : ℕ) (reach : Reach) : Type 0 where
   pub some : 0 < reach .stride
   pub short : reach .stride ≤ 720
-  pub within : reach .last ≤ mostMinutes
+  pub order : reach .first ≤ reach .last
+  pub within : reach .last ≤ end
 
 -- the turns from a minute on: the one found and those from where the search resumes, or none
 abbrev pub onwards : (ℕ → ℤ) → ℕ → ℕ → Next → List Turn
@@ -31,17 +32,12 @@ pub record NextPost (slope : ℕ → ℤ) (stride last minute : ℕ) (r : Next) 
   pub later : r .later ≤ last
   pub there : r .slope ≡ slope (r .later)
 
--- the first n minutes kept are minutes of a month
-abbrev pub KeptMinutes : ℕ → List ℕ → Type 0
-KeptMinutes n kept = (length kept ≡ mostMinutes) × ((n ≤ mostMinutes) × ((k : ℕ) → k < n → getD kept k 0 ≤ mostMinutes))
+-- minutes no later than a last one
+abbrev pub Upto : ℕ → List ℕ → Type 0
+Upto last minutes = (k : ℕ) → k < length minutes → getD minutes k 0 ≤ last
 
--- kept minutes are minutes of a month
-abbrev pub Minutes : List ℕ → Type 0
-Minutes kept = (k : ℕ) → k < length kept → getD kept k 0 ≤ mostMinutes
-
--- all turns: how many, whether the first is high, and their minutes kept
-pub record FoundPost (turns : List Turn) (kept : List ℕ) (r : Summary) : Type 0 where
+-- all turns: how many, whether the first is high, and their minutes kept, as many as there are places
+pub record FoundPost (turns : List Turn) (before after : List ℕ) (r : Summary) : Type 0 where
   pub count : r .count ≡ length turns
   pub high : r .high ≡ firstHigh turns
-  pub minutes : take (r .count) kept ≡ minutesOf turns
-  pub within : KeptMinutes (r .count) kept
+  pub kept : after ≡ fromFront (take (length before) (minutesOf turns)) before
