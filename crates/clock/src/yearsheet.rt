@@ -1,0 +1,97 @@
+// A year's sheet, from a table and a station that are there and a year that is in range.
+ghost use mathlib.Core.Path.{_≡_};
+ghost use mathlib.Core.Bool.{true};
+ghost use Rattle.calendar.specs.Calendar.{yearInRange};
+ghost use Rattle.cosine.specs.Fixed.{IsTable};
+ghost use Rattle.month_prepared.specs.inner.Rows.{InRange};
+ghost use Rattle.clock.specs.Returned.{turnsReturned};
+ghost use Rattle.clock.specs.inner.Posts.{SheetPost};
+use crate::TurnsAnswer;
+use calls::sheets;
+use calls::sheets::Sheet;
+use cosine::ENTRIES;
+use limits::RECORDS;
+use month::Preparation;
+use refusals::Refusal;
+use station::Station;
+use table::Table;
+use turns::Reach;
+use turns::Searched;
+use turns::strides;
+use year::ROWS;
+
+// The months of the year are prepared, 11; its minutes asked, 9; the turns counted, 10; then all three buffers are written.
+pub fn sheet(
+    cosines: &[u32; ENTRIES],
+    table: Table,
+    station: Station,
+    sheet: Sheet,
+    series: &mut [i64],
+    minutes: &mut [u32],
+    heights: &mut [i64],
+) -> TurnsAnswer
+    requires { ⌜ IsTable (now cosines) × (InRange (table .frequencies) (table .speeds) × (yearInRange (sheet .year) ≡ true)) ⌝ }
+    ensures { λ r. ⌜ SheetPost table station sheet (now (series .entry)) (now (series .exit)) (now (minutes .entry)) (now (minutes .exit)) (now (heights .entry)) (now (heights .exit)) (turnsReturned r) ⌝ }
+{
+    let mut frequencies = [0u64; RECORDS];
+    let mut arguments = [0u64; ROWS];
+    let mut ps = [0i32; ROWS];
+    let mut qs = [0i32; ROWS];
+    let prepared = year::prepare(
+        cosines,
+        table,
+        station,
+        sheet.year,
+        &mut frequencies,
+        &mut arguments,
+        &mut ps,
+        &mut qs,
+    );
+    match prepared {
+        Preparation::TooLarge(place) => {
+            return TurnsAnswer::Refused(Refusal::TooLarge, place);
+        }
+        Preparation::Ready => {}
+    }
+    if sheets::sheet_outside(sheet, series.len()) {
+        return TurnsAnswer::Refused(Refusal::BadMinutes, 0);
+    }
+    let months = year::months_of(sheet.year, month_prepared::held(station.count));
+    let reach = Reach {
+        stride: strides::station_stride(table, station),
+        first: sheet.first as u64,
+        last: sheet.last as u64,
+    };
+    let found = turns::turns(
+        cosines,
+        &arguments,
+        &station.lags,
+        &frequencies,
+        &ps,
+        &qs,
+        months,
+        reach,
+        minutes,
+        heights,
+    );
+    match found {
+        Searched::TooMany => {
+            return TurnsAnswer::Refused(Refusal::TooManyTurns, 0);
+        }
+        Searched::Found(s) => {
+            heights::months::series(
+                cosines,
+                &arguments,
+                &station.lags,
+                &frequencies,
+                &ps,
+                &qs,
+                months,
+                sheet.start as u64,
+                sheet.step as u64,
+                series,
+            );
+            return TurnsAnswer::Turns(s.count, s.high);
+        }
+    }
+}
