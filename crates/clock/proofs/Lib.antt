@@ -4,3 +4,4 @@ pub mod CardsCase
 pub mod Stations
 pub mod Months
 pub mod Lent
+pub mod OneMonth

@@ -116,6 +116,8 @@ pub fn sheet(
             if sheets::sheet_outside(sheet, series.len()) {
                 return TurnsAnswer::Refused(Refusal::BadMinutes, 0);
             }
+            let months = year::months_of(sheet.year, month_prepared::held(station.count));
+            let stride = strides::station_stride(table, station);
             return written(
                 cosines,
                 &arguments,
@@ -123,8 +125,8 @@ pub fn sheet(
                 &frequencies,
                 &ps,
                 &qs,
-                year::months_of(sheet.year, month_prepared::held(station.count)),
-                strides::station_stride(table, station),
+                months,
+                stride,
                 sheet,
                 series,
                 minutes,
