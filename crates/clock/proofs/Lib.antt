@@ -5,3 +5,4 @@ pub mod Stations
 pub mod Months
 pub mod Lent
 pub mod OneMonth
+pub mod Sheets

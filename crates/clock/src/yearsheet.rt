@@ -94,6 +94,7 @@ pub fn sheet(
     requires { ⌜ IsTable (now cosines) × (InRange (table .frequencies) (table .speeds) × (yearInRange (sheet .year) ≡ true)) ⌝ }
     ensures { λ r. ⌜ SheetPost table station sheet (now (series .entry)) (now (series .exit)) (now (minutes .entry)) (now (minutes .exit)) (now (heights .entry)) (now (heights .exit)) (turnsReturned r) ⌝ }
 {
+    let months = year::months_of(sheet.year, month_prepared::held(station.count));
     let mut frequencies = [0u64; RECORDS];
     let mut arguments = [0u64; ROWS];
     let mut ps = [0i32; ROWS];
@@ -116,7 +117,6 @@ pub fn sheet(
             if sheets::sheet_outside(sheet, series.len()) {
                 return TurnsAnswer::Refused(Refusal::BadMinutes, 0);
             }
-            let months = year::months_of(sheet.year, month_prepared::held(station.count));
             let stride = strides::station_stride(table, station);
             return written(
                 cosines,
