@@ -2,5 +2,6 @@ pub mod State
 pub mod Asked
 pub mod Reasons
 pub mod Calls
+pub mod Year
 pub mod Names
 pub mod inner

@@ -47,7 +47,7 @@ pub fn height_answer(tabled: bool, stationed: bool, dated: bool, last: u64, minu
 }
 
 // Whether the start is past the month's last minute, the step out of range, or the last of so many heights past the month's last minute.
-fn series_outside(last: u64, start: u64, step: u64, places: usize) -> bool
+pub fn series_outside(last: u64, start: u64, step: u64, places: usize) -> bool
     ensures { λ r. ⌜ r ≡ seriesOutside last start step places ⌝ }
 {
     let reason = reasons::series_reason(last, start, step, places);
@@ -80,7 +80,7 @@ pub fn series_answer(
 }
 
 // Whether the last minute is past the month's, or the two are reversed.
-fn turns_outside(end: u64, first: u64, last: u64) -> bool
+pub fn turns_outside(end: u64, first: u64, last: u64) -> bool
     ensures { λ r. ⌜ r ≡ turnsOutside end first last ⌝ }
 {
     if end < last {

@@ -11,6 +11,8 @@ use Rattle.station.specs.declared.records.Record.{Record}
 use Rattle.calls.specs.State.{emptyState}
 use Rattle.turns.specs.Written.{TurnsFound}
 use Rattle.calls.specs.Calls.{cardsReturns, cardsLeaves, stationReturns, stationLeaves, dateReturns, dateLeaves, heightReturns, seriesGives, turnsGives}
+use Rattle.calls.specs.declared.sheets.Sheet.{Sheet}
+use Rattle.calls.specs.Year.{yearGives}
 use Rattle.clock.specs.View.{view, Made}
 use Rattle.clock.specs.declared.Clock.{Clock}
 
@@ -41,3 +43,7 @@ pub record SeriesPost (c : Clock) (start step : ℕ) (heights left : List ℤ) (
 
 pub record TurnsPost (c : Clock) (first last : ℕ) (minutes minutesLeft : List ℕ) (heights heightsLeft : List ℤ) (returned : Outcome TurnsFound) : Type 0 where
   pub gives : record { returned = returned; minutes = minutesLeft; heights = heightsLeft } ≡ turnsGives (view c) first last minutes heights
+
+-- the clock is given by value, and stays as it was: "the prepared month stays, whether the year is given or refused"
+pub record YearPost (c : Clock) (sheet : Sheet) (series seriesLeft : List ℤ) (minutes minutesLeft : List ℕ) (heights heightsLeft : List ℤ) (returned : Outcome TurnsFound) : Type 0 where
+  pub gives : record { returned = returned; series = seriesLeft; minutes = minutesLeft; heights = heightsLeft } ≡ yearGives (view c) sheet series minutes heights

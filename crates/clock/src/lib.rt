@@ -10,19 +10,25 @@ ghost use Rattle.calendar.specs.Calendar.{inRange};
 ghost use Rattle.calls.specs.State.{some};
 ghost use Rattle.calls.specs.Names.{namesThere, namesIn};
 ghost use Rattle.clock.specs.View.{view, Sound, Made};
-ghost use Rattle.clock.specs.Posts.{NewPost, CardsPost, StationPost, DatePost, HeightPost, SeriesPost, TurnsPost};
+ghost use Rattle.clock.specs.Posts.{NewPost, CardsPost, StationPost, DatePost, HeightPost, SeriesPost, TurnsPost, YearPost};
 ghost use Rattle.clock.specs.inner.Posts.{BarePost, PreparedPost, PartsMade, HeightFrom};
 ghost use Rattle.station.specs.Records.{recordsOf};
 ghost use Rattle.turns.specs.inner.Answers.{returnedOf};
 ghost use Rattle.clock.specs.Returned.{heightReturned, turnsReturned};
 ghost use Rattle.refusals.specs.Outcome.{outcomeOf};
-ghost use Rattle.clock.specs.inner.Parts.{accepts, withStation, withMonth, keptMonth};
+ghost use Rattle.clock.specs.inner.Parts.{accepts, withStation, withMonth};
+
+mod yearsheet; // a year's sheet, from a table and a station
+
 use calls::asked;
 use calls::settings;
+use calls::sheets;
+use calls::sheets::Sheet;
 use card_file::reader;
 use cosine::ENTRIES;
 use limits::RECORDS;
 use month_prepared::Month;
+use month_prepared::months;
 use refusals::Answer;
 use refusals::Refusal;
 use station::Station;
@@ -31,6 +37,7 @@ use station::records::Record;
 use station::records::Rows;
 use table::NAMES;
 use table::Table;
+use turns::Reach;
 use turns::Searched;
 use turns::strides;
 
@@ -342,25 +349,6 @@ pub fn series(clock: Clock, start: u32, step: u32, heights: &mut [i64]) -> Answe
     }
 }
 
-// The prepared month that the clock keeps.
-fn month_in(clock: Clock) -> Month
-    ensures { λ r. ⌜ r ≡ keptMonth clock ⌝ }
-{
-    let arguments = clock.arguments;
-    let lags = clock.lags;
-    let frequencies = clock.frequencies;
-    let ps = clock.ps;
-    let qs = clock.qs;
-    Month {
-        count: clock.count,
-        arguments: arguments,
-        lags: lags,
-        frequencies: frequencies,
-        ps: ps,
-        qs: qs,
-    }
-}
-
 // What a search says: how many turns, and whether the first is high; or 10.
 fn found_turns(found: Searched) -> TurnsAnswer
     ensures { λ r. ⌜ turnsReturned r ≡ returnedOf found ⌝ }
@@ -392,18 +380,55 @@ pub fn turns(
     );
     match asked {
         Answer::Accepted => {
-            let stride = strides::station_stride(clock.table, clock.station);
-            let month = month_in(clock);
+            let reach = Reach {
+                stride: strides::station_stride(clock.table, clock.station),
+                first: first as u64,
+                last: last as u64,
+            };
             let found = turns::turns(
                 &clock.cosines,
-                month,
-                stride,
-                first as u64,
-                last as u64,
+                &clock.arguments,
+                &clock.lags,
+                &clock.frequencies,
+                &clock.ps,
+                &clock.qs,
+                months::one_month(clock.count, clock.last),
+                reach,
                 minutes,
                 heights,
             );
             return found_turns(found);
+        }
+        Answer::Refused(refusal, _) => {
+            return TurnsAnswer::Refused(refusal, 0);
+        }
+    }
+}
+
+// A year's sheet: one height for each lent place of the series, and the high and low waters of the search, as the months of the year have
+// them, each with its own weights; or a refusal. (The clock is taken by value: its month stays.)
+pub fn year(
+    clock: Clock,
+    sheet: Sheet,
+    series: &mut [i64],
+    minutes: &mut [u32],
+    heights: &mut [i64],
+) -> TurnsAnswer
+    requires { ⌜ Made clock ⌝ }
+    ensures { λ r. ⌜ YearPost clock sheet (now (series .entry)) (now (series .exit)) (now (minutes .entry)) (now (minutes .exit)) (now (heights .entry)) (now (heights .exit)) (turnsReturned r) ⌝ }
+{
+    let asked = sheets::year_answer(clock.tabled, clock.stationed, sheet.year);
+    match asked {
+        Answer::Accepted => {
+            return yearsheet::sheet(
+                &clock.cosines,
+                clock.table,
+                clock.station,
+                sheet,
+                series,
+                minutes,
+                heights,
+            );
         }
         Answer::Refused(refusal, _) => {
             return TurnsAnswer::Refused(refusal, 0);

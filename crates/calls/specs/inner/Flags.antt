@@ -8,6 +8,7 @@ use Rattle.station.specs.Station.{Station}
 use Rattle.month_prepared.specs.Prepared.{Month}
 use Rattle.calls.specs.State.{Maybe, none, some, State}
 use Rattle.calls.specs.Asked.{monthAsked, dateAsked, minutesAsked}
+use Rattle.calls.specs.Year.{yearAsked}
 
 -- what a flag says is there
 abbrev pub when : {A : Type 0} → Bool → A → Maybe A
@@ -35,3 +36,7 @@ dateBy tabled stationed year month = answered (dateAsked {T = Unit} {S = Unit} (
 abbrev pub minutesBy : Bool → Bool → Bool → Bool → Outcome Unit
 minutesBy tabled stationed dated outside =
     answered (minutesAsked {T = Unit} {S = Unit} {M = Unit} (λ _. outside) (when tabled tt) (when stationed tt) (when dated tt))
+
+-- what a year's sheet asks first, by the flags
+abbrev pub yearBy : Bool → Bool → ℕ → Outcome Unit
+yearBy tabled stationed year = answered (yearAsked {T = Unit} {S = Unit} (when tabled tt) (when stationed tt) year)

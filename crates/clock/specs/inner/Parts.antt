@@ -48,15 +48,3 @@ withMonth c last m =
       ps = m .ps;
       qs = m .qs;
     }
-
--- the prepared month that a clock keeps
-abbrev pub keptMonth : Clock → Month
-keptMonth c =
-    record {
-      count = c .count;
-      arguments = c .arguments;
-      lags = c .lags;
-      frequencies = c .frequencies;
-      ps = c .ps;
-      qs = c .qs;
-    }

@@ -17,7 +17,14 @@ use Rattle.station.specs.inner.Station.{stationOf}
 use Rattle.month_prepared.specs.inner.View.{constituentsFrom}
 use Rattle.calendar.specs.Calendar.{monthMinutes}
 use Rattle.month.specs.Month.{monthOf}
-use Rattle.calls.specs.State.{some}
+use Rattle.month_prepared.specs.Prepared.{Month}
+use Rattle.heights.specs.inner.Places.{SeriesWithin}
+use Rattle.turns.specs.Written.{TurnsFound}
+use Rattle.turns.specs.inner.Search.{Reaches}
+use Rattle.station.specs.declared.Station as declaredStation
+use Rattle.calls.specs.declared.sheets.Sheet.{Sheet}
+use Rattle.calls.specs.Year.{sheetOver, yearGives}
+use Rattle.calls.specs.State.{Maybe, some}
 use Rattle.calls.specs.Calls.{heightReturns}
 use Rattle.calls.specs.inner.Flags.{stateOf, tabledOnly}
 use Rattle.clock.specs.View.{view, Sound}
@@ -49,3 +56,17 @@ PartsMade tabled cosines count last = tabled ≡ true → IsTable cosines × ((c
 -- a height from the parts of a clock, whatever table and station it has
 pub record HeightFrom (tabled stationed dated : Bool) (last count : ℕ) (arguments lags frequencies : List ℕ) (ps qs : List ℤ) (minute : ℕ) (returned : Outcome ℤ) : Type 0 where
   pub returns : (t : Table) (s : Station) → returned ≡ heightReturns (stateOf tabled t stationed s dated (record { last = last; constituents = constituentsFrom arguments lags frequencies ps qs count })) minute
+
+-- a year's sheet, of a table and a station, for a year in range, whatever month the clock has
+pub record SheetPost (table : declared.Table) (station : declaredStation.Station) (sheet : Sheet) (series seriesLeft : List ℤ) (minutes minutesLeft : List ℕ) (heights heightsLeft : List ℤ) (returned : Outcome TurnsFound) : Type 0 where
+  pub gives : (month : Maybe Month) → record { returned = returned; series = seriesLeft; minutes = minutesLeft; heights = heightsLeft }
+      ≡ yearGives (record { table = some (tableOf table); station = some (stationOf station); month = month }) sheet series minutes heights
+
+-- a series and a search within months that end at a minute
+pub record SheetWithin (end stride : ℕ) (sheet : Sheet) (places : ℕ) : Type 0 where
+  pub series : SeriesWithin end (sheet .start) (sheet .step) places
+  pub search : Reaches end (record { stride = stride; first = sheet .first; last = sheet .last })
+
+-- the sheet of the months whose rows five lists hold
+pub record WrittenPost (months : List Month) (stride : ℕ) (sheet : Sheet) (series seriesLeft : List ℤ) (minutes minutesLeft : List ℕ) (heights heightsLeft : List ℤ) (returned : Outcome TurnsFound) : Type 0 where
+  pub gives : record { returned = returned; series = seriesLeft; minutes = minutesLeft; heights = heightsLeft } ≡ sheetOver months stride sheet series minutes heights
