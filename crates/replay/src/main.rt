@@ -5,10 +5,12 @@ ghost use mathlib.Core.Path.{_≡_};
 ghost use lib.ListN.{length};
 ghost use Rattle.clock.specs.View.{Made};
 ghost use Rattle.transcript.specs.inner.Posts.{Lent};
+use calls::sheets::Sheet;
 use clock::After;
 use clock::Clock;
 use clock::HeightAnswer;
 use clock::TurnsAnswer;
+use script::YearLine;
 use station::records::Rows;
 use transcript::answers;
 use transcript::input;
@@ -152,11 +154,57 @@ fn turns_call(
     put_turns(page, at, answer, minutes, heights)
 }
 
+// The year's sheet that a line asks.
+fn sheet_of(line: YearLine) -> Sheet {
+    Sheet {
+        year: line.year,
+        start: line.start,
+        step: line.step,
+        first: line.first,
+        last: line.last,
+    }
+}
+
+// The heights of a year's series and the turns of its search, or the refusal.
+fn put_sheet<'a>(
+    page: &mut [u8],
+    at: usize,
+    answer: TurnsAnswer,
+    series: &'a [i64],
+    minutes: &'a [u32],
+    heights: &'a [i64],
+) -> usize {
+    match answer {
+        TurnsAnswer::Turns(count, high) => {
+            let next = answers::put_year(page, at, series);
+            answers::put_turns(page, next, count, high, minutes, heights)
+        }
+        TurnsAnswer::Refused(refusal, place) => answers::put_refused(page, at, refusal, place),
+    }
+}
+
+// The line of a year's sheet, which is worked out in the places that are lent.
+fn year_call(
+    clock: Clock,
+    sheet: Sheet,
+    series: &mut [i64],
+    minutes: &mut [u32],
+    heights: &mut [i64],
+    page: &mut [u8],
+    at: usize,
+) -> usize
+    requires { ⌜ Made clock ⌝ }
+{
+    let answer = clock::year(clock, sheet, series, minutes, heights);
+    put_sheet(page, at, answer, series, minutes, heights)
+}
+
 // The answer to a call. At the end of the input the run ends with no word.
 fn answer_call(
     heard: Heard,
     clock: Clock,
     buffer: &[u8],
+    series: &mut [i64],
     minutes: &mut [u32],
     heights: &mut [i64],
     page: &mut [u8],
@@ -164,6 +212,7 @@ fn answer_call(
 ) -> Step
     requires { ⌜ Made clock ⌝ }
     requires { ⌜ Lent (length (now buffer)) (length (now minutes)) (length (now heights)) (heard .asked) ⌝ }
+    requires { ⌜ length (now series) ≡ length (now heights) ⌝ }
     ensures { λ r. ⌜ Made (r .clock) ⌝ }
 {
     let asked = heard.asked;
@@ -198,6 +247,21 @@ fn answer_call(
             );
             return left(clock, next);
         }
+        Asked::Year(line) => {
+            let n = line.count as usize;
+            let m = line.minutes as usize;
+            let h = line.heights as usize;
+            let next = year_call(
+                clock,
+                sheet_of(line),
+                &mut series[..n],
+                &mut minutes[..m],
+                &mut heights[..h],
+                page,
+                at,
+            );
+            return left(clock, next);
+        }
         Asked::End => {
             return Step {
                 clock,
@@ -219,7 +283,15 @@ fn first() -> Step
 }
 
 // Calls until the run ends. A proved loop has to end, and nothing says that the input does, so the calls are counted down from a number that no run uses up.
-fn run(buffer: &mut [u8], minutes: &mut [u32], heights: &mut [i64], page: &mut [u8]) {
+fn run(
+    buffer: &mut [u8],
+    series: &mut [i64],
+    minutes: &mut [u32],
+    heights: &mut [i64],
+    page: &mut [u8],
+)
+    requires { ⌜ length (now series) ≡ length (now heights) ⌝ }
+{
     let mut step = first();
     let mut window = input::start();
     let mut calls = u64::MAX;
@@ -227,7 +299,16 @@ fn run(buffer: &mut [u8], minutes: &mut [u32], heights: &mut [i64], page: &mut [
         let heard = reading::next_call(buffer, window, minutes.len(), heights.len());
         let next = heard.window;
         window = next;
-        step = answer_call(heard, step.clock, buffer, minutes, heights, page, step.at);
+        step = answer_call(
+            heard,
+            step.clock,
+            buffer,
+            series,
+            minutes,
+            heights,
+            page,
+            step.at,
+        );
         calls -= 1;
     }
     output::flush(page, step.at);
@@ -256,8 +337,15 @@ fn height_places() -> [i64; 65536]
 
 fn main() {
     let mut buffer = input_buffer();
+    let mut series = height_places();
     let mut minutes = minute_places();
     let mut heights = height_places();
     let mut page = io::large_buffer();
-    run(&mut buffer, &mut minutes, &mut heights, &mut page);
+    run(
+        &mut buffer,
+        &mut series,
+        &mut minutes,
+        &mut heights,
+        &mut page,
+    );
 }

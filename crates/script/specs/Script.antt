@@ -7,7 +7,7 @@ use lib.IntN.{ℤ, pos, negℤ}
 use Rattle.columns.specs.Names.{same}
 use Rattle.script.specs.Words.{words, largest, reading, onward, lastNumber, given}
 use Rattle.script.specs.declared.Call.{Call}
-use Rattle.script.specs.declared.Call.the-variants.{Cards, Station, Date, Height, Series, Turns, Bad}
+use Rattle.script.specs.declared.Call.the-variants.{Cards, Station, Date, Height, Series, Turns, Year, Bad}
 use Rattle.script.specs.declared.Entry.{Entry}
 use Rattle.script.specs.declared.Entry.the-variants.{Record, Bad as NoRecord}
 
@@ -62,6 +62,23 @@ turnsOf ws =
     onward Bad (reading largest ws) (λ minutes ws.
     given Bad (lastNumber ws) (λ heights. Turns first last minutes heights))))
 
+-- "FIRST LAST MINUTES HEIGHTS", behind the numbers of a year's series
+unfoldable pub yearSearchOf : ℕ → ℕ → ℕ → ℕ → List (List ℕ) → Call
+yearSearchOf year start step count ws =
+    onward Bad (reading largest ws) (λ first ws.
+    onward Bad (reading largest ws) (λ last ws.
+    onward Bad (reading largest ws) (λ minutes ws.
+    given Bad (lastNumber ws) (λ heights.
+    Year (record { year = year; start = start; step = step; count = count; first = first; last = last; minutes = minutes; heights = heights })))))
+
+-- "year YEAR START STEP COUNT FIRST LAST MINUTES HEIGHTS"
+unfoldable pub yearOf : List (List ℕ) → Call
+yearOf ws =
+    onward Bad (reading largest ws) (λ year ws.
+    onward Bad (reading largest ws) (λ start ws.
+    onward Bad (reading largest ws) (λ step ws.
+    onward Bad (reading largest ws) (λ count ws. yearSearchOf year start step count ws))))
+
 -- the words of the calls, letter by letter
 abbrev pub cardsWord : List ℕ
 cardsWord = 99 ∷ 97 ∷ 114 ∷ 100 ∷ 115 ∷ []
@@ -81,6 +98,9 @@ seriesWord = 115 ∷ 101 ∷ 114 ∷ 105 ∷ 101 ∷ 115 ∷ []
 abbrev pub turnsWord : List ℕ
 turnsWord = 116 ∷ 117 ∷ 114 ∷ 110 ∷ 115 ∷ []
 
+abbrev pub yearWord : List ℕ
+yearWord = 121 ∷ 101 ∷ 97 ∷ 114 ∷ []
+
 -- "Each call is a line: a word, then decimal numbers"
 unfoldable pub callOfWords : List (List ℕ) → Call
 callOfWords [] = Bad
@@ -90,7 +110,8 @@ callOfWords (w ∷ ws) =
     (cond (same w dateWord) (dateOf ws)
     (cond (same w heightWord) (heightOf ws)
     (cond (same w seriesWord) (seriesOf ws)
-    (cond (same w turnsWord) (turnsOf ws) Bad)))))
+    (cond (same w turnsWord) (turnsOf ws)
+    (cond (same w yearWord) (yearOf ws) Bad))))))
 
 abbrev pub callOf : List ℕ → Call
 callOf line = callOfWords (words line)

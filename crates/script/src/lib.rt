@@ -5,8 +5,8 @@ ghost use Prim.Native.Nat.{_+_, _-_, _≤_, _^_};
 ghost use lib.ListN.{length};
 ghost use lib.IntN.{pos, negℤ};
 ghost use Rattle.columns.specs.Names.{same};
-ghost use Rattle.script.specs.Script.{callOf, callOfWords, recordOf, hasMinus, stationAt, stationOf, cardsOf, dateOf, heightOf, seriesOf, turnsOf};
-ghost use Rattle.script.specs.inner.Left.{wordsFrom};
+ghost use Rattle.script.specs.Script.{callOf, callOfWords, recordOf, hasMinus, stationAt, stationOf, cardsOf, dateOf, heightOf, seriesOf, turnsOf, yearOf};
+ghost use Rattle.script.specs.inner.Left.{wordsFrom, withSearch};
 
 mod words; // words and decimal numbers
 
@@ -17,6 +17,18 @@ use crate::words::field_at;
 use crate::words::last_at;
 use crate::words::word_end;
 
+// year YEAR START STEP COUNT FIRST LAST MINUTES HEIGHTS
+pub struct YearLine {
+    pub year: u32,
+    pub start: u32,
+    pub step: u32,
+    pub count: u32,
+    pub first: u32,
+    pub last: u32,
+    pub minutes: u32,
+    pub heights: u32,
+}
+
 // A line's call: its word and its numbers.
 pub enum Call {
     Cards(u32),
@@ -25,6 +37,7 @@ pub enum Call {
     Height(u32),
     Series(u32, u32, u32),
     Turns(u32, u32, u32, u32),
+    Year(YearLine),
     Bad,
 }
 
@@ -117,6 +130,48 @@ fn turns_at(line: &[u8], at: usize) -> Call
     Call::Turns(from, to, minutes, heights)
 }
 
+// A year's call, of the numbers of its series and of a search.
+fn with_search(turns: Call, year: u32, start: u32, step: u32, count: u32) -> Call
+    ensures { λ r. ⌜ r ≡ withSearch turns year start step count ⌝ }
+{
+    match turns {
+        Call::Turns(first, last, minutes, heights) => Call::Year(YearLine {
+            year,
+            start,
+            step,
+            count,
+            first,
+            last,
+            minutes,
+            heights,
+        }),
+        _ => Call::Bad,
+    }
+}
+
+// year YEAR START STEP COUNT FIRST LAST MINUTES HEIGHTS
+fn year_at(line: &[u8], at: usize) -> Call
+    ensures { λ r. ⌜ r ≡ yearOf (wordsFrom (now (line .entry)) at) ⌝ }
+{
+    let first = field_at(line, at, LARGEST);
+    let Field::Read(year, second_at) = first else {
+        return Call::Bad;
+    };
+    let second = field_at(line, second_at, LARGEST);
+    let Field::Read(start, third_at) = second else {
+        return Call::Bad;
+    };
+    let third = field_at(line, third_at, LARGEST);
+    let Field::Read(step, fourth_at) = third else {
+        return Call::Bad;
+    };
+    let fourth = field_at(line, fourth_at, LARGEST);
+    let Field::Read(count, search) = fourth else {
+        return Call::Bad;
+    };
+    with_search(turns_at(line, search), year, start, step, count)
+}
+
 // A latitude without a minus.
 fn north(size: u32) -> i32
     requires { ⌜ size ≤ 2 ^ 31 - 1 ⌝ }
@@ -202,6 +257,9 @@ fn call_at(word: &[u8], line: &[u8], at: usize) -> Call
     }
     if is_word(word, b"turns") {
         return turns_at(line, at);
+    }
+    if is_word(word, b"year") {
+        return year_at(line, at);
     }
     Call::Bad
 }

@@ -54,18 +54,25 @@ pub fn put_height(page: &mut [u8], at: usize, height: i64) -> usize
     output::put(page, end, 10)
 }
 
-// heights H0 H1 ...
-fn put_heights(page: &mut [u8], at: usize, heights: &[i64]) -> usize
-    ensures { λ r. ⌜ r ≤ length (now (page .entry)) ⌝ }
-{
-    let mut next = output::put_bytes(page, at, b"heights");
+// The heights, each behind a blank.
+fn put_each(page: &mut [u8], at: usize, heights: &[i64]) -> usize {
+    let mut next = at;
     let mut i = 0;
     while i < heights.len() {
         next = output::put(page, next, 32);
         next = output::put_signed(page, next, heights[i]);
         i += 1;
     }
-    output::put(page, next, 10)
+    next
+}
+
+// heights H0 H1 ...
+fn put_heights(page: &mut [u8], at: usize, heights: &[i64]) -> usize
+    ensures { λ r. ⌜ r ≤ length (now (page .entry)) ⌝ }
+{
+    let word = output::put_bytes(page, at, b"heights");
+    let end = put_each(page, word, heights);
+    output::put(page, end, 10)
 }
 
 // What a series says: its heights where it is accepted.
@@ -142,4 +149,14 @@ pub fn put_turns<'a>(
 {
     let next = put_count(page, at, count, high);
     put_found(page, next, count, minutes, heights)
+}
+
+// year COUNT H0 H1 ... and a blank, before the turns of the year's search
+pub fn put_year(page: &mut [u8], at: usize, heights: &[i64]) -> usize
+    ensures { λ r. ⌜ r ≤ length (now (page .entry)) ⌝ }
+{
+    let word = output::put_bytes(page, at, b"year ");
+    let count = output::put_number(page, word, heights.len() as u64);
+    let end = put_each(page, count, heights);
+    output::put(page, end, 32)
 }

@@ -9,13 +9,14 @@ use crate::input::Window;
 use limits::RECORDS;
 use script::Call;
 use script::Entry;
+use script::YearLine;
 use station::records::Rows;
 use station::records::no_rows;
 use station::records::put;
 use std::num::wrapping_add_u64;
 
-// What a call asks. A card file stands in the buffer from the first place to the second; a station has a latitude and so many records; a series and
-// a search end with how many places they are lent. Stop: the input is not of the form.
+// What a call asks. A card file stands in the buffer from the first place to the second; a station has a latitude and so many records; a series,
+// a search and a year's sheet end with how many places they are lent. Stop: the input is not of the form.
 pub enum Asked {
     Cards(usize, usize),
     Station(i32, usize),
@@ -23,6 +24,7 @@ pub enum Asked {
     Height(u32),
     Series(u32, u32, usize),
     Turns(u32, u32, usize, usize),
+    Year(YearLine),
     End,
     Stop,
 }
@@ -272,6 +274,19 @@ fn asked_turns(minutes: usize, heights: usize, first: u32, last: u32, m: u32, h:
     Asked::Turns(first, last, a, b)
 }
 
+// year YEAR START STEP COUNT FIRST LAST MINUTES HEIGHTS, where so many places can be lent: for the series as many as for the heights of turns.
+fn asked_year(minutes: usize, heights: usize, line: YearLine) -> Asked
+    ensures { λ r. ⌜ Lent 0 minutes heights r ⌝ }
+{
+    if heights < line.count as usize {
+        return Asked::Stop;
+    }
+    if minutes < line.minutes as usize || heights < line.heights as usize {
+        return Asked::Stop;
+    }
+    Asked::Year(line)
+}
+
 // What a line's call asks, with what stands behind the line, for a program that can lend so many places for minutes and for heights.
 fn hear(buffer: &mut [u8], told: CallLine, minutes: usize, heights: usize) -> Heard
     requires { ⌜ Within (length (now buffer)) (told .window) ⌝ }
@@ -301,6 +316,9 @@ fn hear(buffer: &mut [u8], told: CallLine, minutes: usize, heights: usize) -> He
                 line,
                 told.window,
             );
+        }
+        Call::Year(year) => {
+            return heard_line(asked_year(minutes, heights, year), line, told.window);
         }
         Call::Bad => {
             return heard_line(Asked::Stop, line, told.window);

@@ -3,7 +3,7 @@ use borrow.Author.Needs.{needs}
 use mathlib.Core.Path.{_≡_, sym, _∙_}
 use mathlib.Core.Bool.{true}
 use Rattle.columns.specs.Names.{same}
-use Rattle.script.specs.Script.{callOfWords, turnsWord}
+use Rattle.script.specs.Script.{callOfWords, turnsWord, yearWord}
 use Rattle.script.proofs.call_at.Statement.{statement}
 use Rattle.script.proofs.call_at.Tie as tie
 
@@ -87,9 +87,24 @@ returns-6 c =
     let turns : same _ turnsWord ≡ true = sym (c .before .before .is-word6 .ensures) ∙ c .before .if6 .taken in
     rw (← c .before .before .before .before .before .before .before .before .before .before .before .before .before .before .before .before .before .is-word .ensures, c .before .before .before .before .before .before .before .before .before .before .before .before .before .before .before .before .if1 .left, ← c .before .before .before .before .before .before .before .before .before .before .before .before .before .before .is-word2 .ensures, c .before .before .before .before .before .before .before .before .before .before .before .before .before .if2 .left, ← c .before .before .before .before .before .before .before .before .before .before .before .is-word3 .ensures, c .before .before .before .before .before .before .before .before .before .before .if3 .left, ← c .before .before .before .before .before .before .before .before .is-word4 .ensures, c .before .before .before .before .before .before .before .if4 .left, ← c .before .before .before .before .before .is-word5 .ensures, c .before .before .before .before .if5 .left, turns) (c .turns-at .ensures)
 
+slice-aggregate-is-word-7 : tie.Need-slice-aggregate-is-word-7
+slice-aggregate-is-word-7 c = search needs
+
+is-word-requires-7 : tie.Need-is-word-requires-7
+is-word-requires-7 c κs = search needs
+
+year-at-requires : tie.Need-year-at-requires
+year-at-requires c κs = search needs
+
 returns-7 : tie.Need-returns-7
 unfolding callOfWords
-returns-7 c = rw (← c .before .before .before .before .before .before .before .before .before .before .before .before .before .before .before .before .is-word .ensures, c .before .before .before .before .before .before .before .before .before .before .before .before .before .before .before .if1 .left, ← c .before .before .before .before .before .before .before .before .before .before .before .before .before .is-word2 .ensures, c .before .before .before .before .before .before .before .before .before .before .before .before .if2 .left, ← c .before .before .before .before .before .before .before .before .before .before .is-word3 .ensures, c .before .before .before .before .before .before .before .before .before .if3 .left, ← c .before .before .before .before .before .before .before .is-word4 .ensures, c .before .before .before .before .before .before .if4 .left, ← c .before .before .before .before .is-word5 .ensures, c .before .before .before .if5 .left, ← c .before .is-word6 .ensures, c .if6 .left)
+returns-7 c =
+    let year : same _ yearWord ≡ true = sym (c .before .before .is-word7 .ensures) ∙ c .before .if7 .taken in
+    rw (← c .before .before .before .before .before .before .before .before .before .before .before .before .before .before .before .before .before .before .before .before .is-word .ensures, c .before .before .before .before .before .before .before .before .before .before .before .before .before .before .before .before .before .before .before .if1 .left, ← c .before .before .before .before .before .before .before .before .before .before .before .before .before .before .before .before .before .is-word2 .ensures, c .before .before .before .before .before .before .before .before .before .before .before .before .before .before .before .before .if2 .left, ← c .before .before .before .before .before .before .before .before .before .before .before .before .before .before .is-word3 .ensures, c .before .before .before .before .before .before .before .before .before .before .before .before .before .if3 .left, ← c .before .before .before .before .before .before .before .before .before .before .before .is-word4 .ensures, c .before .before .before .before .before .before .before .before .before .before .if4 .left, ← c .before .before .before .before .before .before .before .before .is-word5 .ensures, c .before .before .before .before .before .before .before .if5 .left, ← c .before .before .before .before .before .is-word6 .ensures, c .before .before .before .before .if6 .left, year) (c .year-at .ensures)
+
+returns-8 : tie.Need-returns-8
+unfolding callOfWords
+returns-8 c = rw (← c .before .before .before .before .before .before .before .before .before .before .before .before .before .before .before .before .before .before .before .is-word .ensures, c .before .before .before .before .before .before .before .before .before .before .before .before .before .before .before .before .before .before .if1 .left, ← c .before .before .before .before .before .before .before .before .before .before .before .before .before .before .before .before .is-word2 .ensures, c .before .before .before .before .before .before .before .before .before .before .before .before .before .before .before .if2 .left, ← c .before .before .before .before .before .before .before .before .before .before .before .before .before .is-word3 .ensures, c .before .before .before .before .before .before .before .before .before .before .before .before .if3 .left, ← c .before .before .before .before .before .before .before .before .before .before .is-word4 .ensures, c .before .before .before .before .before .before .before .before .before .if4 .left, ← c .before .before .before .before .before .before .before .is-word5 .ensures, c .before .before .before .before .before .before .if5 .left, ← c .before .before .before .before .is-word6 .ensures, c .before .before .before .if6 .left, ← c .before .is-word7 .ensures, c .if7 .left)
 
 pub call-at-spec : {M : Type 1} → statement M
 call-at-spec =
@@ -119,4 +134,8 @@ call-at-spec =
     is-word-requires-6
     turns-at-requires
     returns-6
-    returns-7)
+    slice-aggregate-is-word-7
+    is-word-requires-7
+    year-at-requires
+    returns-7
+    returns-8)

@@ -5,6 +5,8 @@ use mathlib.Core.Bool.{cond}
 use lib.Dec.{eqb}
 use Rattle.script.specs.declared.words.Field.{Field}
 use Rattle.script.specs.declared.words.Field.the-variants.{Read, NoField}
+use Rattle.script.specs.declared.Call.{Call}
+use Rattle.script.specs.declared.Call.the-variants.{Cards, Station, Date, Height, Series, Turns, Year, Bad}
 use Rattle.script.specs.Words.{words, Reading, read, unread}
 
 -- the words from byte k on; none past the line's end
@@ -22,3 +24,15 @@ wordLength (b ∷ bs) = cond (eqb b 32) 0 (suc (wordLength bs))
 abbrev pub readingAt : List ℕ → Field → Reading
 readingAt line (Read n next) = read n (wordsFrom line next)
 readingAt line NoField = unread
+
+-- a year's call, of its series and of a search read as `turns` has it
+abbrev pub withSearch : Call → ℕ → ℕ → ℕ → ℕ → Call
+withSearch (Cards bytes) year start step count = Bad
+withSearch (Station latitude records) year start step count = Bad
+withSearch (Date y month) year start step count = Bad
+withSearch (Height minute) year start step count = Bad
+withSearch (Series s t places) year start step count = Bad
+withSearch (Turns first last minutes heights) year start step count =
+    Year (record { year = year; start = start; step = step; count = count; first = first; last = last; minutes = minutes; heights = heights })
+withSearch (Year line) year start step count = Bad
+withSearch Bad year start step count = Bad

@@ -4,7 +4,7 @@ use Prim.Native.Nat.{ℕ, _≤_}
 use native.Mathlib.Omega.{arith}
 use Rattle.transcript.specs.declared.input.Window.{Window}
 use Rattle.transcript.specs.declared.reading.Asked.{Asked}
-use Rattle.transcript.specs.declared.reading.Asked.the-variants.{Cards, Station, Date, Height, Series, Turns, End, Stop}
+use Rattle.transcript.specs.declared.reading.Asked.the-variants.{Cards, Station, Date, Height, Series, Turns, Year, End, Stop}
 use Rattle.transcript.specs.declared.reading.Heard.{Heard}
 use Rattle.transcript.specs.inner.Window.{Within}
 use Rattle.transcript.specs.inner.Posts.{Fits, Lent, HeardPost}
@@ -19,15 +19,16 @@ fits-more n m h k p q i j l (Date year month) f = tt
 fits-more n m h k p q i j l (Height minute) f = tt
 fits-more n m h k p q i j l (Series start step count) f = omega arith
 fits-more n m h k p q i j l (Turns first last minutes heights) f = (omega arith, omega arith)
+fits-more n m h k p q i j l (Year line) f = (omega arith, omega arith, omega arith)
 fits-more n m h k p q i j l End f = tt
 fits-more n m h k p q i j l Stop f = tt
 
--- a series is lent heights alone, a search minutes and heights
+-- a series is lent heights alone, a search and a year's sheet minutes and heights
 pub lent-series : {n m h : ℕ} (a : Asked) → Lent 0 0 h a → Lent n m h a
 lent-series {n} {m} {h} a f = record { fits = fits-more 0 0 h n m h (omega arith) (omega arith) (omega arith) a (f .fits) }
 
-pub lent-turns : {n m h : ℕ} (a : Asked) → Lent 0 m h a → Lent n m h a
-lent-turns {n} {m} {h} a f = record { fits = fits-more 0 m h n m h (omega arith) (omega arith) (omega arith) a (f .fits) }
+pub lent-both : {n m h : ℕ} (a : Asked) → Lent 0 m h a → Lent n m h a
+lent-both {n} {m} {h} a f = record { fits = fits-more 0 m h n m h (omega arith) (omega arith) (omega arith) a (f .fits) }
 
 -- a card file and a station are lent neither
 pub heard-alone : {n m h : ℕ} (r : Heard) → HeardPost n 0 0 r → HeardPost n m h r

@@ -11,7 +11,7 @@ use Rattle.station.specs.declared.records.Rows.{Rows}
 use Rattle.station.specs.inner.Rows.{putRow}
 use Rattle.transcript.specs.declared.reading.CardFile.{CardFile}
 use Rattle.transcript.specs.declared.reading.Asked.{Asked}
-use Rattle.transcript.specs.declared.reading.Asked.the-variants.{Cards, Station, Date, Height, Series, Turns, End, Stop}
+use Rattle.transcript.specs.declared.reading.Asked.the-variants.{Cards, Station, Date, Height, Series, Turns, Year, End, Stop}
 use Rattle.transcript.specs.declared.reading.Heard.{Heard}
 
 -- the card file stands in the buffer of n bytes; one that came whole has the bytes asked for, and LF (10) behind them
@@ -33,6 +33,7 @@ Fits n m h (Date year month) = Unit {0}
 Fits n m h (Height minute) = Unit {0}
 Fits n m h (Series start step count) = count ≤ h
 Fits n m h (Turns first last minutes heights) = (minutes ≤ m) × (heights ≤ h)
+Fits n m h (Year line) = (line .count ≤ h) × (line .minutes ≤ m) × (line .heights ≤ h)
 Fits n m h End = Unit {0}
 Fits n m h Stop = Unit {0}
 

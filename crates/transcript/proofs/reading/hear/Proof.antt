@@ -1,6 +1,6 @@
 -- `transcript::reading::hear` meets its contract, by what the reader of each call says. Assumes nothing.
 use borrow.Author.Needs.{needs}
-use Rattle.transcript.proofs.reading.Lending.{heard-said, heard-alone, lent-series, lent-turns}
+use Rattle.transcript.proofs.reading.Lending.{heard-said, heard-alone, lent-series, lent-both}
 use Rattle.transcript.proofs.reading.hear.Statement.{statement}
 use Rattle.transcript.proofs.reading.hear.Tie as tie
 
@@ -71,16 +71,28 @@ heard-line-requires-4 : tie.Need-heard-line-requires-4
 heard-line-requires-4 c κs = search needs
 
 returns-6 : tie.Need-returns-6
-returns-6 c = heard-said _ _ _ (c .heard-line4 .ensures) (search needs) (lent-turns _ (c .before .asked-turns .ensures))
+returns-6 c = heard-said _ _ _ (c .heard-line4 .ensures) (search needs) (lent-both _ (c .before .asked-turns .ensures))
 
-enum-told : tie.Need-enum-told
-enum-told c = search needs
+enum-known-call-7 : tie.Need-enum-known-call-7
+enum-known-call-7 c = search needs
+
+asked-year-requires : tie.Need-asked-year-requires
+asked-year-requires c κs = search needs
 
 heard-line-requires-5 : tie.Need-heard-line-requires-5
 heard-line-requires-5 c κs = search needs
 
 returns-7 : tie.Need-returns-7
-returns-7 c = heard-said _ _ _ (c .heard-line5 .ensures) (search needs) (record { fits = tt })
+returns-7 c = heard-said _ _ _ (c .heard-line5 .ensures) (search needs) (lent-both _ (c .before .asked-year .ensures))
+
+enum-told : tie.Need-enum-told
+enum-told c = search needs
+
+heard-line-requires-6 : tie.Need-heard-line-requires-6
+heard-line-requires-6 c κs = search needs
+
+returns-8 : tie.Need-returns-8
+returns-8 c = heard-said _ _ _ (c .heard-line6 .ensures) (search needs) (record { fits = tt })
 
 pub hear-spec : {M : Type 1} → statement M
 hear-spec =
@@ -109,6 +121,10 @@ hear-spec =
     asked-turns-requires
     heard-line-requires-4
     returns-6
-    enum-told
+    enum-known-call-7
+    asked-year-requires
     heard-line-requires-5
-    returns-7)
+    returns-7
+    enum-told
+    heard-line-requires-6
+    returns-8)

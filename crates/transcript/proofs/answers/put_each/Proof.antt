@@ -1,22 +1,16 @@
--- `transcript::answers::put_heights` is safe and ends: the page keeps its length. The measure is the heights left. Assumes nothing.
+-- `transcript::answers::put_each` is safe and ends: the page keeps its length. The measure is the heights left. Assumes nothing.
 use mathlib.Core.Path.{_≡_}
 use Prim.Native.Nat.{_-_}
 use lib.ListN.{length}
 use borrow.Author.Needs.{needs}
-use Rattle.transcript.proofs.answers.put_heights.Statement.{statement}
-use Rattle.transcript.proofs.answers.put_heights.Tie as tie
+use Rattle.transcript.proofs.answers.put_each.Statement.{statement}
+use Rattle.transcript.proofs.answers.put_each.Tie as tie
 
 abbrev Inv-loop : tie.InvT-loop
 Inv-loop page₀ at heights next₀ i₀ page next i = length page ≡ length page₀
 
 abbrev μ-loop : tie.MeasureT-loop
 μ-loop page₀ at heights next₀ i₀ page next i = length heights - i
-
-slice-aggregate-put-bytes : tie.Need-slice-aggregate-put-bytes Inv-loop μ-loop
-slice-aggregate-put-bytes c = search needs
-
-put-bytes-requires : tie.Need-put-bytes-requires Inv-loop μ-loop
-put-bytes-requires c κs = search needs
 
 loop-holds : tie.Need-loop-holds Inv-loop μ-loop
 loop-holds c = search needs
@@ -42,23 +36,18 @@ loop-less c = search needs
 loop-again : tie.Need-loop-again Inv-loop μ-loop
 loop-again c = search needs
 
-put-requires-2 : tie.Need-put-requires-2 Inv-loop μ-loop
-put-requires-2 c κs = search needs
-
 same-length : tie.Need-same-length Inv-loop μ-loop
 same-length c = search needs
 
 returns : tie.Need-returns Inv-loop μ-loop
 returns c = search needs
 
-pub put-heights-spec : {M : Type 1} → statement M
-put-heights-spec =
+pub put-each-spec : {M : Type 1} → statement M
+put-each-spec =
     tie.close
     (tie.spec
     Inv-loop
     μ-loop
-    slice-aggregate-put-bytes
-    put-bytes-requires
     loop-holds
     put-requires
     mul-put-signed
@@ -67,6 +56,5 @@ put-heights-spec =
     add-i
     loop-less
     loop-again
-    put-requires-2
     same-length
     returns)
