@@ -128,21 +128,25 @@ last-stands qs gs q g e = subst AllStand (sym (last-exactly qs gs q g e)) (all-s
 
 -- ---- a height, a series, turns
 
+-- the month prepared by the calls before
+abbrev month-after : List Request → Maybe Month
+month-after qs = workedOut (lastAfter nothing qs) .month
+
 pub of-a-height : OfAHeight
-of-a-height qs gs minute h claim = alone _ minute h (first (last-near nothing qs gs _ _ (claim .near)))
+of-a-height qs gs minute h claim = alone (month-after qs) minute h (first (last-near nothing qs gs _ _ (claim .near)))
   where
     first : {months : List Month} {p : Point} → AllNear months (p ∷ []) → NearOver months (p .minute) (p .height)
     first (cons x xs) = x
 
 pub of-a-series : OfASeries
-of-a-series qs gs start step before left claim n h = alone _ (start + n * step) (getD left n (pos 0)) (from-nth _ start step left n h (last-near nothing qs gs _ _ (claim .near)))
+of-a-series qs gs start step before left claim n h = alone (month-after qs) (start + n * step) (getD left n (pos 0)) (from-nth _ start step left n h (last-near nothing qs gs _ _ (claim .near)))
 
 pub of-turns : OfTurns
 of-turns qs gs first last ms ms′ hs hs′ count high claim n c =
     let there : (count ≤ length ms′) × (count ≤ length hs′) = last-stands qs gs _ _ (claim .exactly) in
     let in-minutes : count ≤ length ms′ = there .0 in
     let in-heights : count ≤ length hs′ = there .1 in
-    alone _ (getD ms′ n 0) (getD hs′ n (pos 0)) (of-nth _ ms′ hs′ count n c (omega arith) (omega arith) (last-near nothing qs gs _ _ (claim .near)))
+    alone (month-after qs) (getD ms′ n 0) (getD hs′ n (pos 0)) (of-nth _ ms′ hs′ count n c (omega arith) (omega arith) (last-near nothing qs gs _ _ (claim .near)))
 
 -- ---- a year's series and turns
 
