@@ -1,18 +1,17 @@
 -- The owner of a minute of months that follow one another: the month before whose end it lies. By induction on the months before it.
 use Prim.Native.Nat.{ℕ, zero, suc, _+_, _-_, _*_, _≤_, _<_}
 use native.Mathlib.Omega.{arith}
-use mathlib.Core.Bool.{Bool, true, false, cond}
-use mathlib.Core.Path.{_≡_, refl, sym, ap, _∙_}
+use mathlib.Core.Path.{_≡_, refl, _∙_}
 use mathlib.Core.List.{List, [], _∷_}
-use lib.Dec.{ltb}
 use lib.IntN.{ℤ}
 use lib.ListN.{getD}
 use borrow.Author.Tests.{lt-ltb, le-ltb}
+use Rattle.limits.specs.Limits.{mostMinutes}
 use Rattle.month_prepared.specs.Prepared.{Month}
-use Rattle.month_prepared.specs.Months.{Owned, ownerOf}
+use Rattle.month_prepared.specs.Months.{ownerOf}
 use Rattle.month_prepared.specs.declared.months.Months.{Months}
 use Rattle.month_prepared.specs.declared.months.InMonth.{InMonth}
-use Rattle.month_prepared.specs.inner.Rows.{monthAt, monthsAfter, monthsIn, minutesAfter, OwnerPost}
+use Rattle.month_prepared.specs.inner.Rows.{monthAt, monthsAfter, monthsIn, minutesAfter, lastOf, Following, OwnerPost}
 
 -- the minutes of one month more
 pub minutes-next : (lasts : List ℕ) (m n : ℕ) → minutesAfter lasts m (n + 1) ≡ minutesAfter lasts m n + getD lasts (m + n) 0
@@ -22,6 +21,15 @@ minutes-next lasts m (suc n) =
     let e : m + 1 + n ≡ m + suc n = omega arith in
     let d : suc n + 1 ≡ suc (n + 1) = omega arith in
     rw d (omega (arith, rw e at (minutes-next lasts (m + 1) n)))
+
+-- twelve months have no more minutes than twelve of the longest
+minutes-most : (months : Months) → Following months → (m n : ℕ) → m + n ≤ months .many → minutesAfter (months .lasts) m n ≤ n * mostMinutes
+unfolding minutesAfter
+minutes-most months follow m zero h = omega arith
+minutes-most months follow m (suc n) h = omega (arith, follow .lasts m (omega arith), minutes-most months follow (m + 1) n (omega arith))
+
+pub last-most : (months : Months) → Following months → lastOf months ≤ 12 * mostMinutes
+last-most months follow = omega (arith, minutes-most months follow 0 (months .many) (omega arith), follow .most)
 
 -- a minute before the first month's last, or of a single month, is the first month's; a later one is the owner's of the months after it
 module _ (month : Month) where
