@@ -23,7 +23,7 @@ use Rattle.calls.specs.State.{Maybe}
 use Rattle.calls.specs.Calls.{ready, turnsGives}
 use Rattle.calls.specs.Asked.{turnsOutside}
 use Rattle.calls.specs.declared.sheets.Sheet.{Sheet}
-use Rattle.calls.specs.Year.{sheetOutside, sheetAsked, YearGiven, unlessTurnedDown, beside, yearGives}
+use Rattle.calls.specs.Year.{sheetOutside, sheetAsked, YearGiven, unlessTurnedDown, beside, sheetOver, yearGives}
 use Rattle.calls.proofs.Posed.{Asked, turns-of}
 use Rattle.claim.specs.Document.{monthsOn}
 
@@ -107,14 +107,7 @@ pub year-gives : (P : List Month → YearGiven → Type 0) (sheet : Sheet) (ss :
     → (t : Maybe Table) (s : Maybe station.Station) (m : Maybe Month) → P (monthsOn t s (sheet .year)) (yearGives (record { table = t; station = s; month = m }) sheet ss ms hs)
 unfolding yearGives
 year-gives P sheet ss ms hs none all =
-    sheet-by (λ months o. P months (year-of o)) sheet (length ss) none (λ t s months.
-    given-by (λ g. P months (beside g (new months) ss)) (heightOver months) (turns t s months) ms hs (none months 10 0) (all months (turns t s months)))
-  where
-    new : List Month → List ℤ
-    new months = seriesOf (heightOver months) (sheet .start) (sheet .step) (length ss)
-
-    turns : Table → station.Station → List Month → List Turn
-    turns t s months = turnsOf (slopeOver months) (stationStride t s) (sheet .first) (sheet .last)
-
-    year-of : AskedOfYear → YearGiven
-    year-of o = unlessTurnedDown o ss ms hs λ (t, s, months). beside (given (heightOver months) (turns t s months) ms hs) (new months) ss
+    sheet-by (λ months o. P months (unlessTurnedDown o ss ms hs λ (t, s, months). sheetOver months (stationStride t s) sheet ss ms hs)) sheet (length ss) none (λ t s months.
+    let ts : List Turn = turnsOf (slopeOver months) (stationStride t s) (sheet .first) (sheet .last) in
+    let new : List ℤ = seriesOf (heightOver months) (sheet .start) (sheet .step) (length ss) in
+    given-by (λ g. P months (beside g new ss)) (heightOver months) ts ms hs (none months 10 0) (all months ts))
