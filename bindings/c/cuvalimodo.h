@@ -177,10 +177,9 @@ cuvalimodo_turnings cuvalimodo_turns(const cuvalimodo_clock *clock, uint32_t fir
                                      int64_t *heights, size_t heights_length);
 
 /*
- * A year's sheet: heights of the series into `series`, as cuvalimodo_series gives them, and the high and low waters from minute `first` to minute
- * `last` into `minutes` and `heights`, as cuvalimodo_turns gives them; both, or a refusal and neither. Each month has its own weights, and a month's
- * end belongs to the month that begins. A table and a station are asked for; a month need not be prepared, and one that is stays. `series_length` may be 0, but
- * `start` and `step` must be in range (3,000 turns are plenty for a year).
+ * A year's sheet: heights at start, start + step and so on into `series`, and the high and low waters from minute `first` to minute `last` into
+ * `minutes` and `heights`, each as above with the year in place of the month; both, or a refusal and neither. Each month has its own weights, and
+ * midnight at a month's end belongs to the month that begins. No month need be prepared, and one that is stays. (3,000 turns are plenty for a year.)
  */
 cuvalimodo_turnings cuvalimodo_year(const cuvalimodo_clock *clock, uint32_t year, uint32_t start, uint32_t step, uint32_t first, uint32_t last,
                                     int64_t *series, size_t series_length,

@@ -274,8 +274,8 @@ impl Clock {
         Ok(Turns { count: said.count, first_high: said.high })
     }
 
-    /// The clock's bytes. A refused call leaves every one as it was, which is tested, not proved: proved is that the clock's state stays. (Two clocks in one state may
-    /// differ in bytes that mean nothing.)
+    /// The clock's bytes. A refused call leaves the clock's state as it was, which is proved, and every byte, which is tested (`bindings/compare.py`).
+    /// (Two clocks in one state may differ in bytes that mean nothing.)
     pub fn bytes(&self) -> &[u8; CLOCK_SIZE] {
         self.0.bytes()
     }
