@@ -3,3 +3,4 @@ pub mod Stations
 pub mod Lent
 pub mod Dates
 pub mod Posed
+pub mod YearSheet

@@ -42,7 +42,7 @@ turns-of first last minutes heights o =
 -- ---- by the flags
 
 -- a refusal's place is 0
-no-place : {A B : Type 0} {n p number place : ℕ} → _≡_ {A = Outcome A} (refused n p) (refused number place) → _≡_ {A = Outcome B} (refused n 0) (refused number 0)
+pub no-place : {A B : Type 0} {n p number place : ℕ} → _≡_ {A = Outcome A} (refused n p) (refused number place) → _≡_ {A = Outcome B} (refused n 0) (refused number 0)
 no-place {n} {number} e = let z : n ≡ number = cc in ap (λ (k : ℕ). refused k 0) z
 
 module _ (outside : Month → Bool) (table : Table) (station : Station) (month : Month) where

@@ -4,6 +4,7 @@ ghost use mathlib.Core.List.{[]};
 ghost use Prim.Native.Nat.{min};
 ghost use Rattle.limits.specs.Limits.{mostRecords};
 ghost use Rattle.month_prepared.specs.inner.View.{constituentsOf};
+
 pub mod months; // months that follow one another
 
 use limits::RECORDS;

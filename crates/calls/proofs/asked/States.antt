@@ -7,11 +7,11 @@ use mathlib.Core.Bool.{Bool, true, false, not}
 use lib.IntN.{ℤ}
 use Rattle.refusals.specs.Outcome.{Outcome, accepted, refused, refuseIf, _>>_, answered}
 use Rattle.refusals.proofs.Laws.{not-both}
-use Rattle.calendar.specs.Calendar.{inRange}
+use Rattle.calendar.specs.Calendar.{inRange, yearInRange}
 use Rattle.table.specs.Table.{Table}
 use Rattle.station.specs.declared.records.Record.{Record}
 use Rattle.calls.specs.Calls.{stationReturns}
-use Rattle.calls.specs.inner.Flags.{tabledOnly, stateBy, dateBy, minutesBy}
+use Rattle.calls.specs.inner.Flags.{tabledOnly, stateBy, dateBy, minutesBy, yearBy}
 
 pub minutes-by : (t s d outside : Bool) → minutesBy t s d outside ≡ (stateBy t s d >> refuseIf outside 9 0 (accepted tt))
 minutes-by true true true true = refl
@@ -20,14 +20,20 @@ minutes-by true true false outside = refl
 minutes-by true false d outside = refl
 minutes-by false s d outside = refl
 
+-- 8 is asked of a table and a station that are there
+eight : (outside : Bool) → _≡_ {A = Outcome (Unit {0})} (answered {A = Unit {0} × Unit {0}} (refuseIf outside 8 0 (accepted (tt, tt)))) (refuseIf outside 8 0 (accepted tt))
+eight true = refl
+eight false = refl
+
 pub date-by : (t s : Bool) (year month : ℕ) → dateBy t s year month ≡ (stateBy t s true >> refuseIf (not (inRange year month)) 8 0 (accepted tt))
-date-by true true year month = by (not (inRange year month))
-  where
-    by : (outside : Bool) → _≡_ {A = Outcome (Unit {0})} (answered {A = Unit {0} × Unit {0}} (refuseIf outside 8 0 (accepted (tt, tt)))) (refuseIf outside 8 0 (accepted tt))
-    by true = refl
-    by false = refl
+date-by true true year month = eight (not (inRange year month))
 date-by true false year month = refl
 date-by false s year month = refl
+
+pub year-by : (t s : Bool) (year : ℕ) → yearBy t s year ≡ (stateBy t s true >> refuseIf (not (yearInRange year)) 8 0 (accepted tt))
+year-by true true year = eight (not (yearInRange year))
+year-by true false year = refl
+year-by false s year = refl
 
 -- a station asks for a table alone
 pub table-there : (t : Bool) → stateBy t true true ≡ accepted tt → t ≡ true

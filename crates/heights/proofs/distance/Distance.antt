@@ -91,4 +91,4 @@ height-is-near cs minute =
 
 -- "a series' height n, from 0, at start + n × step"
 pub series-is-near : (cs : List Constituent) (start step places n : ℕ) → n < places → Near cs (start + n * step) (getD (seriesOf (heightAt cs) start step places) n (pos 0))
-series-is-near cs start step places n h = rw (series-height cs start step places n h) (height-is-near cs (start + n * step))
+series-is-near cs start step places n h = rw (series-height (heightAt cs) start step places n h) (height-is-near cs (start + n * step))

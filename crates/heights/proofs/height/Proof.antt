@@ -32,26 +32,26 @@ abbrev μ-loop : tie.MeasureT-loop
 
 loop-holds : tie.Need-loop-holds Inv-loop μ-loop
 loop-holds c =
-    let a = c .args in
+    let a = c .before .args in
     (omega arith, (omega arith, +ℤ-idl _ ∙ ap (λ (n : ℕ). sumOfShares (constituentsAfter (a .arguments .now) (a .lags .now) (a .frequencies .now) (a .ps .now) (a .qs .now) 0 n) (a .minute)) (sub-zero (a .count))))
 
 mul-angle-at : tie.Need-mul-angle-at Inv-loop μ-loop
 mul-angle-at c = search needs
 
-element-copy-out-angle-at : tie.Need-element-copy-out-angle-at Inv-loop μ-loop
-element-copy-out-angle-at c = search needs
+shared-slice-read-angle-at : tie.Need-shared-slice-read-angle-at Inv-loop μ-loop
+shared-slice-read-angle-at c = search needs
 
 mul-angle-at-2 : tie.Need-mul-angle-at-2 Inv-loop μ-loop
 mul-angle-at-2 c = search needs
 
-element-copy-out-angle-at-2 : tie.Need-element-copy-out-angle-at-2 Inv-loop μ-loop
-element-copy-out-angle-at-2 c = search needs
+element-copy-out-angle-at : tie.Need-element-copy-out-angle-at Inv-loop μ-loop
+element-copy-out-angle-at c = search needs
 
 mul-angle-at-3 : tie.Need-mul-angle-at-3 Inv-loop μ-loop
 mul-angle-at-3 c = search needs
 
-element-copy-out-angle-at-3 : tie.Need-element-copy-out-angle-at-3 Inv-loop μ-loop
-element-copy-out-angle-at-3 c = search needs
+element-copy-out-angle-at-2 : tie.Need-element-copy-out-angle-at-2 Inv-loop μ-loop
+element-copy-out-angle-at-2 c = search needs
 
 angle-at-requires : tie.Need-angle-at-requires Inv-loop μ-loop
 angle-at-requires c κs = search needs
@@ -59,14 +59,14 @@ angle-at-requires c κs = search needs
 mul-share-at : tie.Need-mul-share-at Inv-loop μ-loop
 mul-share-at c = search needs
 
-element-copy-out-share-at : tie.Need-element-copy-out-share-at Inv-loop μ-loop
-element-copy-out-share-at c = search needs
+shared-slice-copy-out-share-at : tie.Need-shared-slice-copy-out-share-at Inv-loop μ-loop
+shared-slice-copy-out-share-at c = search needs
 
 mul-share-at-2 : tie.Need-mul-share-at-2 Inv-loop μ-loop
 mul-share-at-2 c = search needs
 
-element-copy-out-share-at-2 : tie.Need-element-copy-out-share-at-2 Inv-loop μ-loop
-element-copy-out-share-at-2 c = search needs
+shared-slice-copy-out-share-at-2 : tie.Need-shared-slice-copy-out-share-at-2 Inv-loop μ-loop
+shared-slice-copy-out-share-at-2 c = search needs
 
 share-at-requires : tie.Need-share-at-requires Inv-loop μ-loop
 share-at-requires c κs = search needs
@@ -86,7 +86,7 @@ loop-less c = search needs
 loop-again : tie.Need-loop-again Inv-loop μ-loop
 loop-again c =
     let s = c .before .before .before .before .before .before .before .before .loop in
-    let a = c .before .before .before .before .before .before .before .before .before .args in
+    let a = c .before .before .before .before .before .before .before .before .before .before .args in
     let r = c .share-at in
     let t = c .before .before .before .angle-at in
     let z = toZ w64 (s .sum) in
@@ -113,7 +113,7 @@ returns : tie.Need-returns Inv-loop μ-loop
 unfolding heightAt
 returns c =
     let s = c .before .loop in
-    let a = c .before .before .args in
+    let a = c .before .before .before .args in
     let z = toZ w64 (s .sum) in
     let height = says (kept (shifted (kept (plus (plainly z {A = mostRecords * 2 ^ 32} (omega arith)) (plainly (pos 2_048) {A = 2_048} (lit≤ tt))) (lit< tt)) 4_096 (2 ^ 28) (lit< tt) (lit≤ tt)) (lit< tt)) in
     let none = shares-none (a .arguments .now) (a .lags .now) (a .frequencies .now) (a .ps .now) (a .qs .now) (a .minute) (s .k) (a .count) (omega arith) in
@@ -128,16 +128,16 @@ height-spec =
     μ-loop
     loop-holds
     mul-angle-at
-    element-copy-out-angle-at
+    shared-slice-read-angle-at
     mul-angle-at-2
-    element-copy-out-angle-at-2
+    element-copy-out-angle-at
     mul-angle-at-3
-    element-copy-out-angle-at-3
+    element-copy-out-angle-at-2
     angle-at-requires
     mul-share-at
-    element-copy-out-share-at
+    shared-slice-copy-out-share-at
     mul-share-at-2
-    element-copy-out-share-at-2
+    shared-slice-copy-out-share-at-2
     share-at-requires
     add-sum
     add-k

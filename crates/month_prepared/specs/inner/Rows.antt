@@ -7,7 +7,7 @@ use lib.IntN.{ℤ}
 use lib.ListN.{length, getD, take, drop}
 use Rattle.limits.specs.Limits.{mostRecords, mostMinutes, mostFrequency}
 use Rattle.month_prepared.specs.Prepared.{Month}
-use Rattle.month_prepared.specs.Months.{Owned, ownerOf}
+use Rattle.month_prepared.specs.Months.{ownerOf}
 use Rattle.month_prepared.specs.declared.months.Months.{Months}
 use Rattle.month_prepared.specs.declared.months.InMonth.{InMonth}
 use Rattle.month_prepared.specs.inner.View.{constituentsFrom}
@@ -66,9 +66,12 @@ pub record HasRows (months : Months) (vs : List ℕ) (ps qs : List ℤ) : Type 0
   pub cosines : months .many * mostRecords ≤ length ps
   pub sines : months .many * mostRecords ≤ length qs
 
--- the owner of a minute, whatever stands in the rows
+-- the owner of a minute: the minutes of the months before it, and its own, which is before its last unless it is the last month. So it is,
+-- whatever stands in the rows.
 pub record OwnerPost (months : Months) (minute : ℕ) (r : InMonth) : Type 0 where
   pub there : r .month < months .many
   pub within : r .minute ≤ mostMinutes
+  pub lies : minutesAfter (months .lasts) 0 (r .month) + r .minute ≡ minute
+  pub before : r .month + 1 < months .many → r .minute < getD (months .lasts) (r .month) 0
   pub owns : (arguments lags frequencies : List ℕ) (ps qs : List ℤ)
       → ownerOf (monthsIn arguments lags frequencies ps qs months) minute ≡ record { month = monthAt arguments lags frequencies ps qs months (r .month); minute = r .minute }

@@ -24,20 +24,20 @@ loop-holds c = (omega arith, (refl, below-none _))
 mul-angle-at : tie.Need-mul-angle-at Inv-loop μ-loop
 mul-angle-at c = search needs
 
-element-copy-out-angle-at : tie.Need-element-copy-out-angle-at Inv-loop μ-loop
-element-copy-out-angle-at c = search needs
+shared-slice-read-angle-at : tie.Need-shared-slice-read-angle-at Inv-loop μ-loop
+shared-slice-read-angle-at c = search needs
 
 mul-angle-at-2 : tie.Need-mul-angle-at-2 Inv-loop μ-loop
 mul-angle-at-2 c = search needs
 
-element-copy-out-angle-at-2 : tie.Need-element-copy-out-angle-at-2 Inv-loop μ-loop
-element-copy-out-angle-at-2 c = search needs
+element-copy-out-angle-at : tie.Need-element-copy-out-angle-at Inv-loop μ-loop
+element-copy-out-angle-at c = search needs
 
 mul-angle-at-3 : tie.Need-mul-angle-at-3 Inv-loop μ-loop
 mul-angle-at-3 c = search needs
 
-element-copy-out-angle-at-3 : tie.Need-element-copy-out-angle-at-3 Inv-loop μ-loop
-element-copy-out-angle-at-3 c = search needs
+element-copy-out-angle-at-2 : tie.Need-element-copy-out-angle-at-2 Inv-loop μ-loop
+element-copy-out-angle-at-2 c = search needs
 
 angle-at-requires : tie.Need-angle-at-requires Inv-loop μ-loop
 angle-at-requires c κs = search needs
@@ -55,7 +55,7 @@ loop-less : tie.Need-loop-less Inv-loop μ-loop
 loop-less c = search needs
 
 loop-again : tie.Need-loop-again Inv-loop μ-loop
-loop-again c = let s = c .before .before .before .before .before .loop in let a = c .before .before .before .before .before .before .args in let l : s .k < length (s .angles) = omega arith in
+loop-again c = let s = c .before .before .before .before .before .loop in let a = c .before .before .before .before .before .before .before .args in let l : s .k < length (s .angles) = omega arith in
     (omega arith, (length-set (s .angles) (s .k) (c .angle-at .result) ∙ s .inv .1 .0, filled-more (s .angles) (s .k) (c .angle-at .result) (λ k. angle (getD (a .arguments .now) k 0) (getD (a .lags .now) k 0) (getD (a .frequencies .now) k 0) (a .minute)) l (s .inv .1 .1) (c .angle-at .ensures)))
 
 returns : tie.Need-returns Inv-loop μ-loop
@@ -69,11 +69,11 @@ angles-at-spec =
     μ-loop
     loop-holds
     mul-angle-at
-    element-copy-out-angle-at
+    shared-slice-read-angle-at
     mul-angle-at-2
-    element-copy-out-angle-at-2
+    element-copy-out-angle-at
     mul-angle-at-3
-    element-copy-out-angle-at-3
+    element-copy-out-angle-at-2
     angle-at-requires
     mul-angles
     array-write-angles

@@ -15,6 +15,7 @@ use mir.Val.{toZ, ofZ}
 use Rattle.limits.specs.Limits.{mostRecords}
 use Rattle.angles.proofs.Known.{read}
 use Rattle.month_prepared.specs.inner.View.{constituentsFrom}
+use Rattle.heights.specs.Height.{heightAt}
 use Rattle.heights.specs.Series.{seriesFrom, seriesOf}
 use Rattle.heights.specs.inner.Angles.{Angles}
 use Rattle.heights.proofs.series.Advancing.{angles-later, angles-below, ticks-below}
@@ -45,7 +46,7 @@ advances-requires c κs = search needs
 
 loop-holds : tie.Need-loop-holds Inv-loop μ-loop
 loop-holds c =
-    let a = c .before .before .args in
+    let a = c .before .before .before .args in
     let r = c .before .angles-at in
     let e : a .start + 0 * a .step ≡ a .start = omega arith in
     record {
@@ -68,7 +69,7 @@ slice-set-from-out c = search needs
 move-on-requires : tie.Need-move-on-requires Inv-loop μ-loop
 move-on-requires c κs =
     let s = c .before .before .before .before .before .loop in
-    let a = c .before .before .before .before .before .before .before .before .args in
+    let a = c .before .before .before .before .before .before .before .before .before .args in
     let ticks = c .before .before .before .before .before .before .advances in
     let minute = a .start + s .n * a .step in
     (s .inv .room, (search needs, (angles-below (a .arguments .now) (a .lags .now) (a .frequencies .now) (s .angles) (a .count) minute (s .inv .here), ticks-below (a .frequencies .now) (ticks .result) (a .count) (a .step) (ticks .ensures))))
@@ -82,7 +83,7 @@ loop-less c = search needs
 loop-again : tie.Need-loop-again Inv-loop μ-loop
 loop-again c =
     let s = c .before .before .before .before .before .before .loop in
-    let a = c .before .before .before .before .before .before .before .before .before .args in
+    let a = c .before .before .before .before .before .before .before .before .before .before .args in
     let ticks = c .before .before .before .before .before .before .before .advances in
     let h = c .before .before .before .height-of in
     let minute = a .start + s .n * a .step in
@@ -93,7 +94,7 @@ loop-again c =
       long = length-set (s .out) (s .n) (toZ w64 (ofZ w64 (h .result))) ∙ s .inv .long;
       room = c .move-on .ensures .0;
       here = subst (λ (m : ℕ). Angles (a .arguments .now) (a .lags .now) (a .frequencies .now) (a .count) m (c .move-on .last .0)) e (angles-later (a .arguments .now) (a .lags .now) (a .frequencies .now) (s .angles) (ticks .result) (a .count) minute (a .step) (s .inv .here) (ticks .ensures) (c .move-on .last .0) (c .move-on .ensures .1));
-      left = written-more (constituentsFrom (a .arguments .now) (a .lags .now) (a .frequencies .now) (a .ps .now) (a .qs .now) (a .count)) (a .start) (a .step) (s .out) (s .n) (length (a .out .now)) (toZ w64 (ofZ w64 (h .result))) (omega arith) height ∙ s .inv .left;
+      left = written-more (heightAt (constituentsFrom (a .arguments .now) (a .lags .now) (a .frequencies .now) (a .ps .now) (a .qs .now) (a .count))) (a .start) (a .step) (s .out) (s .n) (length (a .out .now)) (toZ w64 (ofZ w64 (h .result))) (omega arith) height ∙ s .inv .left;
     }
 
 same-length : tie.Need-same-length Inv-loop μ-loop
@@ -102,9 +103,9 @@ same-length c = c .before .loop .inv .long
 returns : tie.Need-returns Inv-loop μ-loop
 returns c =
     let s = c .before .loop in
-    let a = c .before .before .before .before .args in
-    let cs = constituentsFrom (a .arguments .now) (a .lags .now) (a .frequencies .now) (a .ps .now) (a .qs .now) (a .count) in
-    sym (written-none cs (a .start) (a .step) (s .out) (s .n) (length (a .out .now)) (omega arith)) ∙ (s .inv .left ∙ written-all cs (a .start) (a .step) (a .out .now))
+    let a = c .before .before .before .before .before .args in
+    let height = heightAt (constituentsFrom (a .arguments .now) (a .lags .now) (a .frequencies .now) (a .ps .now) (a .qs .now) (a .count)) in
+    sym (written-none height (a .start) (a .step) (s .out) (s .n) (length (a .out .now)) (omega arith)) ∙ (s .inv .left ∙ written-all height (a .start) (a .step) (a .out .now))
 
 pub series-spec : {M : Type 1} → statement M
 series-spec =
