@@ -83,12 +83,13 @@ module _ (sheet : Sheet) (series : List ℤ) (minutes : List ℕ) (heights : Lis
     asked-refused : (t s d : Bool) (month : Month) (number place : ℕ) → yearBy t s (sheet .year) ≡ refused number place
         → sheetAsked (stateOf t table s station d month) sheet (length series) ≡ refused number 0
     unfolding sheetAsked
-    asked-refused true true d month number place e = by (yearInRange (sheet .year)) e
+    asked-refused true true d month number place e = eight (not (yearInRange (sheet .year))) _ e
       where
-        by : (c : Bool) → _≡_ {A = Outcome Unit} (answered (refuseIf {A = Unit {0} × Unit {0}} (not c) 8 0 (accepted (tt, tt)))) (refused number place)
-            → _>>=_ {B = Table × Station × List Month} (refuseIf {A = Table × Station} (not c) 8 0 (accepted (table, station))) (λ (t, s). yearOf t s (sheet .year) >>= λ months. refuseIf (sheetOutside sheet (length series)) 9 0 (accepted (t, s, months))) ≡ refused number 0
-        by true e′ = not-both (sym e′)
-        by false e′ = no-place e′
+        eight : (outside : Bool) (next : Table × Station → Outcome (Table × Station × List Month))
+            → _≡_ {A = Outcome Unit} (answered (refuseIf {A = Unit {0} × Unit {0}} outside 8 0 (accepted (tt, tt)))) (refused number place)
+            → (refuseIf outside 8 0 (accepted (table, station)) >>= next) ≡ refused number 0
+        eight true next e′ = no-place e′
+        eight false next e′ = not-both (sym e′)
     asked-refused true false d month number place e = no-place e
     asked-refused false s d month number place e = no-place e
 
