@@ -329,14 +329,14 @@ pub fn series(clock: Clock, start: u32, step: u32, heights: &mut [i64]) -> Answe
     );
     match asked {
         Answer::Accepted => {
-            heights::series::series(
+            heights::months::series(
                 &clock.cosines,
                 &clock.arguments,
                 &clock.lags,
                 &clock.frequencies,
                 &clock.ps,
                 &clock.qs,
-                clock.count,
+                months::one_month(clock.count, clock.last),
                 start as u64,
                 step as u64,
                 heights,
