@@ -1,4 +1,4 @@
-"""Compares the model with the manual's published prediction, Victoria, July 1976.
+"""Compares the model with the manual's published prediction, Victoria, July 1976: by the month and on the year's sheet.
 
 Usage: python3 second/check_victoria.py victoria-1976-07.json [standard-cards.txt]
 """
@@ -8,6 +8,7 @@ import os
 import sys
 
 from clock import Clock
+from years import midnights
 
 TOLERANCE = 6  # in 10^-4 of the printed unit, the clock's unit here
 
@@ -43,6 +44,13 @@ def compare_turns(clock, sample):
     return found, equal, first_is_high, worst_height
 
 
+def year_minutes(clock):
+    """The minutes of July's turns on the sheet of 1976, counted from 1 July."""
+    ends = midnights(1976)
+    found = clock.year(1976, (0, 1, 0), (0, ends[12], 10_000, 10_000))[1]
+    return [minute - ends[6] for minute, _ in found if ends[6] <= minute < ends[7]]
+
+
 def main():
     path = sys.argv[1]
     cards = sys.argv[2] if len(sys.argv) > 2 else os.path.join(os.path.dirname(path), "standard-cards.txt")
@@ -58,12 +66,16 @@ def main():
     printed = sample["turns"]
     print("turns: %d found, %d printed, %d at the printed minute, first is %s, worst height %d x 10^-4" % (
         len(found), len(printed), equal, "high" if first_is_high else "low", worst_height))
+    minutes = [entry["minute"] for entry in printed]
+    in_year = year_minutes(clock)
+    print("year: %d turns in July, %d at a printed minute" % (len(in_year), len(set(in_year) & set(minutes))))
 
     good = (
         len(differences) == sample["hourly_legible"]
         and max(differences) <= TOLERANCE
         and len(found) == len(printed) == equal
         and first_is_high == (printed[0]["kind"] == "high")
+        and in_year == minutes
     )
     print("Victoria: " + ("agrees" if good else "DIFFERS"))
     sys.exit(0 if good else 1)

@@ -1,8 +1,10 @@
-"""The berth clock: the six calls of document 01, what they leave, and the order of their refusals."""
+"""The berth clock: the six calls of document 01 and the year of change request No. 1, what they leave, and the order
+of their refusals."""
 
 from collections import namedtuple
 
 import heights
+import sheet
 from cards import read_card_file
 from month import prepare
 from refusal import Refusal
@@ -11,6 +13,35 @@ MAX_RECORDS = 146
 
 # latitude in signed minutes; records: list of (place, amplitude, phase lag)
 Station = namedtuple("Station", "latitude records")
+
+
+def check_minutes(last, *minutes):
+    """ "Minutes run from 0 to days x 1,440 inclusive." """
+    for minute in minutes:
+        if not 0 <= minute <= last:
+            raise Refusal(9)
+
+
+def check_series(last, start, step, count):
+    """ "A series has a start, a step of 1 to 1,440 minutes, and one height for each lent place.
+    The start is checked even with no place lent." """
+    check_minutes(last, start)
+    if not 1 <= step <= 1_440:
+        raise Refusal(9)
+    if count > 0:
+        check_minutes(last, start + (count - 1) * step)
+
+
+def check_search(last, first, end):
+    check_minutes(last, first, end)
+    if first > end:
+        raise Refusal(9)
+
+
+def check_places(found, minute_places, height_places):
+    """10: "more turns than either lent buffer holds" """
+    if len(found) > min(minute_places, height_places):
+        raise Refusal(10)
 
 
 class Clock:
@@ -36,11 +67,6 @@ class Clock:
         self.need_station()
         if self.month is None:
             raise Refusal(23)
-
-    def need_minute(self, minute):
-        """ "Minutes run from 0 to days x 1,440 inclusive." """
-        if not 0 <= minute <= self.month.days * 1_440:
-            raise Refusal(9)
 
     def set_cards(self, data):
         """ "An accepted card file leaves its table, with no station and no month" """
@@ -80,29 +106,39 @@ class Clock:
 
     def height(self, minute):
         self.need_month()
-        self.need_minute(minute)
+        check_minutes(self.month.days * 1_440, minute)
         return heights.height(self.month, minute)
 
     def series(self, start, step, count):
-        """ "A series has a start, a step of 1 to 1,440 minutes, and one height for each lent place.
-        The start is checked even with no place lent." """
         self.need_month()
-        self.need_minute(start)
-        if not 1 <= step <= 1_440:
-            raise Refusal(9)
-        if count > 0:
-            self.need_minute(start + (count - 1) * step)
+        check_series(self.month.days * 1_440, start, step, count)
         return [heights.height(self.month, start + n * step) for n in range(count)]
 
     def turns(self, first, last, minute_places, height_places):
+        """The turns as (minute, height), and whether the first is high."""
         self.need_month()
-        self.need_minute(first)
-        self.need_minute(last)
-        if first > last:
-            raise Refusal(9)
+        check_search(self.month.days * 1_440, first, last)
         stride = heights.stride_of(self.table, self.station)
-        found, first_is_high = heights.turns(self.month, stride, first, last)
-        # 10: "more turns than either lent buffer holds"
-        if len(found) > min(minute_places, height_places):
-            raise Refusal(10)
-        return found, first_is_high
+        found, first_is_high = heights.search(lambda minute: heights.slope(self.month, minute), stride, first, last)
+        check_places(found, minute_places, height_places)
+        return [(minute, heights.height(self.month, minute)) for minute in found], first_is_high
+
+    def year(self, year, series, turns):
+        """Heights, turns as (minute, height), and whether the first is high; series and turns are the numbers of those calls.
+        "Only 21 and 22 are asked of the state, and the prepared month stays" """
+        self.need_station()
+        # "01's 8, 11, 9 and 10 apply in that order with the year in place of the month."
+        if not 1950 <= year <= 2049:
+            raise Refusal(8)
+        # "An 11 is that of the first month that has one, and its place is still the station record."
+        months = [prepare(self.table, self.station, year, month) for month in range(1, 13)]
+        start, step, count = series
+        first, last, minute_places, height_places = turns
+        check_series(sheet.last_minute(months), start, step, count)
+        check_search(sheet.last_minute(months), first, last)
+        stride = heights.stride_of(self.table, self.station)
+        # "The turn search runs on across month ends"
+        found, first_is_high = heights.search(lambda minute: sheet.slope(months, minute), stride, first, last)
+        check_places(found, minute_places, height_places)
+        given = [sheet.height(months, start + n * step) for n in range(count)]
+        return given, [(minute, sheet.height(months, minute)) for minute in found], first_is_high

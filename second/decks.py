@@ -27,6 +27,9 @@ COEFFICIENT = Format(5, 2, -900, 900)
 # "frequency name", "main name", "shallow name", "part name", "mark".
 Field = namedtuple("Field", "line column kind")
 
+# A satellite's numbers in units of their last decimal; mark is a byte.
+Satellite = namedtuple("Satellite", "differences phase ratio mark")
+
 # How a deck is to look. ratios: "small" (as in nature), "large" (weights may grow past 2^22) or "any".
 Shape = namedtuple("Shape", "mains shallows satellites ratios tidy")
 
@@ -224,16 +227,12 @@ def build(rng, shape, shallow_sizes=None):
     if rng.random() < 0.5:
         rng.shuffle(order)
     write_frequencies(deck, order)
-    for form in (LONGITUDE, INCREASE):
-        deck.start()
-        for _ in range(5):
-            deck.number(random_value(rng, form), form)
-        deck.end()
+    write_longitudes(deck, [[random_value(rng, form) for _ in range(5)] for form in (LONGITUDE, INCREASE)])
     counts = satellite_counts(rng, shape.mains, shape.satellites)
     if shape.satellites is None:
         counts = limit_total(counts, 256)
     for name, count in zip(mains, counts):
-        write_main(deck, name, count, shape.ratios)
+        write_main(deck, name, [random_satellite(rng, shape.ratios) for _ in range(count)])
     deck.blank()
     for i, name in enumerate(shallows):
         write_shallow(deck, name, mains, random_coefficients(rng, shallow_sizes if i == 0 else None))
@@ -256,7 +255,21 @@ def write_frequencies(deck, names):
     deck.blank()
 
 
-def write_main(deck, name, count, ratios):
+def write_longitudes(deck, cards):
+    for form, numbers in zip((LONGITUDE, INCREASE), cards):
+        deck.start()
+        for number in numbers:
+            deck.number(number, form)
+        deck.end()
+
+
+def random_satellite(rng, ratios):
+    differences = [rng.choice([0, rng.randint(-2, 2), random_value(rng, DIFFERENCE)]) for _ in range(3)]
+    mark = rng.choice(b"   1122" + PRINTABLE[:1] + b"0R3")
+    return Satellite(differences, random_value(rng, SATELLITE_PHASE), pick_ratio(rng, ratios), mark)
+
+
+def write_main(deck, name, satellites):
     rng = deck.rng
     deck.start()
     deck.skip(6)
@@ -265,23 +278,27 @@ def write_main(deck, name, count, ratios):
     for _ in range(6):
         deck.number(rng.choice([0, rng.randint(-4, 4), random_value(rng, DOODSON)]), DOODSON)
     deck.number(random_value(rng, PHASE), PHASE)
-    deck.number(count, COUNT)
+    deck.number(len(satellites), COUNT)
     deck.end()
-    for first in range(0, count, 3):
+    for first in range(0, len(satellites), 3):
         deck.start()
         if rng.random() < 0.5:
             deck.lines[-1] += b" " * 6 + name
         else:
             deck.skip(11)
-        for _ in range(min(3, count - first)):
-            for _ in range(3):
-                deck.number(rng.choice([0, rng.randint(-2, 2), random_value(rng, DIFFERENCE)]), DIFFERENCE)
-            deck.number(random_value(rng, SATELLITE_PHASE), SATELLITE_PHASE)
-            deck.number(pick_ratio(rng, ratios), RATIO)
-            deck.skip(1)
-            deck.put(bytes([rng.choice(b"   1122" + PRINTABLE[:1] + b"0R3")]), "mark")
-            deck.skip(1)
+        for satellite in satellites[first : first + 3]:
+            write_satellite(deck, satellite)
         deck.end()
+
+
+def write_satellite(deck, satellite):
+    for difference in satellite.differences:
+        deck.number(difference, DIFFERENCE)
+    deck.number(satellite.phase, SATELLITE_PHASE)
+    deck.number(satellite.ratio, RATIO)
+    deck.skip(1)
+    deck.put(bytes([satellite.mark]), "mark")
+    deck.skip(1)
 
 
 def write_shallow(deck, name, mains, coefficients):
@@ -296,6 +313,39 @@ def write_shallow(deck, name, mains, coefficients):
         deck.put(rng.choice(mains), "part name")
         deck.skip(5)
     deck.end()
+
+
+# A turn in 365.25 days, as the increase in 365: what goes round so stands alike on the same day of every year.
+YEARLY = 365 * 10**12 // 36_525
+
+
+def late_file(rng, days):
+    """A file with a main for each of the days, counted from 1 January 1976, that passes 2^22 in the day's month of every year
+    and in no other month; a shallow constituent does so with the last of them."""
+    deck = Deck(rng, rng.random() < 0.5)
+    names = random_names(rng, rng.randint(1, 5) + len(days))
+    shallow, *mains = names
+    write_frequencies(deck, rng.sample(names, len(names)))
+    longitudes, increases = [[random_value(rng, form) for _ in range(5)] for form in (LONGITUDE, INCREASE)]
+    increases[4] = YEARLY
+    write_longitudes(deck, (longitudes, increases))
+    for name in mains[len(days) :]:
+        write_main(deck, name, [random_satellite(rng, "small") for _ in range(rng.randint(0, 1))])
+    for name, day in zip(mains, days):
+        write_main(deck, name, late_satellites(rng, longitudes[4] + YEARLY * day // 365))
+    deck.blank()
+    write_shallow(deck, shallow, [mains[len(days) - 1]], [rng.choice([1, -1])])
+    deck.blank()
+    return deck.data()
+
+
+def late_satellites(rng, solar_perigee):
+    """Satellites that add up where the solar perigee (10^-10 cycle) is as given. X there is 2^20 times 1 and their ratios,
+    over 4; a month before or behind, at least nine hundredths of them are lost, and it is under 4."""
+    phase = -round(solar_perigee % 10**10 / 10**8)
+    ratios = [rng.randint(11_000, 18_000), rng.randint(2_000, 9_000)]
+    ratios.append(rng.randint(30_300, 32_500) - sum(ratios))
+    return [Satellite([0, 0, 1], phase, ratio, b" "[0]) for ratio in ratios]
 
 
 # Shapes

@@ -13,23 +13,18 @@ import random
 import sys
 
 import decks
+import years
 from clock import Clock
+from month import day_count
 from refusal import Refusal
+from years import LARGEST, LARGEST_BUFFER, chance
 
 STANDARD_PATH = os.path.join(os.path.dirname(os.path.abspath(__file__)), "..", "data", "standard-cards.txt")
 CALLS = 100
-LARGEST = 4_294_967_295
-# What a replay program takes at least; nothing larger is asked.
-LARGEST_BUFFER = 44_641
 
 
 def cards_call(data):
     return b"cards %d\n%s\n" % (len(data), data)
-
-
-def chance(rng, *weighted):
-    """One of several choices given as (weight, choice)."""
-    return rng.choices([choice for _, choice in weighted], [weight for weight, _ in weighted])[0]
 
 
 class ScriptWriter:
@@ -67,6 +62,9 @@ class ScriptWriter:
             data = self.useful_deck()
         else:
             data = decks.card_file(rng, self.standard)
+        self.put_cards(data)
+
+    def put_cards(self, data):
         self.calls.append(cards_call(data))
         self.follow(self.clock.set_cards, data)
 
@@ -183,6 +181,9 @@ class ScriptWriter:
                 records = [(place, self.amplitude(), self.lag()) for place in range(min(size, 146))]
         if rng.random() > good:
             latitude, records = self.spoil_records(records)
+        self.put_station(latitude, records)
+
+    def put_station(self, latitude, records):
         lines = b"".join(b"%d %d %d\n" % record for record in records)
         self.calls.append(b"station %d %d\n" % (latitude, len(records)) + lines)
         self.follow(self.clock.set_station, latitude, records)
@@ -240,33 +241,68 @@ class ScriptWriter:
                 (1, last), (0.5, rng.randint(0, last)), (0.5, last + 1),
             )
             end = min(end, LARGEST) if first > last else min(end, last + 1 if rng.random() < 0.05 else last)
-        # As many places as there are turns, one fewer, or plenty.
         try:
             count = len(self.clock.turns(first, end, LARGEST, LARGEST)[0])
         except Refusal:
             count = rng.randint(0, 5)
-        enough = rng.choice([count, count + 1, 200])
+        self.write(b"turns", first, end, *self.places(count))
+
+    def places(self, count):
+        """Two buffers for so many turns: as many places, one fewer, or plenty."""
+        rng = self.rng
+        enough = rng.choice([count, count + 1, max(count, 200)])
         short = max(0, rng.choice([count - 1, 0, count // 2]))
-        minutes, heights = chance(
+        return chance(
             rng, (6, (enough, enough)), (3, (count, count)), (1, (enough, short)), (1, (short, enough)),
             (0.5, (short, short)), (0.2, (LARGEST_BUFFER, LARGEST_BUFFER)),
         )
-        self.write(b"turns", first, end, minutes, heights)
+
+    # Years
+
+    def year(self):
+        """A year, now and then with a height behind it: the month is as it was, also where there is none."""
+        rng = self.rng
+        year = years.pick_year(rng)
+        ends = years.midnights(year)
+        series, search = years.pick_series(rng, ends), years.pick_search(rng, ends)
+        if self.clock.station and len(self.clock.station.records) <= 8:
+            # What takes time, rarely and of few constituents.
+            series = chance(rng, (30, series), (1, years.whole_series(rng, ends)))
+            search = chance(rng, (80, search), (1, (0, ends[-1])))
+        try:
+            count = len(self.clock.year(year, (0, 1, 0), (*search, LARGEST, LARGEST))[1])
+        except Refusal:
+            count = rng.randint(0, 5)
+        self.write(b"year", year, *series, *search, *self.places(count))
+        if rng.random() < 0.3:
+            self.height()
+
+    def late_year(self):
+        """A table and a station with an 11 in one month of the year or in two, a date or two of theirs, and the year."""
+        rng = self.rng
+        months = rng.choice([[12], [2], rng.sample(range(2, 13), 1), rng.sample(range(1, 13), 2), rng.sample(range(9, 13), 2)])
+        self.put_cards(decks.late_file(rng, [day_count(1976, month, 16) for month in months]))
+        places = range(len(self.clock.table.frequencies))
+        self.put_station(self.latitude(), [(place, self.amplitude(), self.lag()) for place in rng.sample(places, len(places))])
+        for _ in range(rng.randint(0, 2)):
+            self.date()
+        self.year()
 
     # The order of calls
 
     def any_call(self):
         """A call fit for the state as a rule, and any call now and then."""
-        reading = [(3, self.height), (3, self.series), (4, self.turns)]
+        reading = [(3, self.height), (3, self.series), (4, self.turns), (1.2, self.year)]
         if self.clock.table is None:
             choices = [(6, self.cards), (1, self.station), (1, self.date)] + [(0.4, call) for _, call in reading]
         elif self.clock.station is None:
             choices = [(1, self.cards), (12, self.station), (1, self.date)] + [(0.3, call) for _, call in reading]
         elif self.clock.month is None:
             choices = [(0.5, self.cards), (4, self.station), (10, self.date)] + [(0.3, call) for _, call in reading]
+            choices.append((1, self.year))  # It asks for no month.
         else:
             choices = [(0.5, self.cards), (1, self.station), (1.5, self.date)] + reading
-        chance(self.rng, *choices)()
+        chance(self.rng, *choices, (0.06, self.late_year))()
 
     def malformed_line(self):
         """A last line that is not of the format; the run ends there."""
@@ -276,6 +312,9 @@ class ScriptWriter:
             b"station 0 1\n256 0 0\n", b"station 0 2\n0 0 0\n", b"station 0 1\n0 0\n", b"station 2147483648 0\n",
             b"station -2147483649 0\n", b"station 0 1\n-1 0 0\n", b"cards\n", b"cards -1\n", b"height 1\r\n",
             b"\xff\xfe\n", b"height 0x1\n", b"height +1\n", b"date 1976 7 1\n", b"station 0 1\n0 0 0 0\n",
+            b"year\n", b"year 1976\n", b"year 1976 0 60 1 0 0 0\n", b"year 1976 0 60 1 0 0 0 0 0\n", b"year 1976 0 60 1 0 0 0 -1\n",
+            b"year -1976 0 60 1 0 0 0 0\n", b"year 1976 0 60 1 0 0 0 4294967296\n", b"years 1976 0 60 1 0 0 0 0\n",
+            b"year 1976 0 60  1 0 0 0 0\n", b"year 1976 0 60 1 0 0 0 0",
         ]))
 
 

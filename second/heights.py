@@ -1,5 +1,7 @@
 """Document 01, "Heights and turns"."""
 
+from functools import cache
+
 from cosine import cosine_fraction, fixed_cosine, fixed_sine, sine_fraction
 
 # The month's instant, 00:00 on the 16th, is 15 days after minute 0.
@@ -42,9 +44,9 @@ def slope(month, minute):
     return -total
 
 
-def rising(month, minute):
+def rising(slope_there):
     """ "Slope 0 counts as rising." """
-    return slope(month, minute) >= 0
+    return slope_there >= 0
 
 
 def stride_by_amplitudes(k1, o1, m2, s2):
@@ -65,36 +67,36 @@ def stride_of(table, station):
     return stride_by_amplitudes(*amplitudes.values())
 
 
-def bisect(month, start, end):
+def bisect(slope_at, start, end):
     """Halves a bracket whose ends differ in sense, until they are one minute apart."""
     if end - start == 1:
         return start, end
     # "Then cut at start + floor(length/2). The half that holds the change is halved again"
     middle = start + (end - start) // 2
-    if rising(month, start) != rising(month, middle):
-        return bisect(month, start, middle)
-    return bisect(month, middle, end)
+    if rising(slope_at(start)) != rising(slope_at(middle)):
+        return bisect(slope_at, start, middle)
+    return bisect(slope_at, middle, end)
 
 
-def turns(month, stride, first, last):
-    """The turns from first to last as (minute, height), and whether the first is high."""
+def search(slope_at, stride, first, last):
+    """The minutes of the turns from first to last, and whether the first is high; slope_at gives the slope at a minute."""
+    slope_at = cache(slope_at)
     found = []
     first_is_high = False
     start = first
     # "a stride past the last minute ends the work"
     while start + stride <= last:
         end = start + stride
-        start_rising = rising(month, start)
-        if start_rising == rising(month, end):
+        start_rising = rising(slope_at(start))
+        if start_rising == rising(slope_at(end)):
             start = end
             continue
         if not found:
             # "whether the first is high, that is, rising at its stride's start"
             first_is_high = start_rising
-        earlier, later = bisect(month, start, end)
+        earlier, later = bisect(slope_at, start, end)
         # "The turn is the end with the smaller slope size, the earlier if equal"
-        turn = later if abs(slope(month, later)) < abs(slope(month, earlier)) else earlier
-        found.append((turn, height(month, turn)))
+        found.append(later if abs(slope_at(later)) < abs(slope_at(earlier)) else earlier)
         # "Search resumes from the later end."
         start = later
     return found, first_is_high

@@ -124,6 +124,10 @@ def read_call(script):
         first, last, minutes, heights = script.numbers(rest, 4)
         script.done()
         return lambda clock: turns_line(*clock.turns(first, last, minutes, heights))
+    if word == b"year":
+        year, *numbers = script.numbers(rest, 8)
+        script.done()
+        return lambda clock: year_line(*clock.year(year, numbers[:3], numbers[3:]))
     script.fail()
 
 
@@ -140,6 +144,10 @@ def turns_line(found, first_is_high):
     for minute, height in found:
         numbers += [minute, height]
     return spaced("turns", numbers)
+
+
+def year_line(heights, found, first_is_high):
+    return spaced("year", [len(heights)] + heights) + " " + turns_line(found, first_is_high)
 
 
 def play(script, clock, read):

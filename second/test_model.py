@@ -1,4 +1,5 @@
-"""Document 01's "Checked against" cases, its limits and the card file readings, as plain asserts.
+"""Document 01's "Checked against" cases, its limits and the card file readings, and change request No. 1 against single
+months, as plain asserts.
 
 Usage: python3 second/test_model.py [folder with the standard cards]
 """
@@ -8,14 +9,16 @@ import os
 import random
 import sys
 
+import decks
 import heights
 from cards import Main, Shallow, read_card_file
 from clock import Clock
 from cosine import COSINES, DENOMINATOR, QUARTER, STEP, base_fraction, fixed_cosine, fixed_sine
-from month import argument, day_count, latitude_factors, longitudes_at
+from month import argument, day_count, days_in_month, latitude_factors, longitudes_at
 from refusal import Refusal
 from replay import replay
 from stationfile import read_station_file, station_name, time_zone
+from years import midnights
 
 FOLDER = sys.argv[1] if len(sys.argv) > 1 else os.path.join(os.path.dirname(os.path.abspath(__file__)), "..", "data")
 PASSED = 0
@@ -306,15 +309,110 @@ def check_station_files():
         check("stride of " + name, heights.stride_of(clock.table, clock.station), wanted_stride)
 
 
+# A tide with large satellites, so that two months disagree on the midnight between them.
+TIDE = [(b"Z0", 18_000, 0), (b"O1", 12_110, 12_340), (b"K1", 20_700, 14_000), (b"M2", 25_535, 31_000), (b"M4", 900, 5)]
+PLENTY = 44_641
+
+
+def check_year_by_months(year):
+    """A year's heights and turns are those that its months give one by one."""
+    clock = clock_with(2_905, TIDE, year, 7)
+    kept = clock.month
+    *begins, last = midnights(year)
+    sheet = clock.year(year, (0, 720, last // 720 + 1), (0, 0, 0, 0))[0]
+    ends = []
+    for month, begin in enumerate(begins, 1):
+        other = clock_with(2_905, TIDE, year, month)
+        end = days_in_month(year, month) * 1_440
+        check("year's heights %d %d" % (year, month), sheet[begin // 720 : (begin + end) // 720], other.series(0, 720, end // 720))
+        found, high = other.turns(77, end - 1, PLENTY, PLENTY)
+        shifted = [(begin + minute, height) for minute, height in found]
+        asked = (begin + 77, begin + end - 1, len(found), len(found))
+        check("year's turns %d %d" % (year, month), clock.year(year, (0, 1, 0), asked), ([], shifted, high))
+        ends.append(other.height(end))
+    check("December's minute 44,640", sheet[-1], ends[11])
+    check("the year's last minute", clock.year(year, (last, 1, 1), (last, last, 0, 0))[0], [ends[11]])
+    check("midnights differ", all(sheet[begin // 720] != end for begin, end in zip(begins[1:], ends)), True)
+    for series, search in (((last + 1, 1, 0), (0, 0)), ((1, 1_440, last // 1_440 + 1), (0, 0)), ((0, 1, 0), (0, last + 1))):
+        check("past the year", refused(clock.year, year, series, (*search, 9, 9)), (9, 0))
+    check("the month stays", clock.month is kept, True)
+
+
+def check_year_across(year):
+    """A search runs on across a month's end, with the slope of the month that owns each minute."""
+    clock = clock_with(2_905, TIDE, year, 1)
+    january, begin = clock.month, 44_640
+    clock.set_date(year, 2)
+
+    def slope_at(minute):
+        return heights.slope(january, minute) if minute < begin else heights.slope(clock.month, minute - begin)
+
+    def minutes(first, last):
+        return [minute for minute, _ in clock.year(year, (0, 1, 0), (first, last, PLENTY, PLENTY))[1]]
+
+    firsts = range(begin - 1_500, begin - 1_000, 7)
+    last = begin + 1_500
+    check("runs on", [minutes(first, last) for first in firsts], [heights.search(slope_at, 30, first, last)[0] for first in firsts])
+    anew = [minutes(first, begin) + minutes(begin, last) for first in firsts]
+    check("not begun anew", anew != [minutes(first, last) for first in firsts], True)
+
+
+def check_year_refusals():
+    clock = Clock()
+    good = (0, 60, 2), (0, 1_440, 99, 99)
+    check("year, no table", refused(clock.year, 1, (0, 0, 0), (2, 1, 0, 0)), (21, 0))
+    clock.set_cards(STANDARD)
+    check("year, no station", refused(clock.year, 1, (0, 0, 0), (2, 1, 0, 0)), (22, 0))
+    clock.set_station(0, [])
+    check("year of an empty station", clock.year(2049, *good), ([0, 0], [], False))
+    check("no month after a year", refused(clock.height, 0), (23, 0))
+    for year, wanted in ((1949, (8, 0)), (1950, None), (2049, None), (2050, (8, 0))):
+        check("year %d" % year, refused(clock.year, year, *good), wanted)
+    for series in ((525_601, 1, 0), (0, 0, 0), (0, 1_441, 1), (525_600, 1, 2), (0, 1_440, 367)):
+        check("year's series %r" % (series,), refused(clock.year, 1977, series, good[1]), (9, 0))
+    for search in ((1, 0), (0, 525_601), (525_601, 525_601)):
+        check("year's search %r" % (search,), refused(clock.year, 1977, good[0], (*search, 0, 0)), (9, 0))
+    clock = clock_with(2_905, TIDE)
+    count = len(clock.year(1976, *good)[1])
+    for minutes, places, wanted in ((count, count, None), (count - 1, 99, (10, 0)), (99, count - 1, (10, 0))):
+        check("year's places", refused(clock.year, 1976, (0, 1, 0), (0, 1_440, minutes, places)), wanted)
+
+
+def check_year_late():
+    """ "An 11 is that of the first month that has one, and its place is still the station record." """
+    clock = Clock()
+    clock.set_cards(decks.late_file(random.Random(1), [day_count(1976, month, 16) for month in (9, 12)]))
+    clock.set_station(0, [(place, 0, 0) for place in range(len(clock.table.frequencies))])
+    places = {month: refused(clock.set_date, 2001, month) for month in range(1, 13)}
+    check("months with an 11", [month for month in places if places[month]], [9, 12])
+    check("records of the 11", places[9] != places[12] and places[9][0] == 11, True)
+    kept = clock.month
+    check("11 of September", refused(clock.year, 2001, (0, 0, 0), (2, 1, 0, 0)), places[9])
+    check("8 before 11", refused(clock.year, 2050, (0, 0, 0), (2, 1, 0, 0)), (8, 0))
+    check("the month stays", clock.month is kept, True)
+
+
+def check_years():
+    check_year_by_months(1976)
+    check_year_by_months(1977)
+    check_year_across(2000)  # January's last turn is five minutes before February.
+    check_year_refusals()
+    check_year_late()
+
+
 def check_replay():
     script = b"height 0\ncards %d\n%s\nstation -299 1\n0 5 18000\ndate 1976 2\nheight 41760\n" % (len(STANDARD), STANDARD)
     script += b"series 0 1440 2\nseries 5 5 0\nturns 0 41760 0 0\nheight 41761\n"
     answers = ["refused 21 0", "accepted", "accepted", "accepted", "height -5", "heights -5 -5", "heights",
                "turns 0 0", "refused 9 0"]
     check("replay", list(replay(script)), answers)
+    year = b"year 1976 41760 1440 2 0 527040 0 0\nyear 1977 0 1 0 0 0 0 0\nyear 1977 525601 1 0 0 0 0 0\nheight 0\n"
+    year_answers = ["year 2 -5 -5 turns 0 0", "year 0 turns 0 0", "refused 9 0", "height -5"]
+    check("year", list(replay(script + year)), answers + year_answers)
     line = script.count(b"\n") + 1
     for bad in (b"height", b"height 1", b"height -1\n", b"height  1\n", b"\n", b"Height 1\n", b"height 4294967296\n",
-                b"date 1 2 3\n", b"station 1\n", b"cards x\n", b"\xff\n", b"height 1 \n", b"height 1\r\n"):
+                b"date 1 2 3\n", b"station 1\n", b"cards x\n", b"\xff\n", b"height 1 \n", b"height 1\r\n", b"year 1976 0 1 0 0 0 0\n",
+                b"year 1976 0 1 0 0 0 0 0 0\n", b"year 1976 0 1 0 0 0 0 -1\n", b"year 1976 0 1 0 0 0 0 4294967296\n"):
         check("script %r" % bad, list(replay(script + bad)), answers + ["script %d" % line])
     check("record", list(replay(b"station 0 2\n1 2 3\n256 0 0\n")), ["script 3"])
     check("missing record", list(replay(b"station 0 2\n1 2 3\n")), ["script 3"])
@@ -329,6 +427,7 @@ def main():
     check_stations()
     check_card_files()
     check_station_files()
+    check_years()
     check_replay()
     print("%d passed, %d failed" % (PASSED, FAILED))
     sys.exit(1 if FAILED else 0)

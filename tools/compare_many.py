@@ -2,7 +2,7 @@
 
 Usage: python3 tools/compare_many.py PROGRAM SEED COUNT
 COUNT scripts of about 100 calls are generated from the seed; the answers are compared line for line. Prints how many lines and prepared
-months there were, and how often each refusal occurred.
+months there were, and how often each refusal occurred, with the calls in all and with `year` alone.
 """
 
 import collections
@@ -17,7 +17,7 @@ sys.path.insert(0, os.path.join(HERE, "..", "second"))
 import clock  # noqa: E402
 import generate  # noqa: E402
 import heights  # noqa: E402
-from replay import replay  # noqa: E402
+from replay import Script, ScriptError, read_call, replay  # noqa: E402
 
 
 def keep(module, name, key):
@@ -65,19 +65,32 @@ def kind(line):
     return " ".join(parts[:2]) if parts[0] == "refused" else parts[0]
 
 
+def words(script):
+    """The words of a script's calls, to its end or the first that is not of the format."""
+    reading = Script(script)
+    while not reading.ended():
+        yield reading.data[reading.at : reading.at + 10].partition(b" ")[0]
+        try:
+            read_call(reading)
+        except ScriptError:
+            return
+
+
 def main():
     program, seed, count = sys.argv[1], int(sys.argv[2]), int(sys.argv[3])
-    kinds = collections.Counter()
+    kinds, years = collections.Counter(), collections.Counter()
     differing = 0
     for index, (script, wanted) in enumerate(answered(seed, count)):
         got = subprocess.run([program], input=script, capture_output=True, check=True).stdout.decode().split("\n")[:-1]
         kinds.update(map(kind, wanted))
+        years.update(kind(line) for word, line in zip(words(script), wanted) if word == b"year")
         if got != wanted:
             differing += 1
             print("differs: seed %d script %d" % (seed, index))
     lines = sum(kinds.values())
     print("%d scripts, %d lines compared, %d scripts differ" % (count, lines, differing))
-    print(", ".join("%s: %d" % pair for pair in sorted(kinds.items())))
+    for title, counts in (("answers", kinds), ("to year", years)):
+        print("%s: %s" % (title, ", ".join("%s: %d" % pair for pair in sorted(counts.items()))))
     sys.exit(1 if differing or not lines else 0)
 
 
