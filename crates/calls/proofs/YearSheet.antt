@@ -14,14 +14,9 @@ use Rattle.station.specs.Station.{Station}
 use Rattle.calendar.specs.Calendar.{yearInRange}
 use Rattle.month_prepared.specs.Prepared.{Month}
 use Rattle.year.specs.Year.{yearOf}
-use Rattle.heights.specs.Height.{heightOver}
-use Rattle.heights.specs.Series.{seriesOf}
-use Rattle.turns.specs.Slope.{slopeOver}
-use Rattle.turns.specs.Search.{turnsOf}
 use Rattle.turns.specs.Strides.{stationStride}
-use Rattle.turns.specs.Written.{TurnsGiven, given}
 use Rattle.calls.specs.State.{Maybe, some, State}
-use Rattle.calls.specs.Year.{sheetOutside, sheetAsked, YearGiven, unlessTurnedDown, beside, yearGives}
+use Rattle.calls.specs.Year.{sheetOutside, sheetAsked, YearGiven, unlessTurnedDown, sheetOver, yearGives}
 use Rattle.calls.specs.declared.sheets.Sheet.{Sheet}
 use Rattle.calls.specs.inner.Flags.{stateOf, yearBy}
 use Rattle.calls.proofs.Posed.{no-place}
@@ -39,12 +34,7 @@ year-passed false s year e = not-both e
 module _ (sheet : Sheet) (series : List ℤ) (minutes : List ℕ) (heights : List ℤ) where
   -- what follows what is asked
   abbrev sheet-of : Outcome (Table × Station × List Month) → YearGiven
-  sheet-of o =
-      unlessTurnedDown o series minutes heights λ (table, station, months).
-      beside
-      (given (heightOver months) (turnsOf (slopeOver months) (stationStride table station) (sheet .first) (sheet .last)) minutes heights)
-      (seriesOf (heightOver months) (sheet .start) (sheet .step) (length series))
-      series
+  sheet-of o = unlessTurnedDown o series minutes heights λ (table, station, months). sheetOver months (stationStride table station) sheet series minutes heights
 
   -- a refusal leaves the three buffers as they were
   abbrev pub turnedDown : ℕ → ℕ → YearGiven
@@ -95,6 +85,6 @@ module _ (sheet : Sheet) (series : List ℤ) (minutes : List ℕ) (heights : Lis
 
         -- 10, or the series and the turns
         pub sheet-given : sheetOutside sheet (length series) ≡ false
-            → sheet-of (accepted (table, station, months)) ≡ yearGives there sheet series minutes heights
+            → sheetOver months (stationStride table station) sheet series minutes heights ≡ yearGives there sheet series minutes heights
         unfolding yearGives
         sheet-given within = sym (ap sheet-of (rw within at (asked-of (accepted months) prepared)))

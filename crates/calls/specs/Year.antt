@@ -67,12 +67,16 @@ beside turns new old =
       heights = turns .heights;
     }
 
--- "The turn search runs on across month ends with the slope of the month that owns each minute", with the stride of the station's own tides;
--- 10 and what is written are a search's
+-- "The turn search runs on across month ends with the slope of the month that owns each minute"; 10 and what is written are a search's
+abbrev pub sheetOver : List Month → ℕ → Sheet → List ℤ → List ℕ → List ℤ → YearGiven
+sheetOver months stride sheet series minutes heights =
+    beside
+    (given (heightOver months) (turnsOf (slopeOver months) stride (sheet .first) (sheet .last)) minutes heights)
+    (seriesOf (heightOver months) (sheet .start) (sheet .step) (length series))
+    series
+
+-- the sheet of the year's months, with the stride of the station's own tides
 unfoldable pub yearGives : State → Sheet → List ℤ → List ℕ → List ℤ → YearGiven
 yearGives k sheet series minutes heights =
     unlessTurnedDown (sheetAsked k sheet (length series)) series minutes heights λ (table, station, months).
-    beside
-    (given (heightOver months) (turnsOf (slopeOver months) (stationStride table station) (sheet .first) (sheet .last)) minutes heights)
-    (seriesOf (heightOver months) (sheet .start) (sheet .step) (length series))
-    series
+    sheetOver months (stationStride table station) sheet series minutes heights

@@ -4,3 +4,5 @@ pub mod CardsCase
 pub mod Stations
 pub mod Months
 pub mod Lent
+pub mod OneMonth
+pub mod Sheets

@@ -17,6 +17,7 @@ ghost use Rattle.turns.specs.inner.Answers.{returnedOf};
 ghost use Rattle.clock.specs.Returned.{heightReturned, turnsReturned};
 ghost use Rattle.refusals.specs.Outcome.{outcomeOf};
 ghost use Rattle.clock.specs.inner.Parts.{accepts, withStation, withMonth};
+
 mod yearsheet; // a year's sheet, from a table and a station
 
 use calls::asked;

@@ -1,14 +1,13 @@
 -- A single month, as months that follow one another: its row is the whole of the lists, and its last minute the last of all. By computing.
-use Prim.Native.Nat.{ℕ, suc, _+_, _*_, _≤_, _<_}
+use Prim.Native.Nat.{ℕ, _≤_, _<_}
 use native.Mathlib.Omega.{arith}
-use mathlib.Core.Path.{_≡_, refl, ap}
+use mathlib.Core.Path.{_≡_}
 use mathlib.Core.List.{List, [], _∷_}
 use lib.IntN.{ℤ}
-use lib.ListN.{length, getD, take, drop}
+use lib.ListN.{length, getD}
 use lib.Seq.{take-all}
 use Rattle.limits.specs.Limits.{mostRecords, mostMinutes}
-use Rattle.month_prepared.specs.Prepared.{Month}
-use Rattle.month_prepared.specs.Months.{Owned, ownerOf, atOwner}
+use Rattle.month_prepared.specs.Months.{ownerOf}
 use Rattle.month_prepared.specs.declared.months.Months.{Months}
 use Rattle.month_prepared.specs.inner.View.{constituentsFrom}
 use Rattle.month_prepared.specs.inner.Rows.{IsRow, rowAt, monthsAfter, monthsIn, minutesAfter, lastOf, Following, HasRows}

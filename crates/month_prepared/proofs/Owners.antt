@@ -1,16 +1,14 @@
 -- The owner of a minute of months that follow one another: the month before whose end it lies. By induction on the months before it.
 use Prim.Native.Nat.{ℕ, zero, suc, _+_, _-_, _*_, _≤_, _<_}
 use native.Mathlib.Omega.{arith}
-use mathlib.Core.Bool.{Bool, true, false, cond}
-use mathlib.Core.Path.{_≡_, refl, sym, ap, _∙_}
+use mathlib.Core.Path.{_≡_, refl, _∙_}
 use mathlib.Core.List.{List, [], _∷_}
-use lib.Dec.{ltb}
 use lib.IntN.{ℤ}
 use lib.ListN.{getD}
 use borrow.Author.Tests.{lt-ltb, le-ltb}
 use Rattle.limits.specs.Limits.{mostMinutes}
 use Rattle.month_prepared.specs.Prepared.{Month}
-use Rattle.month_prepared.specs.Months.{Owned, ownerOf}
+use Rattle.month_prepared.specs.Months.{ownerOf}
 use Rattle.month_prepared.specs.declared.months.Months.{Months}
 use Rattle.month_prepared.specs.declared.months.InMonth.{InMonth}
 use Rattle.month_prepared.specs.inner.Rows.{monthAt, monthsAfter, monthsIn, minutesAfter, lastOf, Following, OwnerPost}

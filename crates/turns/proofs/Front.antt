@@ -1,19 +1,19 @@
 -- Stores from the front of a list: one more, none left, and what the list is at the end. And what a search gives, by the buffers' room.
 -- By the laws of `sets` and the definition's tests. Assumes nothing.
-use mathlib.Core.Path.{_≡_}
+use mathlib.Core.Path.{_≡_, sym, ap, _∙_}
 use mathlib.Core.Bool.{Bool}
 use mathlib.Core.List.{List, map}
 use Prim.Native.Nat.{ℕ, _+_, _≤_, _<_}
 use native.Mathlib.Numerals.{add-one}
 use native.Mathlib.Omega.{arith}
 use lib.IntN.{ℤ}
-use lib.ListN.{length, getD, set, take, drop, length-map, drop-of-length-le}
-use lib.Seq.{sets, drop-cons, length-take-le, getD-take}
+use lib.ListN.{length, getD, set, take, drop, length-map, length-append, length-drop, drop-of-length-le}
+use lib.Seq.{sets, drop-cons}
 use borrow.Author.Tests.{lt-ltb, le-ltb}
 use Rattle.turns.specs.Search.{Turn, firstHigh, minutesOf}
-use Rattle.turns.specs.inner.Search.{Minutes, FoundPost}
+use Rattle.turns.specs.inner.Search.{FoundPost}
 use Rattle.turns.specs.declared.search.Summary.{Summary}
-use Rattle.turns.proofs.search.Stored.{stored-all}
+use Rattle.turns.proofs.search.Stored.{stored-all, all-in-front, taken-from-front}
 use Rattle.refusals.specs.Outcome.{accepted, refused}
 use Rattle.turns.specs.Written.{fromFront, given}
 
@@ -28,14 +28,36 @@ module _ {A : Type 0} (f : ℕ → A) (ks : List ℕ) (l : List A) where
   pub stored : length ks ≤ length l → sets l 0 (map f ks) ≡ fromFront (map f ks) l
   stored h = let e = length-map ks f in stored-all (map f ks) l (omega arith)
 
--- the part of the kept minutes that a search fills
-pub filled : {turns : List Turn} {kept : List ℕ} {r : Summary} → FoundPost turns kept r → length (take (r .count) kept) ≡ r .count
-filled {kept} {r} p = length-take-le (r .count) kept (omega (arith, p .within .0, p .within .1 .0))
+-- ---- what a search keeps, where there is room for all
 
-pub filled-minutes : {turns : List Turn} {kept : List ℕ} {r : Summary} → FoundPost turns kept r → Minutes (take (r .count) kept)
-filled-minutes {kept} {r} p k h =
-    let below : k < r .count = omega (arith, filled p) in
-    rw (getD-take (r .count) kept k 0 below) (p .within .1 .1 k below)
+module _ {turns : List Turn} {before after : List ℕ} {r : Summary} (p : FoundPost turns before after r) (room : r .count ≤ length before) where
+  many : length (minutesOf turns) ≡ r .count
+  many = length-map turns (λ (t : Turn). t .minute) ∙ sym (p .count)
+
+  pub all-kept : after ≡ fromFront (minutesOf turns) before
+  all-kept = let m = many in p .kept ∙ all-in-front (minutesOf turns) before (omega arith)
+
+  pub kept-front : take (r .count) after ≡ minutesOf turns
+  kept-front = ap (λ (l : List ℕ). take (r .count) l) all-kept ∙ taken-from-front (minutesOf turns) before many
+
+  pub kept-length : length (take (r .count) after) ≡ r .count
+  kept-length = ap length kept-front ∙ many
+
+-- the minutes of turns at the front of others
+module _ (turns : List Turn) (minutes : List ℕ) {after : List ℕ} {n : ℕ} (is : after ≡ fromFront (minutesOf turns) minutes) (all : n ≡ length turns) where
+  many' : length (minutesOf turns) ≡ n
+  many' = length-map turns (λ (t : Turn). t .minute) ∙ sym all
+
+  pub front-minutes : take n after ≡ minutesOf turns
+  front-minutes = ap (λ (l : List ℕ). take n l) is ∙ taken-from-front (minutesOf turns) minutes many'
+
+  pub front-count : length (take n after) ≡ n
+  front-count = ap length front-minutes ∙ many'
+
+  pub front-length : n ≤ length minutes → length after ≡ length minutes
+  front-length h =
+      let m = many' in
+      ap length is ∙ simp (length-append, length-drop) (omega arith)
 
 -- ---- what is given, by the buffers' room
 
@@ -52,5 +74,5 @@ module _ (height : ℕ → ℤ) (turns : List Turn) (minutes : List ℕ) (height
   unfolding given
   room-for-all l k = simp (le-ltb _ _ l, le-ltb _ _ k)
 
-  pub all-given : {n : ℕ} {high : Bool} {ks ms : List ℕ} {hs : List ℤ} → n ≡ length turns → high ≡ firstHigh turns → ks ≡ minutesOf turns → ms ≡ fromFront ks minutes → hs ≡ fromFront (map height ks) heights → length turns ≤ length minutes → length turns ≤ length heights → record { returned = accepted (record { count = n; high = high }); minutes = ms; heights = hs } ≡ given height turns minutes heights
+  pub all-given : {n : ℕ} {high : Bool} {ks ms : List ℕ} {hs : List ℤ} → n ≡ length turns → high ≡ firstHigh turns → ks ≡ minutesOf turns → ms ≡ fromFront (minutesOf turns) minutes → hs ≡ fromFront (map height ks) heights → length turns ≤ length minutes → length turns ≤ length heights → record { returned = accepted (record { count = n; high = high }); minutes = ms; heights = hs } ≡ given height turns minutes heights
   all-given en eh ek em es l k = rw (en, eh, em, es, ek) (room-for-all l k)

@@ -3,7 +3,7 @@
 ghost use mathlib.Core.Path.{_≡_};
 ghost use mathlib.Core.List.{map};
 ghost use Prim.Native.Nat.{_≤_};
-ghost use lib.ListN.{length, take};
+ghost use lib.ListN.{length};
 ghost use Rattle.month_prepared.specs.inner.Rows.{lastOf};
 ghost use Rattle.turns.specs.inner.Lists.{Rows, slopesIn, heightsIn};
 ghost use Rattle.turns.specs.Search.{turnsOf};
@@ -18,11 +18,11 @@ mod search; // strides and turns
 mod tides; // the kind of tides
 pub mod strides; // a station's stride
 
-pub use search::Reach;
 use crate::search::Summary;
 use cosine::ENTRIES;
 use limits::RECORDS;
 use month_prepared::months::Months;
+pub use search::Reach;
 
 // How many turns are kept while they are counted. (A year of two high and two low waters a day has 1,411; one with more than these is
 // searched a second time.)
@@ -34,19 +34,19 @@ pub enum Searched {
     TooMany,
 }
 
-// Puts the first `many` kept minutes at the front of the lent places.
-fn put_minutes(kept: &[u32; KEPT], many: usize, minutes: &mut [u32])
-    requires { ⌜ (many ≤ 4_096) × (many ≤ length (now minutes)) ⌝ }
-    ensures { λ r. ⌜ now (minutes .exit) ≡ fromFront (take many (now (kept .entry))) (now (minutes .entry)) ⌝ }
+// Puts the kept minutes at the front of the lent places.
+fn put_minutes(kept: &[u32], minutes: &mut [u32])
+    requires { ⌜ length (now kept) ≤ length (now minutes) ⌝ }
+    ensures { λ r. ⌜ now (minutes .exit) ≡ fromFront (now (kept .entry)) (now (minutes .entry)) ⌝ }
 {
     let mut i: usize = 0;
-    while i < many {
+    while i < kept.len() {
         minutes[i] = kept[i];
         i = i + 1;
     }
 }
 
-// Puts the heights at the first `many` minutes at the front of the lent places.
+// Puts the heights at the minutes at the front of the lent places.
 fn put_heights<'a>(
     table: &'a [u32; ENTRIES],
     arguments: &'a [u64],
@@ -117,7 +117,7 @@ pub fn turns<'a>(
         return Searched::TooMany;
     }
     if many <= KEPT {
-        put_minutes(&kept, many, minutes);
+        put_minutes(&kept[..many], minutes);
     } else {
         search::find_turns(
             table,

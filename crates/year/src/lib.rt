@@ -1,15 +1,15 @@
 // The twelve months of a calendar year: each month's arguments and weights in a row of its own, worked out once.
-ghost use Prim.Native.Nat.{_≤_};
+ghost use Prim.Native.Nat.{_*_, _≤_};
+ghost use lib.Seq.{paste};
 ghost use mathlib.Core.Path.{_≡_};
 ghost use mathlib.Core.Bool.{true};
 ghost use Rattle.limits.specs.Limits.{mostRecords};
 ghost use Rattle.calendar.specs.Calendar.{yearInRange};
 ghost use Rattle.cosine.specs.Fixed.{IsTable};
-ghost use Rattle.year.specs.inner.Rows.{YearMonths, PreparedPost};
+ghost use Rattle.year.specs.inner.Rows.{YearMonths, RowInto, TwelveRows, PreparedPost};
 use cosine::ENTRIES;
 use limits::RECORDS;
 use month::Preparation;
-use month_prepared::Month;
 use month_prepared::months::MONTHS;
 use month_prepared::months::Months;
 use station::Station;
@@ -36,20 +36,28 @@ pub fn months_of(year: u32, count: usize) -> Months
     }
 }
 
-// Puts a month's arguments and weights into row m.
-fn put_row(
-    month: Month,
-    m: usize,
-    arguments: &mut [u64; ROWS],
-    ps: &mut [i32; ROWS],
-    qs: &mut [i32; ROWS],
-) {
+// Puts a month's arguments into row m.
+fn put_arguments(row: &[u64; RECORDS], m: usize, rows: &mut [u64; ROWS])
+    requires { ⌜ RowInto (now row) m (now rows) ⌝ }
+    ensures { λ _. ⌜ now (rows .exit) ≡ paste (now (rows .entry)) (m * mostRecords) (now (row .entry)) mostRecords ⌝ }
+{
     let from = m * RECORDS;
     let mut k: usize = 0;
     while k < RECORDS {
-        arguments[from + k] = month.arguments[k];
-        ps[from + k] = month.ps[k];
-        qs[from + k] = month.qs[k];
+        rows[from + k] = row[k];
+        k = k + 1;
+    }
+}
+
+// Puts a month's weights P, or its weights Q, into row m.
+fn put_weights(row: &[i32; RECORDS], m: usize, rows: &mut [i32; ROWS])
+    requires { ⌜ RowInto (now row) m (now rows) ⌝ }
+    ensures { λ _. ⌜ now (rows .exit) ≡ paste (now (rows .entry)) (m * mostRecords) (now (row .entry)) mostRecords ⌝ }
+{
+    let from = m * RECORDS;
+    let mut k: usize = 0;
+    while k < RECORDS {
+        rows[from + k] = row[k];
         k = k + 1;
     }
 }
@@ -66,7 +74,7 @@ pub fn prepare(
     ps: &mut [i32; ROWS],
     qs: &mut [i32; ROWS],
 ) -> Preparation
-    requires { ⌜ IsTable (now cosines) × (yearInRange year ≡ true) ⌝ }
+    requires { ⌜ IsTable (now cosines) × ((yearInRange year ≡ true) × TwelveRows (now arguments) (now ps) (now qs)) ⌝ }
     ensures { λ r. ⌜ PreparedPost table station year (now (frequencies .exit)) (now (arguments .exit)) (now (ps .exit)) (now (qs .exit)) r ⌝ }
 {
     let mut m: usize = 0;
@@ -79,8 +87,10 @@ pub fn prepare(
             }
             Preparation::Ready => {
                 let month = prepared.month;
-                put_row(month, m, arguments, ps, qs);
-                put_frequencies(month, frequencies);
+                *frequencies = month.frequencies;
+                put_arguments(&month.arguments, m, arguments);
+                put_weights(&month.ps, m, ps);
+                put_weights(&month.qs, m, qs);
             }
         }
         m = m + 1;

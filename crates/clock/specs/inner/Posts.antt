@@ -18,10 +18,12 @@ use Rattle.month_prepared.specs.inner.View.{constituentsFrom}
 use Rattle.calendar.specs.Calendar.{monthMinutes}
 use Rattle.month.specs.Month.{monthOf}
 use Rattle.month_prepared.specs.Prepared.{Month}
+use Rattle.heights.specs.inner.Places.{SeriesWithin}
 use Rattle.turns.specs.Written.{TurnsFound}
+use Rattle.turns.specs.inner.Search.{Reaches}
 use Rattle.station.specs.declared.Station as declaredStation
 use Rattle.calls.specs.declared.sheets.Sheet.{Sheet}
-use Rattle.calls.specs.Year.{yearGives}
+use Rattle.calls.specs.Year.{sheetOver, yearGives}
 use Rattle.calls.specs.State.{Maybe, some}
 use Rattle.calls.specs.Calls.{heightReturns}
 use Rattle.calls.specs.inner.Flags.{stateOf, tabledOnly}
@@ -59,3 +61,12 @@ pub record HeightFrom (tabled stationed dated : Bool) (last count : ℕ) (argume
 pub record SheetPost (table : declared.Table) (station : declaredStation.Station) (sheet : Sheet) (series seriesLeft : List ℤ) (minutes minutesLeft : List ℕ) (heights heightsLeft : List ℤ) (returned : Outcome TurnsFound) : Type 0 where
   pub gives : (month : Maybe Month) → record { returned = returned; series = seriesLeft; minutes = minutesLeft; heights = heightsLeft }
       ≡ yearGives (record { table = some (tableOf table); station = some (stationOf station); month = month }) sheet series minutes heights
+
+-- a series and a search within months that end at a minute
+pub record SheetWithin (end stride : ℕ) (sheet : Sheet) (places : ℕ) : Type 0 where
+  pub series : SeriesWithin end (sheet .start) (sheet .step) places
+  pub search : Reaches end (record { stride = stride; first = sheet .first; last = sheet .last })
+
+-- the sheet of the months whose rows five lists hold
+pub record WrittenPost (months : List Month) (stride : ℕ) (sheet : Sheet) (series seriesLeft : List ℤ) (minutes minutesLeft : List ℕ) (heights heightsLeft : List ℤ) (returned : Outcome TurnsFound) : Type 0 where
+  pub gives : record { returned = returned; series = seriesLeft; minutes = minutesLeft; heights = heightsLeft } ≡ sheetOver months stride sheet series minutes heights

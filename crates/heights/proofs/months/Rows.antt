@@ -1,14 +1,14 @@
 -- A month's row of the arrays, and the height at a minute with the weights of the month that owns it: that month's own. By the owner's law.
 use Prim.Native.Nat.{ℕ, _+_, _-_, _*_, _≤_, _<_}
 use native.Mathlib.Omega.{arith}
-use mathlib.Core.Path.{_≡_, refl, sym, ap, _∙_}
+use mathlib.Core.Path.{_≡_, sym, ap, _∙_}
 use mathlib.Core.List.{List}
 use lib.IntN.{ℤ, pos}
 use lib.ListN.{length, getD, take, drop, length-drop}
 use lib.Seq.{length-take-le}
 use borrow.Rule.Slice.PartMut.{midOf, putMid, mid-len}
 use Rattle.limits.specs.Limits.{mostRecords}
-use Rattle.month_prepared.specs.Months.{Owned, ownerOf}
+use Rattle.month_prepared.specs.Months.{Owned}
 use Rattle.month_prepared.specs.declared.months.Months.{Months}
 use Rattle.month_prepared.specs.declared.months.InMonth.{InMonth}
 use Rattle.month_prepared.specs.inner.View.{constituentsFrom}

@@ -7,7 +7,7 @@ use lib.IntN.{ℤ}
 use lib.ListN.{length, getD, take, drop}
 use Rattle.limits.specs.Limits.{mostRecords, mostMinutes, mostFrequency}
 use Rattle.month_prepared.specs.Prepared.{Month}
-use Rattle.month_prepared.specs.Months.{Owned, ownerOf}
+use Rattle.month_prepared.specs.Months.{ownerOf}
 use Rattle.month_prepared.specs.declared.months.Months.{Months}
 use Rattle.month_prepared.specs.declared.months.InMonth.{InMonth}
 use Rattle.month_prepared.specs.inner.View.{constituentsFrom}

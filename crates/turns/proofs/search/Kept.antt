@@ -1,8 +1,9 @@
--- The minutes of turns as they are kept while more are found: each is in the search's range, and when none are left all are kept.
+-- The minutes of turns as they are kept while more are found: each is in the search's range, and when none are left all are kept for which
+-- there are places.
 -- By induction on the strides, and by what `NextPost` says of the turns that are left. Assumes nothing.
-use mathlib.Core.Path.{_≡_, sym, ap, _∙_}
+use mathlib.Core.Path.{_≡_, refl, sym, ap, _∙_}
 use mathlib.Core.Bool.{Bool, true, false}
-use mathlib.Core.List.{List, [], _∷_, _++_}
+use mathlib.Core.List.{List, [], _∷_}
 use Prim.Native.Nat.{ℕ, zero, suc, _+_, _-_, _≤_, _<_}
 use native.Mathlib.Nat.{le-trans}
 use native.Mathlib.Numerals.{add-one}
@@ -10,19 +11,18 @@ use native.Mathlib.Omega.{arith}
 use lib.Dec.{ltb}
 use lib.IntN.{ℤ}
 use borrow.Author.Needs.{zero≤}
-use lib.ListN.{length, getD, set, drop, length-map, length-set, List·getD-append}
-use lib.Seq.{sets, take-at, length-sets}
+use lib.ListN.{length, getD, set, length-set}
+use lib.Seq.{sets}
 use borrow.Author.Tests.{ltb-false}
-use Rattle.limits.specs.Limits.{mostMinutes}
 use Rattle.turns.specs.Sense.{differ}
 use Rattle.turns.specs.Cuts.{earlierEnd, laterEnd}
 use Rattle.turns.proofs.bisection.Cuts.{by-test, end-within}
 use Rattle.turns.specs.Search.{Turn, turnIn, turnsFrom, turnsOf}
 use Rattle.turns.specs.Search.{firstHigh, minutesOf}
-use Rattle.turns.specs.inner.Search.{NextPost, FoundPost, onwards}
+use Rattle.turns.specs.inner.Search.{NextPost, FoundPost, Upto, onwards}
 use Rattle.turns.specs.declared.search.Next.{Next}
 use Rattle.turns.proofs.search.Strides.{smaller-within, turns-few}
-use Rattle.turns.proofs.search.Stored.{stored-all}
+use Rattle.turns.proofs.search.Stored.{stored-in-front}
 
 -- ---- the minutes of turns
 
@@ -41,29 +41,8 @@ module _ (slope : ℕ → ℤ) (stride : ℕ) (some : 0 < stride) (last : ℕ) w
       let one = smaller-within slope last (earlierEnd slope minute stride) (omega arith) in
       by-test (λ ts. getD (minutesOf ts) k 0 ≤ last) (differ (slope minute) (slope (minute + stride))) (turnIn slope minute stride ∷ turnsFrom slope stride last n (laterEnd slope minute stride)) (turnsFrom slope stride last n (minute + stride)) (λ d. cons-within (turnIn slope minute stride .minute) (minutesOf (turnsFrom slope stride last n (laterEnd slope minute stride))) one (within-from n (laterEnd slope minute stride)) k) (λ d. within-from n (minute + stride) k))
 
-  pub minutes-within : (minute k : ℕ) → getD (minutesOf (turnsOf slope stride minute last)) k 0 ≤ last
-  minutes-within minute k = within-from (last - minute) minute k
-
--- ---- all kept
-
-module _ (turns : List Turn) (few : length turns ≤ mostMinutes) (within : (k : ℕ) → getD (minutesOf turns) k 0 ≤ mostMinutes) (kept₀ kept : List ℕ) (room : length kept₀ ≡ mostMinutes) (is : kept ≡ sets kept₀ 0 (minutesOf turns)) where
-  many : length (minutesOf turns) ≡ length turns
-  many = length-map turns (λ (t : Turn). t .minute)
-
-  in-front : kept ≡ minutesOf turns ++ drop (length (minutesOf turns)) kept₀
-  in-front = let m = many in is ∙ stored-all (minutesOf turns) kept₀ (omega arith)
-
-  pub all-kept : {n : ℕ} {high : Bool} → n ≡ length turns → high ≡ firstHigh turns → FoundPost turns kept (record { count = n; high = high })
-  all-kept {n} e h =
-      let m = many in
-      let rest = drop (length (minutesOf turns)) kept₀ in
-      record {
-        count = e;
-        high = h;
-        minutes = rw in-front (take-at (minutesOf turns) rest n (omega arith));
-        within =
-            (ap length is ∙ (length-sets kept₀ 0 (minutesOf turns) ∙ room), (omega arith, λ k l. rw (in-front, List·getD-append (minutesOf turns) rest 0 k (omega arith)) (within k)));
-      }
+  pub minutes-upto : (minute : ℕ) {end : ℕ} {ks : List ℕ} → last ≤ end → ks ≡ minutesOf (turnsOf slope stride minute last) → Upto end ks
+  minutes-upto minute h e k l = rw e (le-trans (within-from (last - minute) minute k) h)
 
 -- ---- while turns are left: `next` is known, and `n` are kept in a list that was `kept₀`
 
@@ -71,19 +50,19 @@ pub record Left (slope : ℕ → ℤ) (stride first last : ℕ) (kept₀ kept : 
   pub turn : next .turn ≤ last
   pub later : next .later ≤ last
   pub there : next .slope ≡ slope (next .later)
-  pub room : length kept ≡ mostMinutes
+  pub room : length kept ≡ length kept₀
   pub count : n + length (onwards slope stride last next) ≡ length (turnsOf slope stride first last)
   pub minutes : sets kept n (minutesOf (onwards slope stride last next)) ≡ sets kept₀ 0 (minutesOf (turnsOf slope stride first last))
 
 module _ {slope : ℕ → ℤ} {stride first last : ℕ} where
-  pub left-first : {kept : List ℕ} {next : Next} → NextPost slope stride last first next → length kept ≡ mostMinutes → Left slope stride first last kept kept next 0
-  left-first {kept} p r =
+  pub left-first : {kept : List ℕ} {next : Next} → NextPost slope stride last first next → Left slope stride first last kept kept next 0
+  left-first {kept} p =
       let all = ap length (p .turns) in
       record {
         turn = p .turn;
         later = p .later;
         there = p .there;
-        room = r;
+        room = refl;
         count = omega arith;
         minutes = ap (λ (ts : List Turn). sets kept 0 (minutesOf ts)) (sym (p .turns));
       }
@@ -107,23 +86,25 @@ module _ {slope : ℕ → ℤ} {stride first last : ℕ} where
       pub left-fewer : length (onwards slope stride last s) < length (onwards slope stride last next)
       left-fewer = let m = ap length one-more in omega arith
 
-      pub left-more : Left slope stride first last kept₀ (set kept n (next .turn)) s (n + 1)
-      left-more =
+      pub left-more : {kept' : List ℕ} → kept' ≡ set kept n (next .turn) → Left slope stride first last kept₀ kept' s (n + 1)
+      left-more is =
           let m = ap length one-more in
           let all = l .count in
           record {
             turn = p .turn;
             later = p .later;
             there = p .there;
-            room = length-set kept n (next .turn) ∙ l .room;
+            room = ap length is ∙ (length-set kept n (next .turn) ∙ l .room);
             count = omega arith;
-            minutes = rw add-one (rw one-more at (l .minutes));
+            minutes = rw (is, add-one) (rw one-more at (l .minutes));
           }
 
-    pub left-none : {high : Bool} → 0 < stride → last ≤ mostMinutes → length kept₀ ≡ mostMinutes → next .found ≡ false → high ≡ firstHigh (turnsOf slope stride first last) → FoundPost (turnsOf slope stride first last) kept (record { count = n; high = high })
-    left-none some h r e s =
+    pub left-none : {high : Bool} → next .found ≡ false → high ≡ firstHigh (turnsOf slope stride first last) → FoundPost (turnsOf slope stride first last) kept₀ kept (record { count = n; high = high })
+    left-none e s =
         let none : onwards slope stride last next ≡ [] = rw e in
-        let few = turns-few slope stride some last first in
         let m = ap length none in
-        let all = l .count in
-        all-kept (turnsOf slope stride first last) (omega arith) (λ k. le-trans (minutes-within slope stride some last first k) h) kept₀ kept r (rw none at (l .minutes)) (omega arith) s
+        record {
+          count = omega (arith, l .count);
+          high = s;
+          kept = (rw none at (l .minutes)) ∙ stored-in-front (minutesOf (turnsOf slope stride first last)) kept₀;
+        }

@@ -4,10 +4,8 @@ use Prim.Native.Nat.{ℕ, _+_, _-_, _*_, _/_, _≤_, _<_}
 use native.Mathlib.Omega.{arith}
 use native.Mathlib.Nat.{div-mul-le-self, div-le-self, mul-le-mul-right}
 use lib.ListN.{getD}
-use Rattle.limits.specs.Limits.{mostMinutes}
 use Rattle.month_prepared.specs.declared.months.Months.{Months}
 use Rattle.month_prepared.specs.declared.months.InMonth.{InMonth}
-use Rattle.month_prepared.specs.inner.Rows.{Following}
 use Rattle.heights.specs.inner.Places.{IsOwn, PlacesPost}
 use Rattle.heights.proofs.months.places_in.Statement.{statement}
 use Rattle.heights.proofs.months.places_in.Tie as tie

@@ -1,14 +1,11 @@
 -- `heights::months::series` meets its contract: the heights written so far are the series' own, place by place.
 use borrow.Author.Needs.{needs}
-use Prim.Native.Nat.{ℕ, _+_, _-_, _*_, _≤_, _<_}
+use Prim.Native.Nat.{_-_}
 use native.Mathlib.Omega.{arith}
-use mathlib.Core.Path.{_≡_, refl, sym, ap, _∙_}
-use mathlib.Core.List.{List}
-use lib.IntN.{ℤ, pos}
-use lib.ListN.{length, getD}
+use lib.ListN.{length}
 use Rattle.month_prepared.specs.inner.Rows.{monthsIn}
 use Rattle.month_prepared.proofs.Owners.{last-most}
-use Rattle.heights.specs.Height.{heightAt, heightOver}
+use Rattle.heights.specs.Height.{heightOver}
 use Rattle.heights.proofs.months.Joined.{Joining, minute-within, joining-none, joining-all}
 use Rattle.heights.proofs.months.Rows.{is-own, month-joined}
 use Rattle.heights.proofs.months.series.Statement.{statement}

@@ -1,6 +1,6 @@
 -- `month_prepared::months::owner` meets its contract: the minutes of the months passed, and those left, make the minute.
 use borrow.Author.Needs.{needs}
-use borrow.Author.Tests.{leb-false}
+use borrow.Author.Tests.{leb-true, leb-false}
 use Prim.Native.Nat.{ℕ, _+_, _-_, _≤_, _<_}
 use native.Mathlib.Omega.{arith}
 use native.Mathlib.Nat.{zero-add}
@@ -8,10 +8,8 @@ use mathlib.Core.Path.{_≡_}
 use mathlib.Core.List.{List}
 use lib.IntN.{ℤ}
 use lib.ListN.{getD}
-use Rattle.limits.specs.Limits.{mostMinutes}
 use Rattle.month_prepared.specs.declared.months.Months.{Months}
-use Rattle.month_prepared.specs.Months.{Owned, ownerOf}
-use Rattle.month_prepared.specs.inner.Rows.{Following, OwnerPost, lastOf, minutesAfter, monthAt, monthsIn}
+use Rattle.month_prepared.specs.inner.Rows.{Following, OwnerPost, lastOf, minutesAfter}
 use Rattle.month_prepared.proofs.Owners.{minutes-next, owner-at}
 use Rattle.month_prepared.proofs.months.owner.Statement.{statement}
 use Rattle.month_prepared.proofs.months.owner.Tie as tie
@@ -74,7 +72,7 @@ element-copy-out-left : tie.Need-element-copy-out-left Inv-loop μ-loop
 element-copy-out-left c = search needs
 
 sub-left : tie.Need-sub-left Inv-loop μ-loop
-sub-left c = search needs
+sub-left c = omega (arith, leb-true)
 
 add-month : tie.Need-add-month Inv-loop μ-loop
 add-month c = search needs
@@ -83,7 +81,7 @@ loop-less : tie.Need-loop-less Inv-loop μ-loop
 loop-less c = search needs
 
 loop-again : tie.Need-loop-again Inv-loop μ-loop
-loop-again c = passed (c .before .before .before .before .loop .inv) (search needs) (search needs)
+loop-again c = passed (c .before .before .before .before .loop .inv) (search needs) (omega (arith, leb-true))
 
 returns : tie.Need-returns Inv-loop μ-loop
 returns c = owns (c .before .before .before .loop .inv) (c .before .before .before .before .pre .0) (omega (arith, leb-false)) (λ h. omega (arith, leb-false))

@@ -16,7 +16,8 @@ use native.Mathlib.Omega.{arith}
 use mathlib.Core.Path.{_∙_, ap}
 use mir.Syntax.{w64}
 use mir.Val.{SFits}
-use Rattle.turns.specs.inner.Lists.{slopeOf}
+use Rattle.month_prepared.proofs.Owners.{last-most}
+use Rattle.turns.specs.inner.Lists.{slopesIn}
 use Rattle.turns.proofs.bisection.Halves.{kept, kept-result, sense-of, one-minute, early-half, late-half}
 
 abbrev μ-bisect : Measures 1 bisect-kinds.ps ℕ
@@ -33,11 +34,14 @@ bisect-claims t =
     (turn-between-reads.Asked, turn-between-reads.Learnt, slope-reads.Asked, slope-reads.Learnt, differs-reads.Asked, differs-reads.Learnt, bisect-below t, bisect.Post)
 
 bisect-turn-between-requires : (t : ℕ) → bisect-lts.Need-turn-between-requires (bisect-claims t) (bisect-at t) bisect.Post
-bisect-turn-between-requires t c κs = search needs
+bisect-turn-between-requires t c κs =
+    let s = c .before .before .before .before in
+    let small = last-most (s .args .months) (s .pre .1 .0 .following) in
+    search needs
 
 bisect-returns : (t : ℕ) → bisect-lts.Need-returns (bisect-claims t) (bisect-at t) bisect.Post
 bisect-returns t c =
-    let s = c .before .before .before .before in
+    let s = c .before .before .before .before .before in
     let b = s .args .bracket in
     let p = s .pre .1 .1 in
     let fe : SFits w64 (b .early) = search needs in
@@ -45,7 +49,10 @@ bisect-returns t c =
     one-minute _ (b .start) (b .length) (p .some) (c .before .if1 .taken) (kept fe (p .early)) (kept fl (p .late)) (c .turn-between .ensures .0) (c .turn-between .ensures .1)
 
 bisect-add-cut : (t : ℕ) → bisect-lts.Need-add-cut (bisect-claims t) (bisect-at t) bisect.Post
-bisect-add-cut t c = search needs
+bisect-add-cut t c =
+    let s = c .before .before .before .before in
+    let small = last-most (s .args .months) (s .pre .1 .0 .following) in
+    search needs
 
 bisect-slope-requires : (t : ℕ) → bisect-lts.Need-slope-requires (bisect-claims t) (bisect-at t) bisect.Post
 bisect-slope-requires t c κs = search needs
@@ -55,7 +62,7 @@ bisect-differs-requires t c κs = search needs
 
 bisect-bisect-requires : (t : ℕ) → bisect-lts.Need-bisect-requires (bisect-claims t) (bisect-at t) bisect.Post
 bisect-bisect-requires t c κs =
-    let s = c .before .before .before .before .before .before in
+    let s = c .before .before .before .before .before .before .before in
     let b = s .args .bracket in
     let p = s .pre .1 .1 in
     let fe : SFits w64 (b .early) = search needs in (
@@ -73,7 +80,7 @@ bisect-bisect-requires t c κs =
 
 bisect-returns-2 : (t : ℕ) → bisect-lts.Need-returns-2 (bisect-claims t) (bisect-at t) bisect.Post
 bisect-returns-2 t c =
-    let s = c .before .before .before .before .before .before .before in
+    let s = c .before .before .before .before .before .before .before .before in
     let b = s .args .bracket in
     let told = c .before .before .before .before .before .before .struct-told in
     let fe : SFits w64 (b .early) = search needs in
@@ -84,7 +91,7 @@ bisect-sub-t20 t c = search needs
 
 bisect-bisect-requires-2 : (t : ℕ) → bisect-lts.Need-bisect-requires-2 (bisect-claims t) (bisect-at t) bisect.Post
 bisect-bisect-requires-2 t c κs =
-    let s = c .before .before .before .before .before .before in
+    let s = c .before .before .before .before .before .before .before in
     let b = s .args .bracket in
     let p = s .pre .1 .1 in
     let fl : SFits w64 (b .late) = search needs in (
@@ -95,14 +102,14 @@ bisect-bisect-requires-2 t c κs =
           some = omega arith;
           within = omega (arith, p .within);
           early = kept-result (c .before .before .slope .ok) (c .before .before .slope .ensures);
-          late = kept fl (p .late ∙ ap (λ (m : ℕ). slopeOf (s .args .arguments .now) (s .args .lags .now) (s .args .frequencies .now) (s .args .ps .now) (s .args .qs .now) (s .args .count) m) (omega arith));
+          late = kept fl (p .late ∙ ap (λ (m : ℕ). slopesIn (s .args .arguments .now) (s .args .lags .now) (s .args .frequencies .now) (s .args .ps .now) (s .args .qs .now) (s .args .months) m) (omega arith));
         },
       ),
     )
 
 bisect-returns-3 : (t : ℕ) → bisect-lts.Need-returns-3 (bisect-claims t) (bisect-at t) bisect.Post
 bisect-returns-3 t c =
-    let s = c .before .before .before .before .before .before .before in
+    let s = c .before .before .before .before .before .before .before .before in
     let b = s .args .bracket in
     let told = c .before .before .before .before .before .before .struct-told in
     let fe : SFits w64 (b .early) = search needs in

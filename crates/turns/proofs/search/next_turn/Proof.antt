@@ -9,29 +9,36 @@ use mathlib.Core.Path.{_≡_, refl, _∙_, ap}
 use mir.Syntax.{w64}
 use mir.Val.{SFits, toZ}
 use mir.ValLaws.{toZ-ofZ}
+use Rattle.month_prepared.proofs.Owners.{last-most}
 use Rattle.turns.specs.Sense.{rising}
-use Rattle.turns.specs.inner.Lists.{slopeOf}
+use Rattle.turns.specs.inner.Lists.{slopesIn}
 use Rattle.turns.specs.Search.{turnsOf}
 use Rattle.turns.proofs.bisection.Halves.{kept, kept-result, sense-of}
 use Rattle.turns.proofs.search.Onward.{stride-passed, end-reached, turn-found}
 
 abbrev Inv-loop : tie.InvT-loop
-Inv-loop table arguments lags frequencies ps qs count minute here stride last from₀ behind₀ from behind =
+Inv-loop table arguments lags frequencies ps qs months minute here stride last from₀ behind₀ from behind =
     (from ≤ last)
-    × ((toZ w64 behind ≡ slopeOf arguments lags frequencies ps qs count from)
-    × (turnsOf (slopeOf arguments lags frequencies ps qs count) stride minute last ≡ turnsOf (slopeOf arguments lags frequencies ps qs count) stride from last))
+    × ((toZ w64 behind ≡ slopesIn arguments lags frequencies ps qs months from)
+    × (turnsOf (slopesIn arguments lags frequencies ps qs months) stride minute last ≡ turnsOf (slopesIn arguments lags frequencies ps qs months) stride from last))
 
 abbrev μ-loop : tie.MeasureT-loop
-μ-loop table arguments lags frequencies ps qs count minute here stride last from₀ behind₀ from behind = last - from
+μ-loop table arguments lags frequencies ps qs months minute here stride last from₀ behind₀ from behind = last - from
 
 loop-holds : tie.Need-loop-holds Inv-loop μ-loop
-loop-holds c = (c .pre .1 .0 .1, (kept (c .fits .here) (c .pre .1 .1), refl))
+loop-holds c = let s = c .before in (s .pre .1 .0 .1, (kept (s .fits .here) (s .pre .1 .1), refl))
 
 add-loop : tie.Need-add-loop Inv-loop μ-loop
-add-loop c = search needs
+add-loop c =
+    let s = c .before .before in
+    let small = last-most (s .args .months) (s .pre .0 .following) in
+    search needs
 
 add-to : tie.Need-add-to Inv-loop μ-loop
-add-to c = search needs
+add-to c =
+    let s = c .before .before .before in
+    let small = last-most (s .args .months) (s .pre .0 .following) in
+    search needs
 
 slope-requires : tie.Need-slope-requires Inv-loop μ-loop
 slope-requires c κs = search needs
@@ -42,7 +49,7 @@ differs-requires c κs = search needs
 bisect-requires : tie.Need-bisect-requires Inv-loop μ-loop
 bisect-requires c κs =
     let l = c .before .before .before .before .loop in
-    let s = c .before .before .before .before .before in (
+    let s = c .before .before .before .before .before .before in (
       s .pre .0,
       record {
         some = s .pre .1 .0 .0 .some;
@@ -57,7 +64,7 @@ rises-requires c κs = search needs
 
 returns : tie.Need-returns Inv-loop μ-loop
 returns c =
-    let s = c .before .before .before .before .before .before .before .before in
+    let s = c .before .before .before .before .before .before .before .before .before in
     let l = c .before .before .before .before .before .before .before .loop in
     let b = c .before .before .bisect in
     let h : l .from + s .args .reach .stride ≤ s .args .reach .last = omega (arith, c .before .before .before .before .before .before .loop-test .taken) in
@@ -72,7 +79,7 @@ loop-less c = search needs
 
 loop-again : tie.Need-loop-again Inv-loop μ-loop
 loop-again c =
-    let s = c .before .before .before .before .before in
+    let s = c .before .before .before .before .before .before in
     let l = c .before .before .before .before .loop in
     let h : l .from + s .args .reach .stride ≤ s .args .reach .last = omega (arith, c .before .before .before .loop-test .taken) in
     let ahead = kept-result (c .before .before .slope .ok) (c .before .before .slope .ensures) in
@@ -81,8 +88,9 @@ loop-again c =
 
 returns-2 : tie.Need-returns-2 Inv-loop μ-loop
 returns-2 c =
-    let s = c .before in
-    end-reached _ (s .before .args .reach .stride) (s .before .pre .1 .0 .0 .some) (s .before .args .reach .last) (s .before .args .minute) (s .loop .from) (s .loop .inv .1 .1) (s .loop .inv .0) (omega arith) (s .loop .inv .1 .0)
+    let s = c .before .before .before in
+    let l = c .before .loop in
+    end-reached _ (s .args .reach .stride) (s .pre .1 .0 .0 .some) (s .args .reach .last) (s .args .minute) (l .from) (l .inv .1 .1) (l .inv .0) (omega arith) (l .inv .1 .0)
 
 pub next-turn-spec : {M : Type 1} → statement M
 next-turn-spec =
