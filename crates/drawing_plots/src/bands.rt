@@ -1,6 +1,7 @@
 // The band of a year: each day from its lowest to its highest water, of hourly heights and of turns.
 ghost use mathlib.Core.Path.{_≡_};
-ghost use lib.ListN.{length, take, drop};
+ghost use Prim.Native.Nat.{_-_};
+ghost use lib.ListN.{take, drop};
 ghost use Rattle.drawing_plots.specs.Bands.{DayBand};
 use crate::scale;
 use crate::scale::Extent;
@@ -19,7 +20,9 @@ pub fn part(heights: &[i64], from: usize, count: usize) -> &[i64]
 }
 
 // How many turns there are from one to before another.
-fn count_of(from: usize, to: usize) -> usize {
+fn count_of(from: usize, to: usize) -> usize
+    ensures { λ r. ⌜ r ≡ to - from ⌝ }
+{
     if from < to { to - from } else { 0 }
 }
 
