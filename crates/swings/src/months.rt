@@ -3,7 +3,7 @@ ghost use mathlib.Core.Path.{_≡_};
 ghost use Prim.Native.Nat.{_-_, _*_, _≤_, min};
 ghost use Rattle.calendar.specs.Calendar.{monthsDays};
 ghost use Rattle.digits.specs.Digits.{dayOf};
-ghost use Rattle.swings.specs.Months.{highestTurn, lowestTurn, monthOf};
+ghost use Rattle.swings.specs.Months.{raisedAt, highestTurn, lowestTurn, monthOf};
 use crate::day_end;
 use crate::turn_from;
 use drawing_plots::scale;
@@ -34,7 +34,9 @@ pub fn days_before(year: u32, month: u32) -> u32
 }
 
 // A turn's height, counted as a drawing counts it.
-fn raised_at(heights: &[i64], i: usize) -> u32 {
+fn raised_at(heights: &[i64], i: usize) -> u32
+    ensures { λ r. ⌜ r ≡ raisedAt (now (heights .entry)) i ⌝ }
+{
     scale::raised(digits::height_at(heights, i))
 }
 
