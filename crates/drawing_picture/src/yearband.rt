@@ -139,7 +139,26 @@ fn extreme(month: Month, high: bool) -> usize {
     if high { month.highest } else { month.lowest }
 }
 
-// Puts the mark of each month's highest water, or of its lowest, where it has one.
+// Puts the mark of a month's highest water, or of its lowest, where it has one.
+fn put_extreme<'a>(
+    page: &mut [u8],
+    before: Marked,
+    plot: Plot,
+    month: Month,
+    minutes: &'a [u32],
+    turns: &'a [i64],
+    high: bool,
+) -> Marked {
+    if month.to <= month.from {
+        return before;
+    }
+    let i = extreme(month, high);
+    let minute = figures::minute_at(minutes, i);
+    let height = figures::height_at(turns, i);
+    put_turn(page, before, plot, month, minute, height, high)
+}
+
+// Puts the marks of the months' highest waters, or of their lowest.
 fn put_kind<'a>(
     page: &mut [u8],
     at: usize,
@@ -156,18 +175,7 @@ fn put_kind<'a>(
     let mut month: u32 = 1;
     while month < 13 {
         let shown = months::month_of(year, month, turns.len(), minutes, turns);
-        if shown.from < shown.to {
-            let i = extreme(shown, high);
-            marked = put_turn(
-                page,
-                marked,
-                plot,
-                shown,
-                figures::minute_at(minutes, i),
-                figures::height_at(turns, i),
-                high,
-            );
-        }
+        marked = put_extreme(page, marked, plot, shown, minutes, turns, high);
         month += 1;
     }
     marked.at
