@@ -1,7 +1,7 @@
 #!/usr/bin/env python3
 """Writes the script that the program replay is run on: tools/replay_example.py > crates/replay/stdin.
 
-The manual's sample, Victoria in July 1976, with calls before, between and behind it that are refused; then document 01's cases "Checked against". What the program must answer
+The manual's sample, Victoria in July 1976, with calls before, between and behind it that are refused, years among them; then document 01's cases "Checked against". What the program must answer
 (crates/replay/stdout) is what the second code answers, and
 
     tools/replay_example.py --paper crates/replay/stdout
@@ -20,6 +20,9 @@ sys.path.insert(0, os.path.join(HERE, "..", "second"))
 from clock import Clock
 
 LAST = 44_640
+# minutes of 1976
+FIRST_OF_JULY = 182 * 1_440
+LAST_OF_JULY = 212 * 1_440
 
 
 def read(name):
@@ -54,13 +57,23 @@ def sample():
     return [
         b"height 0\n",
         b"cards 9\nno cards\n\n",
+        b"year 1949 0 0 0 1 0 0 0\n",
         b"cards %d\n%s\n" % (len(CARDS), CARDS),
         b"date 1976 7\n",
+        b"year 1949 0 0 0 1 0 0 0\n",
         station(5_401, records),
         station(latitude, [(0, 0, 0)] * 147),
         station(latitude, records + records[:1]),
         station(latitude, records),
         b"height 0\n",
+        b"year 1976 %d 60 49 %d %d 200 200\n" % (LAST_OF_JULY, FIRST_OF_JULY - 1_440, LAST_OF_JULY + 2_880),
+        b"year 1949 0 0 0 1 0 0 0\n",
+        b"year 1976 0 1440 367 0 0 0 0\n",
+        b"year 1976 0 1440 368 0 0 0 0\n",
+        b"year 1977 525601 1 0 0 0 0 0\n",
+        b"year 1976 0 1441 0 0 0 0 0\n",
+        b"year 1976 0 1 0 10 9 1 1\n",
+        b"year 1976 0 1 1 0 527040 9 10\n",
         b"date 1976 13\n",
         b"date 1976 7\n",
         b"height 0\n",
@@ -72,6 +85,8 @@ def sample():
         b"turns 0 44640 9 10\n",
         b"turns 0 44640 200 200\n",
         b"turns 10 9 1 1\n",
+        b"year 2000 84960 1439 3 525599 525600 0 0\n",
+        b"height 0\n",
         b"cards 0\n\n",
         b"height 44640\n",
         station(-latitude, [(0, 1_000, 0)]),

@@ -21,6 +21,9 @@ pub enum Asked {
     Series(u32, u32, u32, u32, u32, u32),
     MonthDrawing(u32, u32),
     DayDrawing(u32, u32, u32),
+    Year(u32),
+    YearTable(u32),
+    YearDrawing(u32),
     Wrong(Wrong, usize),
 }
 
@@ -55,6 +58,7 @@ enum Kind {
     Cards,
     Station,
     Unit,
+    Csv,
     Help,
     Unknown,
     Plain,
@@ -62,7 +66,7 @@ enum Kind {
 
 // What is read so far: where the next word begins; how many plain words there are, and where the first eight begin, with what each is, as a
 // number (1), as a time (2) or as neither (0), and its value; the options' words, an option that is not known and one that has no value, each
-// 0 where there is none.
+// 0 where there is none; where --csv stands, 0 where it does not.
 struct Parsed {
     at: usize,
     plain: usize,
@@ -72,6 +76,7 @@ struct Parsed {
     cards: usize,
     station: usize,
     unit: usize,
+    csv: usize,
     help: bool,
     unknown: usize,
     missing: usize,
@@ -79,6 +84,7 @@ struct Parsed {
 
 // The commands.
 enum Command {
+    Year,
     Month,
     Day,
     Heights,
@@ -159,6 +165,9 @@ fn kind_of(word: &[u8]) -> Kind {
 
 // What an option without a value is.
 fn other_option(word: &[u8]) -> Kind {
+    if texts::same(word, b"--csv") {
+        return Kind::Csv;
+    }
     if texts::same(word, b"--help") {
         return Kind::Help;
     }
@@ -213,6 +222,7 @@ fn nothing() -> Parsed {
         cards: 0,
         station: 0,
         unit: 0,
+        csv: 0,
         help: false,
         unknown: 0,
         missing: 0,
@@ -258,6 +268,9 @@ fn with_value(parsed: Parsed, kind: Kind, value: usize) -> Parsed {
         Kind::Unit => {
             next.unit = value;
         }
+        Kind::Csv => {
+            next.csv = parsed.at;
+        }
         Kind::Help => {
             next.help = true;
         }
@@ -281,6 +294,7 @@ fn has_value(kind: Kind) -> bool {
         Kind::Cards => true,
         Kind::Station => true,
         Kind::Unit => true,
+        Kind::Csv => false,
         Kind::Help => false,
         Kind::Unknown => false,
         Kind::Plain => false,
@@ -293,6 +307,7 @@ fn is_plain(kind: Kind) -> bool {
         Kind::Cards => false,
         Kind::Station => false,
         Kind::Unit => false,
+        Kind::Csv => false,
         Kind::Help => false,
         Kind::Unknown => false,
         Kind::Plain => true,
@@ -333,6 +348,9 @@ fn all_words(words: &[u8]) -> Parsed {
 
 // The command that a word names.
 fn command_of(word: &[u8]) -> Command {
+    if texts::same(word, b"year") {
+        return Command::Year;
+    }
     if texts::same(word, b"month") {
         return Command::Month;
     }
@@ -359,10 +377,15 @@ fn other_command(word: &[u8]) -> Command {
     Command::NoCommand
 }
 
-// month YEAR MONTH; day YEAR MONTH DAY [HH:MM]; heights YEAR MONTH [STEP]; series YEAR MONTH DAY HH:MM STEP COUNT; svg YEAR MONTH [DAY];
-// refusals
+// year YEAR; month YEAR MONTH; day YEAR MONTH DAY [HH:MM]; heights YEAR MONTH [STEP]; series YEAR MONTH DAY HH:MM STEP COUNT;
+// svg YEAR [MONTH [DAY]]; refusals
 fn form_of(command: Command) -> Form {
     match command {
+        Command::Year => Form {
+            least: 2,
+            most: 2,
+            time: 0,
+        },
         Command::Month => Form {
             least: 3,
             most: 3,
@@ -384,7 +407,7 @@ fn form_of(command: Command) -> Form {
             time: 4,
         },
         Command::Svg => Form {
-            least: 3,
+            least: 2,
             most: 4,
             time: 0,
         },
@@ -467,10 +490,13 @@ fn day_of(day: usize, v: [u32; 8]) -> Asked
     Asked::Day(v[1], v[2], v[3], v[4])
 }
 
-// A drawing's, of a month or with a fourth word of a day.
+// A drawing's, of a year, with a third word of a month, or with a fourth of a day.
 fn drawing_of(plain: usize, day: usize, v: [u32; 8]) -> Asked
     ensures { λ r. ⌜ DayAsked r ⌝ }
 {
+    if plain < 3 {
+        return Asked::YearDrawing(v[1]);
+    }
     if plain < 4 {
         return Asked::MonthDrawing(v[1], v[2]);
     }
@@ -495,6 +521,7 @@ fn with_numbers(command: Command, plain: usize, start: usize, day: usize, v: [u3
     ensures { λ r. ⌜ DayAsked r ⌝ }
 {
     match command {
+        Command::Year => Asked::Year(v[1]),
         Command::Month => Asked::Month(v[1], v[2]),
         Command::Day => day_of(day, v),
         Command::Heights => heights_of(plain, v),
@@ -523,6 +550,21 @@ fn with_words(
     }
 }
 
+// What is asked with --csv, which stands at a byte: the year's turns as rows. With any other view it is one word too many.
+fn as_table(asked: Asked, csv: usize) -> Asked
+    requires { ⌜ DayAsked asked ⌝ }
+    ensures { λ r. ⌜ DayAsked r ⌝ }
+{
+    if csv == 0 {
+        return asked;
+    }
+    match asked {
+        Asked::Year(year) => Asked::YearTable(year),
+        Asked::Wrong(wrong, start) => Asked::Wrong(wrong, start),
+        _ => Asked::Wrong(Wrong::TooMany, csv),
+    }
+}
+
 // What the words ask.
 fn asked_by(words: &[u8], parsed: Parsed) -> Asked
     ensures { λ r. ⌜ DayAsked r ⌝ }
@@ -544,7 +586,8 @@ fn asked_by(words: &[u8], parsed: Parsed) -> Asked
     let values = parsed.values;
     let first = starts[0];
     let command = command_of(word(words, first));
-    with_words(command, parsed.plain, starts, kinds, values)
+    let asked = with_words(command, parsed.plain, starts, kinds, values);
+    as_table(asked, parsed.csv)
 }
 
 // A place, or another where it is 0.

@@ -13,13 +13,16 @@ fn commands() {
         b"Heights of the tide, high and low waters, from constituent cards. Years 1950 to 2049.\n",
     );
     line(b"  cuvalimodo month YEAR MONTH                a line a day: high and low waters");
+    line(b"  cuvalimodo year YEAR [--csv]               the same for a year, by months; or as CSV");
     line(b"  cuvalimodo day YEAR MONTH DAY [HH:MM]      next high and low water, the day's curve");
     line(
         b"  cuvalimodo heights YEAR MONTH [STEP]       CSV: the whole month, STEP minutes apart (60)",
     );
     line(b"  cuvalimodo series YEAR MONTH DAY HH:MM STEP COUNT");
     line(b"                                             CSV: COUNT heights, STEP minutes apart");
-    line(b"  cuvalimodo svg YEAR MONTH [DAY]            a drawing of the month or the day");
+    line(
+        b"  cuvalimodo svg YEAR [MONTH [DAY]]          a drawing of the year, the month or the day",
+    );
     line(b"  cuvalimodo refusals                        the numbers of the refusals\n");
 }
 

@@ -1,4 +1,4 @@
-// The tide clock of a berth on the command line: the month's and the day's high and low waters, heights for other programs, drawings.
+// The tide clock of a berth on the command line: the year's, the month's and the day's high and low waters, heights for other programs, drawings.
 //
 // It reads the two files, asks the clock, and writes. Every refusal is the library's, and is said in one line on standard error.
 mod help; // one screen
@@ -139,7 +139,7 @@ fn load(words: &[u8], at: usize, buffer: &mut [u8]) -> Loaded {
     }
 }
 
-// A date: a day of a month, or day 0 for the whole month.
+// A date: a day of a month, or day 0 for the whole month, month 0 for the whole year.
 fn date_of(year: u32, month: u32, day: u32) -> Date {
     Date { year, month, day }
 }
@@ -153,9 +153,24 @@ fn asked_date(asked: Asked) -> Date {
         Asked::Series(year, month, day, _, _, _) => date_of(year, month, day),
         Asked::MonthDrawing(year, month) => date_of(year, month, 0),
         Asked::DayDrawing(year, month, day) => date_of(year, month, day),
+        Asked::Year(year) => date_of(year, 0, 0),
+        Asked::YearTable(year) => date_of(year, 0, 0),
+        Asked::YearDrawing(year) => date_of(year, 0, 0),
         Asked::Help => date_of(0, 0, 0),
         Asked::Refusals => date_of(0, 0, 0),
         Asked::Wrong(_, _) => date_of(0, 0, 0),
+    }
+}
+
+// What is asked of a year, of a clock with a station, or the clock's refusal; nothing is refused of any other.
+fn show_year(clock: Clock, face: Face, date: Date, asked: Asked) -> Answer
+    requires { ⌜ Made clock ⌝ }
+{
+    match asked {
+        Asked::Year(_) => views::year(clock, face, date),
+        Asked::YearTable(_) => views::year_table(clock, face, date),
+        Asked::YearDrawing(_) => drawing::year(clock, face, date),
+        _ => Answer::Accepted,
     }
 }
 
@@ -172,9 +187,7 @@ fn show(clock: Clock, face: Face, date: Date, asked: Asked)
         }
         Asked::MonthDrawing(_, _) => drawing::month(clock, face, date),
         Asked::DayDrawing(_, _, _) => drawing::day(clock, face, date),
-        Asked::Help => {}
-        Asked::Refusals => {}
-        Asked::Wrong(_, _) => {}
+        _ => {}
     }
 }
 
@@ -191,6 +204,18 @@ fn say_date(path: &[u8], date: Date, refusal: Refusal, place: usize) {
     messages::refused_month(date.month, refusal)
 }
 
+// Shows what is asked of a year, of a clock with table and station, or says the refusal: at a record of the station file, or of the year.
+fn with_year(clock: Clock, face: Face, path: &[u8], asked: Asked)
+    requires { ⌜ Made clock ⌝ }
+{
+    let date = asked_date(asked);
+    let answer = show_year(clock, face, date, asked);
+    match answer {
+        Answer::Accepted => {}
+        Answer::Refused(refusal, place) => say_date(path, date_of(date.year, 1, 0), refusal, place),
+    }
+}
+
 // Sets the date that is asked for, of a clock with table and station, and shows what is asked.
 fn with_date(clock: Clock, face: Face, path: &[u8], asked: Asked)
     requires { ⌜ Made clock ⌝ }
@@ -201,6 +226,18 @@ fn with_date(clock: Clock, face: Face, path: &[u8], asked: Asked)
     match answer {
         Answer::Accepted => show(after.clock, face, date, asked),
         Answer::Refused(refusal, place) => say_date(path, date, refusal, place),
+    }
+}
+
+// Shows what is asked, of a clock with table and station.
+fn with_asked(clock: Clock, face: Face, path: &[u8], asked: Asked)
+    requires { ⌜ Made clock ⌝ }
+{
+    match asked {
+        Asked::Year(_) => with_year(clock, face, path, asked),
+        Asked::YearTable(_) => with_year(clock, face, path, asked),
+        Asked::YearDrawing(_) => with_year(clock, face, path, asked),
+        _ => with_date(clock, face, path, asked),
     }
 }
 
@@ -241,7 +278,7 @@ fn with_clock(after: After, rows: Rows, face: Face, path: &[u8], asked: Asked)
 {
     let answer = after.answer;
     match answer {
-        Answer::Accepted => with_date(after.clock, face, path, asked),
+        Answer::Accepted => with_asked(after.clock, face, path, asked),
         Answer::Refused(refusal, place) => say_station(path, rows, refusal, place),
     }
 }
@@ -348,12 +385,7 @@ fn run(words: &[u8]) {
         Asked::Help => help::write_help(),
         Asked::Refusals => messages::list_refusals(),
         Asked::Wrong(wrong, at) => messages::wrong_word(commandline::word(words, at), wrong),
-        Asked::Month(_, _) => with_files(words, request),
-        Asked::Day(_, _, _, _) => with_files(words, request),
-        Asked::Heights(_, _, _) => with_files(words, request),
-        Asked::Series(_, _, _, _, _, _) => with_files(words, request),
-        Asked::MonthDrawing(_, _) => with_files(words, request),
-        Asked::DayDrawing(_, _, _) => with_files(words, request),
+        _ => with_files(words, request),
     }
 }
 

@@ -1,4 +1,4 @@
-// Drawings of the clock's month, as SVG on standard output.
+// Drawings of the clock's month, and of a year, as SVG on standard output.
 //
 // Heights and turns are the clock's; crate drawing_picture gives them places. What the clock refuses is said, and nothing is drawn.
 ghost use Prim.Native.Nat.{_<_};
@@ -6,15 +6,20 @@ ghost use lib.ListN.{length};
 ghost use mathlib.Core.Path.{_≡_};
 ghost use Rattle.clock.specs.View.{Made};
 use clock::Clock;
+use clock::TurnsAnswer;
 use digits::dates;
 use drawing_picture::picture;
 use drawing_picture::title;
+use drawing_picture::yearband;
+use drawing_plots::bands;
 use drawing_plots::plots;
+use monthturns::yearturns;
 use page::face::Face;
 use page::shown;
 use page::shown::Date;
 use page::shown::Turns;
 use refusals::Answer;
+use swings::months;
 
 // Room for a day's heights, five minutes apart. (Each a function's result, so that its length is known as a fact.)
 fn day_places() -> [i64; 289]
@@ -30,16 +35,34 @@ fn month_places() -> [i64; 2233]
     [0; 2233]
 }
 
+// Room for a year's heights, an hour apart: of twelve months of 31 days, both ends.
+fn year_places() -> [i64; 8929]
+    ensures { λ r. ⌜ 8929 ≡ length r ⌝ }
+{
+    [0; 8929]
+}
+
 // Begins a drawing of a height: its head.
 fn begin(page: &mut [u8], face: Face, date: Date, height: u64) -> usize {
     let next = title::put_start(page, 0, height);
     title::put_head(page, next, face, date)
 }
 
-// Ends a drawing with its foot so far down, and writes it out.
-fn end(page: &mut [u8], at: usize, top: u64, face: Face) {
-    let next = title::put_foot(page, at, top, face.ground);
+// Ends a drawing with its foot so far down, which says how it is read, and writes it out.
+fn end(page: &mut [u8], at: usize, top: u64, key: &[u8], face: Face) {
+    let next = title::put_foot(page, at, top, key, face.ground);
     output::flush(page, next);
+}
+
+// Ends a drawing of turns.
+fn end_turns(page: &mut [u8], at: usize, top: u64, face: Face) {
+    end(
+        page,
+        at,
+        top,
+        b"full marks: high water; open marks: low water",
+        face,
+    )
 }
 
 // How many days the month of a date has.
@@ -52,7 +75,7 @@ fn write_day(face: Face, date: Date, heights: &[i64], turns: Turns) {
     let mut page = io::buffer();
     let a = begin(&mut page, face, date, 5_760);
     let b = picture::put_day(&mut page, a, date, days_of(date), heights, turns);
-    end(&mut page, b, 5_450, face);
+    end_turns(&mut page, b, 5_450, face);
 }
 
 // Where the foot of a month's drawing stands.
@@ -68,7 +91,7 @@ fn write_month(face: Face, date: Date, heights: &[i64], turns: Turns) {
     let foot = month_foot(date);
     let a = begin(&mut page, face, date, foot + 310);
     let b = picture::put_month(&mut page, a, plots::few(days_of(date)), heights, turns);
-    end(&mut page, b, foot, face);
+    end_turns(&mut page, b, foot, face);
 }
 
 // The drawing of a day whose heights are there.
@@ -116,7 +139,7 @@ fn month_curve(clock: Clock, face: Face, date: Date, turns: Turns)
     let count = plots::month_count(days_of(date));
     let answer = month_heights(clock, count, &mut places);
     match answer {
-        Answer::Accepted => write_month(face, date, picture::first_heights(&places, count), turns),
+        Answer::Accepted => write_month(face, date, bands::part(&places, 0, count), turns),
         Answer::Refused(refusal, _) => messages::refused_month(date.month, refusal),
     }
 }
@@ -130,5 +153,51 @@ pub fn month(clock: Clock, face: Face, date: Date)
     match answer {
         Answer::Accepted => month_curve(clock, face, date, found.turns),
         Answer::Refused(refusal, _) => messages::refused_month(date.month, refusal),
+    }
+}
+
+// How many heights a year has, an hour apart, both ends among them.
+fn hours_of(date: Date) -> usize
+    ensures { λ r. ⌜ r ≤ 8_929 ⌝ }
+{
+    months::days_before(date.year, 13) as usize * 24 + 1
+}
+
+// Writes the drawing of a year from its hourly heights and its turns.
+fn write_year<'a>(face: Face, date: Date, hourly: &'a [i64], minutes: &'a [u32], turns: &'a [i64]) {
+    let mut page = io::buffer();
+    let a = begin(&mut page, face, date, 5_480);
+    let b = yearband::put_year(&mut page, a, date.year, hourly, minutes, turns);
+    end(
+        &mut page,
+        b,
+        5_150,
+        b"each day from its lowest to its highest water; marks: each month's highest and lowest, with the day",
+        face,
+    );
+}
+
+// svg YEAR: a drawing of a year of a clock that has a station, or the clock's refusal.
+pub fn year(clock: Clock, face: Face, date: Date) -> Answer
+    requires { ⌜ Made clock ⌝ }
+{
+    let mut places = year_places();
+    let mut minutes = shown::minute_places();
+    let mut heights = shown::height_places();
+    let n = hours_of(date);
+    let hourly = &mut places[..n];
+    let answer = yearturns::turns_of(clock, date.year, 60, hourly, &mut minutes, &mut heights);
+    match answer {
+        TurnsAnswer::Turns(count, _) => {
+            write_year(
+                face,
+                date,
+                bands::part(&places, 0, n),
+                &minutes,
+                bands::part(&heights, 0, count),
+            );
+            Answer::Accepted
+        }
+        TurnsAnswer::Refused(refusal, place) => Answer::Refused(refusal, place),
     }
 }

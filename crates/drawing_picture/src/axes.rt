@@ -30,7 +30,7 @@ pub fn put_frame(page: &mut [u8], at: usize, plot: Plot) -> usize
 }
 
 // Puts an upright line at a minute, from one place down to another.
-fn put_column(page: &mut [u8], at: usize, plot: Plot, minute: u32, from: u32, to: u32) -> usize
+pub fn put_column(page: &mut [u8], at: usize, plot: Plot, minute: u32, from: u32, to: u32) -> usize
     ensures { λ r. ⌜ r ≤ length (now (page .entry)) ⌝ }
 {
     let x = scale::across(plot, minute) as u64;

@@ -1,4 +1,4 @@
-// A high or low water on a plot: the mark on the curve, and the label with time and height in a lane above or below.
+// A high or low water on a plot: the mark on the curve, and the label with time or day and height in a lane above or below.
 ghost use Prim.Native.Nat.{_≤_};
 ghost use lib.ListN.{length};
 use drawing_plots::sizes;
@@ -76,4 +76,33 @@ pub fn put_mark(
         return next;
     }
     put_label(page, next, spot, sizes::line(text) as u64, minute, height)
+}
+
+// Puts the mark of a turn on a day of its month, and its label where it got a lane: the day, and the height under it.
+pub fn put_day_mark(
+    page: &mut [u8],
+    at: usize,
+    spot: Spot,
+    text: u16,
+    day: u32,
+    height: i64,
+    high: bool,
+) -> usize
+    ensures { λ r. ⌜ r ≤ length (now (page .entry)) ⌝ }
+{
+    let next = put_dot(page, at, spot, text as u64 / 3, high);
+    let placed = spot.placed;
+    if 1 < placed.lane {
+        return next;
+    }
+    let start = svg::put_form(
+        page,
+        next,
+        b"<text x=\"@\" y=\"$\">~",
+        spot.middle,
+        spot.down,
+        day as u64,
+        0,
+    );
+    put_second(page, start, spot.middle, sizes::line(text) as u64, height)
 }

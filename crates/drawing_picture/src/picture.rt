@@ -1,10 +1,10 @@
 // Pictures of heights and turns as SVG: a day, and a month in rows of a week.
-ghost use mathlib.Core.Path.{_≡_};
 ghost use Prim.Native.Nat.{_<_, _≤_};
-ghost use lib.ListN.{length, take};
+ghost use lib.ListN.{length};
 use crate::axes;
 use crate::levels;
 use crate::marks;
+use drawing_plots::bands;
 use drawing_plots::plots;
 use drawing_plots::scale;
 use drawing_plots::scale::Plot;
@@ -59,20 +59,10 @@ fn put_week(page: &mut [u8], at: usize, plot: Plot, heights: &[i64], turns: Turn
     marks::put_marks(page, c, plot, turns)
 }
 
-// The first so many heights, or all.
-pub fn first_heights(heights: &[i64], count: usize) -> &[i64]
-    ensures { λ r. ⌜ now r ≡ take count (now (heights .entry)) ⌝ }
-{
-    if count < heights.len() {
-        return &heights[..count];
-    }
-    heights
-}
-
 // The lines of a month, which hold its heights and its turns.
 fn month_lines(heights: &[i64], turns: Turns) -> Scale {
     let curve = scale::extended(scale::no_heights(), heights);
-    let all = scale::extended(curve, first_heights(&turns.heights, turns.count));
+    let all = scale::extended(curve, bands::part(&turns.heights, 0, turns.count));
     scale::scale_of(all, 5)
 }
 

@@ -43,27 +43,27 @@ fn put_day(page: &mut [u8], at: usize, day: u32) -> usize {
     svg::put_form(page, at, b"@ ", day as u64, 0, 0, 0)
 }
 
-// Puts a form with a number, and the day, where it is not 0, and the month behind it.
+// Puts a form with a number, and behind it the day, where it is not 0, the month, where it is not 0, and the year.
 fn put_dated(page: &mut [u8], at: usize, form: &[u8], a: u64, date: Date) -> usize {
     let next = svg::put_form(page, at, form, a, 0, 0, 0);
     let day = put_day(page, next, date.day);
-    face::put_month_name(page, day, date.month)
+    face::put_month(page, day, date)
 }
 
-// Puts the title that a reader of the file sees, up to its year: the station and when.
+// Puts the title that a reader of the file sees: the station and when.
 fn put_title(page: &mut [u8], at: usize, name: &[u8], date: Date) -> usize {
     let next = put_lead(page, at, b"<title>", 0, 0, name);
     put_dated(page, next, b", ", 0, date)
 }
 
-// Puts the title's year, and the station's name, large.
-fn put_name(page: &mut [u8], at: usize, name: &[u8], year: u32) -> usize {
+// Puts the title's end, and the station's name, large.
+fn put_name(page: &mut [u8], at: usize, name: &[u8]) -> usize {
     put_lead(
         page,
         at,
-        b" @</title>\n<text x=\"$\" y=\"400\" font-size=\"260\" font-weight=\"bold\">",
-        year as u64,
+        b"</title>\n<text x=\"@\" y=\"400\" font-size=\"260\" font-weight=\"bold\">",
         LEFT,
+        0,
         name,
     )
 }
@@ -77,7 +77,7 @@ fn put_date(page: &mut [u8], at: usize, date: Date) -> usize {
         LEFT,
         date,
     );
-    svg::put_form(page, next, b" @; times ", date.year as u64, 0, 0, 0)
+    svg::put_plain(page, next, b"; times ")
 }
 
 // Puts what the times are: GMT, or the station file's own zone.
@@ -102,25 +102,25 @@ pub fn put_head(page: &mut [u8], at: usize, face: Face, date: Date) -> usize
     ensures { λ r. ⌜ r ≤ length (now (page .entry)) ⌝ }
 {
     let a = put_title(page, at, face::trimmed(&face.name), date);
-    let b = put_name(page, a, face::trimmed(&face.name), date.year);
+    let b = put_name(page, a, face::trimmed(&face.name));
     let c = put_date(page, b, date);
     let d = put_zone(page, c, &face.zone);
     put_unit(page, d, face::first(&face.unit, face.unit_bytes))
 }
 
-// Puts what the marks are, what the drawing stands on, and its end.
-pub fn put_foot(page: &mut [u8], at: usize, top: u64, ground: Ground) -> usize
+// Puts how the drawing is read, what it stands on, and its end.
+pub fn put_foot(page: &mut [u8], at: usize, top: u64, key: &[u8], ground: Ground) -> usize
     ensures { λ r. ⌜ r ≤ length (now (page .entry)) ⌝ }
 {
-    let a = svg::put_form(
+    let a = put_lead(
         page,
         at,
-        b"<text x=\"@\" y=\"$\" font-size=\"115\" fill=\"#444\">full marks: high water; open marks: low water<tspan x=\"@\" dy=\"170\">",
+        b"<text x=\"@\" y=\"$\" font-size=\"115\" fill=\"#444\">",
         LEFT,
         top,
-        0,
-        0,
+        key,
     );
-    let b = face::put_ground(page, a, ground);
-    svg::put_plain(page, b, b"</tspan></text>\n</svg>\n")
+    let b = svg::put_form(page, a, b"<tspan x=\"@\" dy=\"170\">", LEFT, 0, 0, 0);
+    let c = face::put_ground(page, b, ground);
+    svg::put_plain(page, c, b"</tspan></text>\n</svg>\n")
 }

@@ -5,3 +5,4 @@ pub mod Lanes
 pub mod Sizes
 pub mod Spots
 pub mod Plots
+pub mod Bands

@@ -66,3 +66,20 @@ weekPlot lines days week =
 -- where the foot of a month's drawing stands: under its four weeks, and its fifth where it has more than 28 days
 abbrev pub monthFoot : ℕ → ℕ
 monthFoot days = 1_480 + (4 + min (days - 28) 1) * 2_270 - 260
+
+-- A year's plot: 24 to a day, 2,600 deep. Hours are counted across it in place of minutes.
+abbrev pub yearPlot : Scale → ℕ → Plot
+yearPlot lines days =
+    record {
+      left = 700;
+      width = days * 24;
+      top = 1_480;
+      depth = 2_600;
+      minutes = days * 24;
+      low = lines .low;
+      span = lines .high - lines .low;
+      step = lines .step;
+      text = 88;
+      first = 0;
+      last = days * 24;
+    }

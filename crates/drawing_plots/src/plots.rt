@@ -1,10 +1,10 @@
-// Where the plots of a drawing stand, and which minutes of the month are theirs: a day has one plot, a month one for each week.
+// Where the plots of a drawing stand, and which minutes of the month are theirs: a day has one plot, a month one for each week, a year one of its hours.
 //
 // Ten units of a drawing make a pixel.
 ghost use mathlib.Core.Path.{_≡_};
 ghost use Prim.Native.Nat.{_-_, _<_, _≤_, min};
 ghost use Rattle.limits.specs.Limits.{mostMinutes};
-ghost use Rattle.drawing_plots.specs.Plots.{afterDays, dayFirst, dayLast, monthCount, dayPlot, weekDays, weekLast, weekPlot, monthFoot};
+ghost use Rattle.drawing_plots.specs.Plots.{afterDays, dayFirst, dayLast, monthCount, dayPlot, weekDays, weekLast, weekPlot, monthFoot, yearPlot};
 use crate::scale;
 use crate::scale::Plot;
 use crate::scale::Scale;
@@ -132,4 +132,25 @@ pub fn month_foot(days: u16) -> u32
     ensures small { λ r. ⌜ r < 20_000 ⌝ }
 {
     if 28 < days { 12_570 } else { 10_300 }
+}
+
+// The plot of a year of so many days, whose hours are counted across it in place of minutes.
+pub fn year_plot(lines: Scale, days: u16) -> Plot
+    requires { ⌜ days ≤ 372 ⌝ }
+    ensures { λ r. ⌜ r ≡ yearPlot lines days ⌝ }
+{
+    let hours = days * 24;
+    Plot {
+        left: LEFT,
+        width: hours,
+        top: 1_480,
+        depth: 2_600,
+        minutes: hours,
+        low: lines.low,
+        span: span(lines),
+        step: lines.step,
+        text: 88,
+        first: 0,
+        last: hours as u32,
+    }
 }

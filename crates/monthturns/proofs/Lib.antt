@@ -1,2 +1,3 @@
 pub mod Kept
 pub mod Month
+pub mod Year

@@ -1,2 +1,3 @@
 pub mod Month
+pub mod Year
 pub mod inner

@@ -1,4 +1,4 @@
-// The turns of a whole month, for sheets and drawings.
+// The turns of a whole month, and of a whole year, for sheets and drawings.
 //
 // 01's search ends where a stride would pass the last minute asked. From the month's first minute on it so leaves out a turn in what is left
 // of the month behind its last whole stride, and a sheet without that turn would name a later one as the next. Searches over the month's last
@@ -7,8 +7,12 @@ ghost use Prim.Native.Nat.{_+_, _≤_};
 ghost use Rattle.clock.specs.View.{Made};
 ghost use Rattle.monthturns.specs.inner.Kept.{Kept};
 ghost use Rattle.monthturns.specs.Month.{MonthTurns, FoundTurns};
+
+pub mod yearturns; // the turns of a year
+
 use clock::Clock;
 use clock::TurnsAnswer;
+use page::shown::Known;
 use page::shown::TURNS;
 use page::shown::Turns;
 use refusals::Answer;
@@ -25,12 +29,6 @@ struct Turn {
 pub struct Found {
     pub answer: Answer,
     pub turns: Turns,
-}
-
-// How many turns stand in the lent buffers, and whether the first is high.
-struct Known {
-    count: usize,
-    first: bool,
 }
 
 // No turn.
@@ -56,18 +54,28 @@ fn last_of<'a>(count: usize, first: bool, minutes: &'a [u32], heights: &'a [i64]
     }
 }
 
+// The last turn of a search; none where it is refused.
+fn last_found<'a>(answer: TurnsAnswer, minutes: &'a [u32], heights: &'a [i64]) -> Turn {
+    match answer {
+        TurnsAnswer::Turns(count, first) => last_of(count, first, minutes, heights),
+        TurnsAnswer::Refused(_, _) => no_turn(),
+    }
+}
+
+// The minute from which on so many minutes are left up to the last; the first where there are not so many.
+fn end_from(last: u32, width: u32) -> u32 {
+    if width < last { last - width } else { 0 }
+}
+
 // The last turn of a search over the month's last minutes, as many as a width.
 fn turn_at_end(clock: Clock, last: u32, width: u32) -> Turn
     requires { ⌜ Made clock ⌝ }
 {
     let mut minutes = [0u32; 16];
     let mut heights = [0i64; 16];
-    let from = if width < last { last - width } else { 0 };
+    let from = end_from(last, width);
     let answer = clock::turns(clock, from, last, &mut minutes, &mut heights);
-    match answer {
-        TurnsAnswer::Turns(count, first) => last_of(count, first, &minutes, &heights),
-        TurnsAnswer::Refused(_, _) => no_turn(),
-    }
+    last_found(answer, &minutes, &heights)
 }
 
 // Whether a turn may follow another: it is later, and high where that is low.

@@ -80,10 +80,13 @@ pub fn put_month_name(page: &mut [u8], at: usize, month: u32) -> usize
     output::put_bytes(page, at, word)
 }
 
-// Puts a month and its year, as July 1976.
+// Puts a month and its year, as July 1976; the year alone where the whole year is meant.
 pub fn put_month(page: &mut [u8], at: usize, date: Date) -> usize
     ensures { λ r. ⌜ r ≤ length (now (page .entry)) ⌝ }
 {
+    if date.month == 0 {
+        return output::put_number(page, at, date.year as u64);
+    }
     let name = put_month_name(page, at, date.month);
     let blank = output::put(page, name, 32);
     output::put_number(page, blank, date.year as u64)
@@ -97,7 +100,7 @@ pub fn put_name(page: &mut [u8], at: usize, face: Face) -> usize
     output::put_bytes(page, next, b", ")
 }
 
-// Puts a station's name and the month, on a line.
+// Puts a station's name and the month or the year, on a line.
 pub fn put_title(page: &mut [u8], at: usize, face: Face, date: Date) -> usize
     ensures { λ r. ⌜ r ≤ length (now (page .entry)) ⌝ }
 {

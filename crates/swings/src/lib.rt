@@ -2,6 +2,9 @@
 ghost use mathlib.Core.Path.{_≡_};
 ghost use Prim.Native.Nat.{_+_, _-_, _≤_, max};
 ghost use Rattle.swings.specs.Swings.{apart, swing, largestSwing, barLength, isHigh, turnFrom, dayEnd};
+
+pub mod months; // a year's turns by months
+
 use drawing_plots::scale;
 
 // How far two heights lie apart.

@@ -1,8 +1,11 @@
-// The sheets of the month that a clock has prepared, written on standard output, or the clock's refusal, said.
+// The sheets of the month that a clock has prepared, written on standard output, or the clock's refusal, said; and those of a year.
 mod tabulated; // heights for other programs
+mod yearly; // the year's sheet, and its turns for other programs
 
 pub use tabulated::heights;
 pub use tabulated::series;
+pub use yearly::year;
+pub use yearly::year_table;
 ghost use Rattle.clock.specs.View.{Made};
 use clock::Clock;
 use clock::HeightAnswer;

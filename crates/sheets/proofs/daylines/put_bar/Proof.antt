@@ -1,10 +1,10 @@
--- `sheets::monthsheet::put_bar` is safe and ends: ten columns are put. Assumes nothing.
+-- `sheets::daylines::put_bar` is safe and ends: ten columns are put. Assumes nothing.
 use borrow.Author.Needs.{needs}
 use Prim.Native.Nat.{_≤_, _-_}
 use mathlib.Core.Path.{_≡_}
 use lib.ListN.{length}
-use Rattle.sheets.proofs.monthsheet.put_bar.Statement.{statement}
-use Rattle.sheets.proofs.monthsheet.put_bar.Tie as tie
+use Rattle.sheets.proofs.daylines.put_bar.Statement.{statement}
+use Rattle.sheets.proofs.daylines.put_bar.Tie as tie
 
 abbrev Inv-loop : tie.InvT-loop
 Inv-loop page₀ at filled next₀ k₀ page next k = (length page ≡ length page₀) × (k ≤ 10)

@@ -1,16 +1,16 @@
--- `sheets::monthsheet::put_turns` is safe and ends: the page keeps its length, and the turns left fall. Assumes nothing.
+-- `sheets::daylines::put_turns` is safe and ends: the page keeps its length, and the turns left fall. Assumes nothing.
 use borrow.Author.Needs.{needs}
 use mathlib.Core.Path.{_≡_}
 use lib.ListN.{length}
 use Prim.Native.Nat.{_-_}
-use Rattle.sheets.proofs.monthsheet.put_turns.Statement.{statement}
-use Rattle.sheets.proofs.monthsheet.put_turns.Tie as tie
+use Rattle.sheets.proofs.daylines.put_turns.Statement.{statement}
+use Rattle.sheets.proofs.daylines.put_turns.Tie as tie
 
 abbrev Inv-loop : tie.InvT-loop
-Inv-loop page₀ at day from to turns next₀ i₀ page next i = length page ≡ length page₀
+Inv-loop page₀ at line first minutes heights next₀ i₀ page next i = length page ≡ length page₀
 
 abbrev μ-loop : tie.MeasureT-loop
-μ-loop page₀ at day from to turns next₀ i₀ page next i = to - i
+μ-loop page₀ at line first minutes heights next₀ i₀ page next i = line .to - i
 
 loop-holds : tie.Need-loop-holds Inv-loop μ-loop
 loop-holds c = search needs

@@ -1,20 +1,17 @@
--- `sheets::monthsheet::put_days` meets its contract: the next place stays on the page, and the days left fall at each turn. Assumes nothing.
+-- `sheets::daylines::put_days` meets its contract: the next place stays on the page, and the days left fall at each turn. Assumes nothing.
 use borrow.Author.Needs.{needs}
 use Prim.Native.Nat.{_≤_}
 use mathlib.Core.Path.{_≡_}
 use lib.ListN.{length}
-use Rattle.sheets.proofs.monthsheet.put_days.Statement.{statement}
-use Rattle.sheets.proofs.monthsheet.put_days.Tie as tie
+use Rattle.sheets.proofs.daylines.put_days.Statement.{statement}
+use Rattle.sheets.proofs.daylines.put_days.Tie as tie
 
 abbrev Inv-loop : tie.InvT-loop
-Inv-loop page₀ at days turns largest next₀ from₀ left₀ page next from left =
-    (length page ≡ length page₀) × (left ≤ days) × (next ≤ length page₀)
+Inv-loop page₀ at days known largest minutes heights next₀ from₀ left₀ page next from left =
+    (length page ≡ length page₀) × (left ≤ days .days) × (next ≤ length page₀)
 
 abbrev μ-loop : tie.MeasureT-loop
-μ-loop page₀ at days turns largest next₀ from₀ left₀ page next from left = left
-
-largest-swing-requires : tie.Need-largest-swing-requires Inv-loop μ-loop
-largest-swing-requires c κs = search needs
+μ-loop page₀ at days known largest minutes heights next₀ from₀ left₀ page next from left = left
 
 on-page-requires : tie.Need-on-page-requires Inv-loop μ-loop
 on-page-requires c κs = search needs
@@ -22,11 +19,14 @@ on-page-requires c κs = search needs
 loop-holds : tie.Need-loop-holds Inv-loop μ-loop
 loop-holds c = search needs
 
-sub-day : tie.Need-sub-day Inv-loop μ-loop
-sub-day c = search needs
+sub-number : tie.Need-sub-number Inv-loop μ-loop
+sub-number c = search needs
 
-add-day : tie.Need-add-day Inv-loop μ-loop
-add-day c = search needs
+add-number : tie.Need-add-number Inv-loop μ-loop
+add-number c = search needs
+
+wrapping-add-u32-requires : tie.Need-wrapping-add-u32-requires Inv-loop μ-loop
+wrapping-add-u32-requires c κs = search needs
 
 day-end-requires : tie.Need-day-end-requires Inv-loop μ-loop
 day-end-requires c κs = search needs
@@ -55,11 +55,11 @@ put-days-spec =
     (tie.spec
     Inv-loop
     μ-loop
-    largest-swing-requires
     on-page-requires
     loop-holds
-    sub-day
-    add-day
+    sub-number
+    add-number
+    wrapping-add-u32-requires
     day-end-requires
     put-day-requires
     sub-left
