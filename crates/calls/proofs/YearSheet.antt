@@ -22,7 +22,7 @@ use Rattle.turns.specs.Strides.{stationStride}
 use Rattle.turns.specs.Written.{TurnsFound, TurnsGiven, unlessRefused, fromFront, tooMany, given}
 use Rattle.calls.specs.State.{Maybe, some, State}
 use Rattle.calls.specs.Year.{sheetOutside, sheetAsked, YearGiven, unlessTurnedDown, beside, sheetOver, yearGives}
-use Rattle.calls.specs.declared.sheets.Sheet.{Sheet}
+use Rattle.calls.specs.declared.annual.Sheet.{Sheet}
 use Rattle.calls.specs.inner.Flags.{stateOf, yearBy}
 use Rattle.calls.proofs.Posed.{no-place}
 

@@ -19,7 +19,7 @@ use Rattle.month_prepared.specs.Prepared.{Month}
 use Rattle.calls.specs.State.{State, some, none}
 use Rattle.calls.specs.Names.{namesIn}
 use Rattle.calls.specs.Calls.{cardsReturns, cardsLeaves, stationReturns, stationLeaves, dateGives, dateReturns, dateLeaves, heightReturns, seriesGives, turnsGives}
-use Rattle.calls.specs.declared.sheets.Sheet.{Sheet}
+use Rattle.calls.specs.declared.annual.Sheet.{Sheet}
 use Rattle.calls.specs.Year.{yearGives}
 use Rattle.turns.specs.Written.{TurnsFound}
 use Rattle.clock.specs.View.{view, Made}

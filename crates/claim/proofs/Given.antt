@@ -22,7 +22,7 @@ use Rattle.calls.specs.State as state
 use Rattle.calls.specs.State.{Maybe}
 use Rattle.calls.specs.Calls.{ready, turnsGives}
 use Rattle.calls.specs.Asked.{turnsOutside}
-use Rattle.calls.specs.declared.sheets.Sheet.{Sheet}
+use Rattle.calls.specs.declared.annual.Sheet.{Sheet}
 use Rattle.calls.specs.Year.{sheetOutside, sheetAsked, YearGiven, unlessTurnedDown, beside, sheetOver, yearGives}
 use Rattle.calls.proofs.Posed.{Asked, turns-of}
 use Rattle.claim.specs.Document.{monthsOn}

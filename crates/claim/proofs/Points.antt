@@ -21,7 +21,7 @@ use Rattle.turns.specs.Written.{TurnsGiven, fromFront}
 use Rattle.calls.specs.State.{Maybe}
 use Rattle.calls.specs.Calls.{heightReturns, seriesHeights, seriesGives, turnsGives}
 use Rattle.calls.specs.Asked.{minuteOutside, seriesOutside}
-use Rattle.calls.specs.declared.sheets.Sheet.{Sheet}
+use Rattle.calls.specs.declared.annual.Sheet.{Sheet}
 use Rattle.calls.specs.Year.{yearGives}
 use Rattle.calls.proofs.Posed.{height-of, series-of}
 use Rattle.claim.specs.Document.{Request, Cards, Station, Date, Height, Series, Turns, Year, Names, Last, workedOut, after, gives, givesAll, Point, heightPoints, pointsFrom, seriesPoints, pointsOf, turnsPoints, sheetPoints, points, preparedMonth, monthsOn, monthsFor, AllNear, nil, cons, EachNear, end, next}

@@ -9,7 +9,7 @@ use lib.IntN.{ℤ, pos}
 use lib.ListN.{length, getD}
 use Rattle.heights.specs.Exact.{Near, NearOver}
 use Rattle.refusals.specs.Outcome.{accepted}
-use Rattle.calls.specs.declared.sheets.Sheet.{Sheet}
+use Rattle.calls.specs.declared.annual.Sheet.{Sheet}
 use Rattle.clock.specs.declared.Clock.{Clock}
 use Rattle.claim.specs.Document.{Request, Height, Series, Turns, Year, Gave, predicted, wrote, found, filled, Last, nothing, lastConstituents, lastYear, givesAll, lastAfter, EachNear}
 use Rattle.claim.specs.Calls.{New, Calls}

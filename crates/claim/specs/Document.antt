@@ -18,7 +18,7 @@ use Rattle.calls.specs.State.{Maybe, none, some, State}
 use Rattle.calls.specs.Names.{namesIn}
 use Rattle.turns.specs.Written.{TurnsFound, TurnsGiven}
 use Rattle.calls.specs.Calls.{cardsReturns, stationReturns, dateGives, dateReturns, heightReturns, SeriesGiven, seriesGives, turnsGives}
-use Rattle.calls.specs.declared.sheets.Sheet.{Sheet}
+use Rattle.calls.specs.declared.annual.Sheet.{Sheet}
 use Rattle.calls.specs.Year.{yearAsked, YearGiven, yearGives}
 
 -- "The calls are a card file, a station, a date, a height, a series and turns", each with all that is lent to it; "A call that a change request

@@ -43,8 +43,8 @@ use Rattle.station.proofs.records.Record.Laws as RecordLaws
 use Rattle.station.proofs.records.Rows as RowsType
 use Rattle.station.proofs.records.Rows.Laws as RowsLaws
 use Rattle.station.specs.Records.{recordsFrom}
-use Rattle.calls.proofs.sheets.Sheet as SheetType
-use Rattle.calls.proofs.sheets.Sheet.Laws as SheetLaws
+use Rattle.calls.proofs.annual.Sheet as SheetType
+use Rattle.calls.proofs.annual.Sheet.Laws as SheetLaws
 use Rattle.clock.proofs.Clock as ClockType
 use Rattle.clock.proofs.Clock.Laws as ClockLaws
 use Rattle.clock.proofs.new.Symbol as newCode

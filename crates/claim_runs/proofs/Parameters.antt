@@ -21,9 +21,9 @@ use Rattle.station.specs.declared.records.Rows.{Rows}
 use Rattle.station.proofs.records.Record as RecordType
 use Rattle.station.proofs.records.Rows as RowsType
 use Rattle.station.proofs.records.Rows.Laws as RowsLaws
-use Rattle.calls.specs.declared.sheets.Sheet.{Sheet}
-use Rattle.calls.proofs.sheets.Sheet as SheetType
-use Rattle.calls.proofs.sheets.Sheet.Laws as SheetLaws
+use Rattle.calls.specs.declared.annual.Sheet.{Sheet}
+use Rattle.calls.proofs.annual.Sheet as SheetType
+use Rattle.calls.proofs.annual.Sheet.Laws as SheetLaws
 use Rattle.clock.specs.declared.Clock.{Clock}
 use Rattle.clock.specs.View.{Made}
 use Rattle.clock.proofs.Clock as ClockType

@@ -10,7 +10,7 @@ use mir.Val.{Val}
 use prog.Routine.{Routine}
 use Rattle.refusals.specs.Outcome.{accepted}
 use Rattle.station.specs.declared.records.Record.{Record}
-use Rattle.calls.specs.declared.sheets.Sheet.{Sheet}
+use Rattle.calls.specs.declared.annual.Sheet.{Sheet}
 use Rattle.clock.proofs.Clock as ClockType
 use Rattle.clock.proofs.new.Symbol as newCode
 use Rattle.clock.proofs.load_cards.Symbol as loadCode

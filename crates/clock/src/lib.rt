@@ -22,8 +22,8 @@ mod yearsheet; // a year's sheet, from a table and a station
 
 use calls::asked;
 use calls::settings;
-use calls::sheets;
-use calls::sheets::Sheet;
+use calls::annual;
+use calls::annual::Sheet;
 use card_file::reader;
 use cosine::ENTRIES;
 use limits::RECORDS;
@@ -417,7 +417,7 @@ pub fn year(
     requires { ⌜ Made clock ⌝ }
     ensures { λ r. ⌜ YearPost clock sheet (now (series .entry)) (now (series .exit)) (now (minutes .entry)) (now (minutes .exit)) (now (heights .entry)) (now (heights .exit)) (turnsReturned r) ⌝ }
 {
-    let asked = sheets::year_answer(clock.tabled, clock.stationed, sheet.year);
+    let asked = annual::year_answer(clock.tabled, clock.stationed, sheet.year);
     match asked {
         Answer::Accepted => {
             return yearsheet::sheet(

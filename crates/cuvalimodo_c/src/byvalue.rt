@@ -8,7 +8,7 @@ ghost use Rattle.cuvalimodo_c.specs.Answers.{verdictReturned, turningsRe
 use crate::answers;
 use crate::answers::Turnings;
 use crate::answers::Verdict;
-use calls::sheets::Sheet;
+use calls::annual::Sheet;
 use clock::After;
 use clock::Clock;
 use station::records::Rows;

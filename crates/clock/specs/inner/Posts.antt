@@ -22,7 +22,7 @@ use Rattle.heights.specs.inner.Places.{SeriesWithin}
 use Rattle.turns.specs.Written.{TurnsFound}
 use Rattle.turns.specs.inner.Search.{Reaches}
 use Rattle.station.specs.declared.Station as declaredStation
-use Rattle.calls.specs.declared.sheets.Sheet.{Sheet}
+use Rattle.calls.specs.declared.annual.Sheet.{Sheet}
 use Rattle.calls.specs.Year.{sheetOver, yearGives}
 use Rattle.calls.specs.State.{Maybe, some}
 use Rattle.calls.specs.Calls.{heightReturns}
