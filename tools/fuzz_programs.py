@@ -30,8 +30,8 @@ LIMIT = 20.0  # seconds for one input, far above what one takes
 
 CARDCHECK = re.compile(rb"accepted \d+ \d+ \d+ \d+\n|refused \d+ \d+\n")
 REPLAY = re.compile(
-    rb"((accepted|refused \d+ \d+|height -?\d+|heights( -?\d+)*|turns \d+ [01]( \d+ -?\d+)*)\n)*(script \d+\n)?")
-CSV = re.compile(rb"(#[^\n]*\n)+[^\n#]*\n([^\n,]+,-?\d+\.\d+\n)*")
+    rb"((accepted|refused \d+ \d+|height -?\d+|heights( -?\d+)*|(year \d+( -?\d+)* )?turns \d+ [01]( \d+ -?\d+)*)\n)*(script \d+\n)?")
+CSV = re.compile(rb"(#[^\n]*\n)+[^\n#]*\n([^\n,]+,((high|low),)?-?\d+\.\d+\n)*")
 
 
 def data(name):
@@ -146,20 +146,23 @@ def damaged(r, text):
 
 # ---- arguments
 
-WORDS = ["", " ", "-", "--", "-1", "0", "13", "1949", "2050", "99999999999999999999", "4294967296", "01", "+1", "1.5", "7x", "month", "day", "svg",
-         "--help", "--cards", "--station", "--unit", "--nothing", "a&b<c>\"'", "caf\u00e9", "x" * 300, "x" * 5000, "24:00", "23:59", "7:00", "12:60", "::", "12:",
+WORDS = ["", " ", "-", "--", "-1", "0", "13", "1949", "2050", "99999999999999999999", "4294967296", "01", "+1", "1.5", "7x", "year", "month", "day", "svg",
+         "--csv", "--help", "--cards", "--station", "--unit", "--nothing", "a&b<c>\"'", "caf\u00e9", "x" * 300, "x" * 5000, "24:00", "23:59", "7:00", "12:60", "::", "12:",
          "a\nb", "\t", "1440", "1441", "100000", "/", ".", "/nowhere/file"]
 
 
 def good_arguments(r):
     year, month, day = str(r.randrange(1950, 2050)), str(r.randrange(1, 13)), str(r.randrange(1, 29))
     return r.choice([
+        ["year", year],
+        ["year", year, "--csv"],
         ["month", year, month],
         ["day", year, month, day],
         ["day", year, month, day, "%02d:%02d" % (r.randrange(24), r.randrange(60))],
         ["heights", year, month],
         ["heights", year, month, r.choice(["1", "10", "60", "1440"])],
         ["series", year, month, day, "00:00", r.choice(["1", "60"]), r.choice(["0", "1", "100"])],
+        ["svg", year],
         ["svg", year, month],
         ["svg", year, month, day],
     ])

@@ -114,6 +114,9 @@ ASKED = [
     (["month", "1976", "0"], "month 0: year or month out of range (refusal 8)"),
     (["month", "2050", "7"], "year 2050: year or month out of range (refusal 8)"),
     (["svg", "1976", "13"], "month 13: year or month out of range (refusal 8)"),
+    (["year", "1949"], "year 1949: year or month out of range (refusal 8)"),
+    (["year", "2050", "--csv"], "year 2050: year or month out of range (refusal 8)"),
+    (["svg", "2050"], "year 2050: year or month out of range (refusal 8)"),
     (["day", "1976", "7", "32"], "day 32: July 1976 has 31 days (refusal 9)"),
     (["svg", "1976", "7", "32"], "day 32: July 1976 has 31 days (refusal 9)"),
     (["day", "2026", "2", "30"], "day 30: February 2026 has 28 days (refusal 9)"),
@@ -132,6 +135,12 @@ ASKED = [
     (["month", "1976", "7", "--card", "x"], "--card: no such option, try --help"),
     (["month", "1976", "7", "--cards"], "--cards: its value is missing, try --help"),
     (["month", "1976"], "month: more words are wanted, try --help"),
+    (["year"], "year: more words are wanted, try --help"),
+    (["svg"], "svg: more words are wanted, try --help"),
+    (["year", "1976", "7"], "7: one word too many, try --help"),
+    (["month", "1976", "7", "--csv"], "--csv: one word too many, try --help"),
+    (["svg", "1976", "--csv"], "--csv: one word too many, try --help"),
+    (["year", "July"], "July: not a whole number, try --help"),
     (["month", "1976", "7", "1"], "1: one word too many, try --help"),
     (["month", "1976", "July"], "July: not a whole number, try --help"),
     (["day", "1976", "7", "1", "25:00"], "25:00: not a time HH:MM, try --help"),
@@ -224,6 +233,7 @@ def main():
         line(21, 13, "0.4999999999 ")(fast)
         m.write("cards.txt", fast)
         m.expect(MONTH + ["--cards", "cards.txt"], "month 7: more turns than the lent buffers hold (refusal 10)\n")
+        m.expect(["year", "1976", "--cards", "cards.txt"], "year 1976: more turns than the lent buffers hold (refusal 10)\n")
         # 11: a satellite of ratio 2 with the diurnal latitude factor at the equator
         large = list(CARDS)
         line(173, 25, " 2.0000R1")(large)
@@ -231,7 +241,8 @@ def main():
         equator = list(STATION)
         line(1, 37, " 0  0")(equator)
         m.write("station.txt", equator)
-        m.expect(MONTH + ["--cards", "cards.txt", "--station", "station.txt"], "station.txt line 4: size of X or Y over 2^22 (refusal 11)\n")
+        for words in (MONTH, ["year", "1976", "--csv"], ["svg", "1976"]):
+            m.expect(words + ["--cards", "cards.txt", "--station", "station.txt"], "station.txt line 4: size of X or Y over 2^22 (refusal 11)\n")
         m.expect(["refusals"], "", REFUSALS.encode())
         print("%d messages are as they should be, %d are not" % (m.right, m.wrong))
         sys.exit(1 if m.wrong else 0)

@@ -1,5 +1,5 @@
 #!/usr/bin/env bash
-# Draws a day and a month of a semidiurnal, a mixed and a diurnal station, and renders each by a browser engine: target/drawings/*.png.
+# Draws a day, a month and a year of a semidiurnal, a mixed and a diurnal station, and renders each by a browser engine: target/drawings/*.png.
 # It needs target/bin/cuvalimodo (rt check cuvalimodo) and chromium (Debian: apt-get install chromium).
 set -eu
 cd "$(dirname "$0")/.."
@@ -21,6 +21,8 @@ render() {
 for kind in semidiurnal diurnal; do
     render "$kind-day" "data/examples/$kind.txt" 2026 11 15
     render "$kind-month" "data/examples/$kind.txt" 2026 11
+    render "$kind-year" "data/examples/$kind.txt" 2026
 done
 render mixed-day data/victoria.txt --unit feet 1976 7 12
 render mixed-month data/victoria.txt --unit feet 1976 7
+render mixed-year data/victoria.txt --unit feet 1976

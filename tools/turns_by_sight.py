@@ -1,10 +1,12 @@
-"""The month sheets of cuvalimodo against what anyone sees in its own heights, minute by minute, to the month's end.
+"""The month sheets of cuvalimodo, and the rows of its year, against what anyone sees in its own heights, minute by minute, to the month's end.
 
 Usage: python3 tools/turns_by_sight.py target/bin/cuvalimodo
 For each month of a year at two stations whose tide turns plainly: the high and low waters of the CSV of one-minute heights (a rise and a fall of more than
-RISE on both sides) must be those of the sheet, each within LATE minutes. A sheet that leaves out the turn behind the search's last stride fails here.
+RISE on both sides) must be those of the sheet and of the year, each within LATE minutes. A sheet that leaves out the turn behind the search's last stride, in any month, or a
+year that does so in December fails here.
 """
 
+import re
 import subprocess
 import sys
 
@@ -34,6 +36,14 @@ def seen(heights):
             rising, best = not rising, minute
 
 
+def year(program, station):
+    """The turns of each month of the year's rows: minute of the month and kind."""
+    months = [[] for _ in range(12)]
+    for number, day, hour, minute, kind in re.findall(r"(?m)^%d-(\d\d)-(\d\d)T(\d\d):(\d\d)Z,(\w+)" % YEAR, run(program, "year", str(YEAR), "--csv", "--station", station)):
+        months[int(number) - 1].append(((int(day) - 1) * 1440 + int(hour) * 60 + int(minute), kind))
+    return months
+
+
 def month(program, station, number):
     """The two lists of turns of a month, without what lies at its first and last minutes."""
     words = (str(YEAR), str(number), "--station", station)
@@ -45,14 +55,15 @@ def month(program, station, number):
 def main():
     program, count = sys.argv[1], 0
     for station in STATIONS:
+        months = year(program, station)
         for number in range(1, 13):
             plain, sheet, last = month(program, station, number)
             for minute, kind in plain:
-                found = [m for m, k in sheet if k == kind and abs(m - minute) <= LATE]
-                if not found:
-                    sys.exit(f"{station}, month {number}: a {kind} water at minute {minute} of {last} is not on the sheet")
+                for turns, where in ((sheet, "on the sheet"), (months[number - 1], "in the year")):
+                    if not [m for m, k in turns if k == kind and abs(m - minute) <= LATE]:
+                        sys.exit(f"{station}, month {number}: a {kind} water at minute {minute} of {last} is not {where}")
                 count += 1
-    print(f"{count} high and low waters seen in one-minute heights of 24 months, all on the sheets")
+    print(f"{count} high and low waters seen in one-minute heights of 24 months, all on the sheets and in the years")
 
 
 if __name__ == "__main__":

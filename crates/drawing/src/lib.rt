@@ -1,7 +1,7 @@
 // Drawings of the clock's month, and of a year, as SVG on standard output.
 //
 // Heights and turns are the clock's; crate drawing_picture gives them places. What the clock refuses is said, and nothing is drawn.
-ghost use Prim.Native.Nat.{_<_};
+ghost use Prim.Native.Nat.{_<_, _≤_};
 ghost use lib.ListN.{length};
 ghost use mathlib.Core.Path.{_≡_};
 ghost use Rattle.clock.specs.View.{Made};
@@ -177,27 +177,28 @@ fn write_year<'a>(face: Face, date: Date, hourly: &'a [i64], minutes: &'a [u32],
     );
 }
 
+// The drawing of a year, or the clock's refusal: so many hourly heights as are lent places, from its first minute on, and its turns.
+fn year_turns(clock: Clock, face: Face, date: Date, hourly: &mut [i64]) -> Answer
+    requires { ⌜ Made clock ⌝ }
+{
+    let mut minutes = shown::minute_places();
+    let mut heights = shown::height_places();
+    let answer = yearturns::turns_of(clock, date.year, 60, hourly, &mut minutes, &mut heights);
+    match answer {
+        TurnsAnswer::Turns(count, _) => {
+            let turns = bands::part(&heights, 0, count);
+            write_year(face, date, hourly, &minutes, turns);
+            Answer::Accepted
+        }
+        TurnsAnswer::Refused(refusal, place) => Answer::Refused(refusal, place),
+    }
+}
+
 // svg YEAR: a drawing of a year of a clock that has a station, or the clock's refusal.
 pub fn year(clock: Clock, face: Face, date: Date) -> Answer
     requires { ⌜ Made clock ⌝ }
 {
     let mut places = year_places();
-    let mut minutes = shown::minute_places();
-    let mut heights = shown::height_places();
     let n = hours_of(date);
-    let hourly = &mut places[..n];
-    let answer = yearturns::turns_of(clock, date.year, 60, hourly, &mut minutes, &mut heights);
-    match answer {
-        TurnsAnswer::Turns(count, _) => {
-            write_year(
-                face,
-                date,
-                bands::part(&places, 0, n),
-                &minutes,
-                bands::part(&heights, 0, count),
-            );
-            Answer::Accepted
-        }
-        TurnsAnswer::Refused(refusal, place) => Answer::Refused(refusal, place),
-    }
+    year_turns(clock, face, date, &mut places[..n])
 }
