@@ -20,10 +20,10 @@ ghost use Rattle.clock.specs.inner.Parts.{accepts, withStation, withMont
 
 mod yearsheet; // a year's sheet, from a table and a station
 
-use calls::asked;
-use calls::settings;
 use calls::annual;
 use calls::annual::Sheet;
+use calls::asked;
+use calls::settings;
 use card_file::reader;
 use cosine::ENTRIES;
 use limits::RECORDS;
