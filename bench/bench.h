@@ -6,7 +6,10 @@
 #include "peer.h"
 #include "../bindings/c/cuvalimodo.h"
 
-enum { MONTH = 44640 };
+enum { MONTH = 44640, MONTHS = 12, YEAR = 366 * 1440 };
+
+// What a year keeps of its months: for each constituent of each V, P and Q.
+enum { YEAR_ROWS = MONTHS * RECORDS * (8 + 4 + 4) };
 
 // A card file, a station and a date, as each side takes them.
 struct work {
@@ -20,7 +23,15 @@ struct work {
     struct month prepared;
 };
 
+// The months of the work's year, as each side takes them, and the minutes of the year at which they begin; behind these the year's last.
+struct year {
+    cuvalimodo_clock clocks[MONTHS];
+    struct month prepared[MONTHS];
+    uint32_t starts[MONTHS + 1];
+};
+
 void set_work(struct work *w, const char *file, size_t length, int latitude, int count, uint32_t year, uint32_t month);
+void set_year(struct year *y, const struct work *w);
 void compare_all(const char *file, size_t length);
 void print_times(const char *file, size_t length);
 void print_growth(const char *file, size_t length);

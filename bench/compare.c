@@ -1,4 +1,4 @@
-// Our values and the peer's, one by one: series, single heights and turns. The first that differs ends the bench.
+// Our values and the peer's, one by one: series, single heights and turns, and a year's heights. The first that differs ends the bench.
 #include "bench.h"
 #include <stdio.h>
 #include <stdlib.h>
@@ -6,6 +6,7 @@
 
 static int64_t ours[MONTH + 1], theirs[MONTH + 1];
 static uint32_t our_minutes[MONTH], their_minutes[MONTH];
+static int64_t hourly[YEAR / 60 + 1];
 static size_t compared;
 
 static void same(int64_t a, int64_t b, const char *what, const struct work *w, size_t at) {
@@ -64,6 +65,31 @@ static void compare_dates(struct work *w) {
     }
 }
 
+// The year's month that a minute belongs to: midnight at a month's end is of the month that begins, and the year's last instant December's.
+static size_t owner(const struct year *y, uint32_t minute) {
+    size_t m = 0;
+    while (m + 1 < MONTHS && y->starts[m + 1] <= minute) m++;
+    return m;
+}
+
+static void same_in_year(const struct work *w, const struct year *y, uint32_t minute, int64_t height, const char *what) {
+    size_t m = owner(y, minute);
+    int64_t theirs;
+    if (peer_height(&y->prepared[m], minute - y->starts[m], &theirs).number) exit(1);
+    same(height, theirs, what, w, minute);
+}
+
+// A year's sheet: every hour, and the height of each turn.
+static void compare_year(const struct work *w) {
+    static struct year y;
+    set_year(&y, w);
+    size_t hours = y.starts[MONTHS] / 60 + 1;
+    cuvalimodo_turnings our = cuvalimodo_year(&w->clock, w->year, 0, 60, 0, y.starts[MONTHS], hourly, hours, our_minutes, MONTH, ours, MONTH);
+    if (our.number) exit(1);
+    for (size_t i = 0; i < hours; i++) same_in_year(w, &y, (uint32_t)(60 * i), hourly[i], "year's height at minute");
+    for (size_t i = 0; i < our.count; i++) same_in_year(w, &y, our_minutes[i], ours[i], "height of a year's turn at minute");
+}
+
 void compare_all(const char *file, size_t length) {
     static const int counts[] = {0, 1, 11, 37, 73, 145}, latitudes[] = {2905, -2000, 100};
     static struct work w;
@@ -74,6 +100,7 @@ void compare_all(const char *file, size_t length) {
             compare_heights(&w);
             compare_turns(&w);
             compare_dates(&w);
+            compare_year(&w);
         }
     printf("%zu values of ours and of peer (a) compared one by one: all the same\n", compared);
 }

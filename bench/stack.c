@@ -11,6 +11,7 @@ enum { STACK = 4 << 20, PAINT = 0xa5 };
 
 static struct work w;
 static int64_t heights[MONTH + 1];
+static int64_t hourly[YEAR / 60 + 1];
 static uint32_t minutes[MONTH + 1];
 static unsigned char *stack;
 static ucontext_t back, away;
@@ -37,6 +38,7 @@ static void date(void) { number = cuvalimodo_set_date(&w.clock, w.year, w.month)
 static void single_height(void) { number = cuvalimodo_height(&w.clock, 1).number; }
 static void series(void) { number = cuvalimodo_series(&w.clock, 0, 1, heights, 1440).number; }
 static void turns(void) { number = cuvalimodo_turns(&w.clock, 0, MONTH, minutes, MONTH, heights, MONTH).number; }
+static void year(void) { number = cuvalimodo_year(&w.clock, w.year, 0, 60, 0, YEAR, hourly, YEAR / 60 + 1, minutes, MONTH, heights, MONTH).number; }
 static cuvalimodo_table_names names_read;
 static void names(void) { names_read = cuvalimodo_names(&w.clock); }
 
@@ -59,6 +61,8 @@ void print_stack(const char *file, size_t length, const char *deepest, size_t de
     line("a single height", single_height, 1024);
     line("a series", series, 1 << 20);
     line("turns of a month", turns, 1 << 20);
+    line("a year", year, 1 << 20);
+    printf("| of it, the arguments and weights of its twelve months | %zu |\n", (size_t)YEAR_ROWS);
     line("the names", names, 1 << 20);
     line("the standard card file", cards, 1 << 20);
     w.file = deepest;

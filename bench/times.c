@@ -8,8 +8,9 @@
 enum { ROUNDS = 25, SIDES = 6 };
 
 static struct work w;
+static struct year y;
 static struct doubles d;
-static int64_t heights[MONTH + 1];
+static int64_t heights[YEAR + 1], turned[MONTH];
 static double reals[MONTH + 1];
 static uint32_t minutes[MONTH + 1];
 static volatile int64_t sink;
@@ -120,6 +121,27 @@ static void peer_turn_searches(uint32_t n) {
         sink += peer_turns(&w.prepared, &w.table, &w.station, i % 2, MONTH, minutes, MONTH, heights, MONTH, &count, &high).number;
 }
 
+static void our_year_search(uint32_t n) {
+    for (uint32_t i = 0; i < n; i++)
+        sink += cuvalimodo_year(&w.clock, w.year, 0, 1, i % 2, y.starts[MONTHS], heights, 0, minutes, MONTH, turned, MONTH).number;
+}
+
+static void twelve_searches(uint32_t n) {
+    for (uint32_t i = 0; i < n; i++)
+        for (int m = 0; m < MONTHS; m++)
+            sink += cuvalimodo_turns(&y.clocks[m], i % 2, y.starts[m + 1] - y.starts[m], minutes, MONTH, turned, MONTH).number;
+}
+
+static void our_year_series(uint32_t n) {
+    for (uint32_t i = 0; i < n; i++)
+        sink += cuvalimodo_year(&w.clock, w.year, i % 2, 1, 0, 0, heights, y.starts[MONTHS], minutes, 0, turned, 0).number;
+}
+
+static void twelve_serieses(uint32_t n) {
+    for (uint32_t i = 0; i < n; i++)
+        for (int m = 0; m < MONTHS; m++) sink += cuvalimodo_series(&y.clocks[m], i % 2, 1, heights + y.starts[m], y.starts[m + 1] - y.starts[m]).number;
+}
+
 static void libm_series(uint32_t n) {
     for (uint32_t i = 0; i < n; i++) doubles_libm(&d, reals, MONTH);
 }
@@ -160,11 +182,26 @@ static void time_series(int count) {
     line(what, "(c) Chebyshev recursion", t[0], t[5], r[5], 0);
 }
 
-static void time_two(const char *what, repeated *ours, repeated *theirs, uint32_t repeats, double target) {
+static void time_beside(const char *what, const char *peer, repeated *ours, repeated *theirs, uint32_t repeats, double target) {
     repeated *sides[] = {ours, theirs};
     double t[SIDES], r[SIDES];
     race(sides, 2, repeats, t, r);
-    line(what, "(a) whole numbers in C", t[0], t[1], r[1], target);
+    line(what, peer, t[0], t[1], r[1], target);
+}
+
+static void time_two(const char *what, repeated *ours, repeated *theirs, uint32_t repeats, double target) {
+    time_beside(what, "(a) whole numbers in C", ours, theirs, repeats, target);
+}
+
+// A year's sheet beside our own of its months, which are prepared before: the year's turns, and every minute of it. A year that has more turns
+// than are kept while they are counted (turns::KEPT) is searched twice: it has no target.
+static void time_year(int count, double target) {
+    char what[80];
+    set_year(&y, &w);
+    snprintf(what, sizeof what, "turns of a year, %d constituents", count);
+    time_beside(what, "ours, twelve months", our_year_search, twelve_searches, count > 20 ? 1 : 4, target);
+    snprintf(what, sizeof what, "series, a year, %d constituents", count);
+    time_beside(what, "ours, twelve months", our_year_series, twelve_serieses, 1, 1.1);
 }
 
 static void set(const char *file, size_t length, int count) {
@@ -185,9 +222,13 @@ void print_times(const char *file, size_t length) {
     time_two("a single height, 11 constituents", our_heights, peer_heights, 20000, 1.1);
     time_two("turns of a month, 11 constituents", our_turns, peer_turn_searches, 20, 1.1);
     time_two("preparing a month, 11 constituents", our_dates, peer_dates, 2000, 1.2);
+    time_year(11, 1.25);
+    set(file, length, 37);
+    time_year(37, 1.25);
     set(file, length, 145);
     time_two("turns of a month, 145 constituents", our_turns, peer_turn_searches, 2, 1.1);
     time_two("preparing a month, 145 constituents", our_dates, peer_dates, 500, 1.2);
+    time_year(145, 0);
     time_two("reading the standard card file", our_cards, peer_cards, 20, 1.5);
 }
 

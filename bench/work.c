@@ -62,3 +62,13 @@ void set_work(struct work *w, const char *file, size_t length, int latitude, int
     if (cuvalimodo_set_station(&w->clock, latitude, w->records, (size_t)w->station.count).number) fail("the clock refuses the station");
     if (cuvalimodo_set_date(&w->clock, year, month).number) fail("the clock refuses the month");
 }
+
+void set_year(struct year *y, const struct work *w) {
+    y->starts[0] = 0;
+    for (uint32_t m = 0; m < MONTHS; m++) {
+        y->clocks[m] = w->clock;
+        if (cuvalimodo_set_date(&y->clocks[m], w->year, m + 1).number) fail("the clock refuses a month");
+        if (peer_prepare(&y->prepared[m], &w->table, &w->station, w->year, m + 1).number) fail("the peer refuses a month");
+        y->starts[m + 1] = y->starts[m] + y->prepared[m].last;
+    }
+}

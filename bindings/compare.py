@@ -1,8 +1,8 @@
 """Has the players of all languages play the second code's scripts: python3 bindings/compare.py NAME=COMMAND ...
 
-The scripts are 200 of about 100 calls, generated from a seed; replay's own; those of tools/malformed.py; and three made here, of numbers at the ends
-of their types, buffers of every size, and card files of every kind. A player gets all of them as files in one run. Each answer must be the
-second code's, and every refusal must come up.
+The scripts are 200 of about 100 calls, generated from a seed; replay's own; those of tools/malformed.py; and four made here, of numbers at the ends
+of their types, buffers of every size, whole years, and card files of every kind. A player gets all of them as files in one run. Each answer must be the
+second code's, and every refusal must come up, also every one that a year can have.
 """
 
 import collections
@@ -22,7 +22,9 @@ from replay_example import CARDS, LAST, station  # noqa: E402
 
 SEED, COUNT = 1, 200
 LARGEST = 4_294_967_295
+YEAR = 366 * 1_440
 REFUSALS = [*range(1, 12), *range(21, 24)]
+YEAR_REFUSALS = [8, 9, 10, 11, 21, 22]
 
 
 def call(word, *numbers):
@@ -49,6 +51,23 @@ def requests():
         (0, LAST, 0, 0), (0, LAST, 0, 300), (0, LAST, 300, 250), (0, LAST + 1, 300, 300), (LAST, LAST, 2, 2),
     ):
         yield call(b"turns", first, last, minutes, heights)
+
+
+def years():
+    """Years without a table, without a station and without a month; then at the ends of the year and of their types, into buffers of every size. A
+    height after each says that the prepared month stays."""
+    latitude, records = victoria()
+    whole = call(b"year", 1976, 0, 60, 8_785, 0, YEAR, 1_500, 1_500)
+    yield from (whole, cards_call(CARDS), whole, station(latitude, records), whole, call(b"date", 1976, 7))
+    for numbers in (
+        (1976, 0, 1_440, 367, 0, YEAR, 2_000, 2_000), (1976, 0, 1_440, 368, 0, YEAR, 2_000, 2_000), (1977, 0, 1_440, 366, 0, YEAR - 1_440, 2_000, 1_900),
+        (1977, 0, 1_440, 366, 0, YEAR - 1_439, 2_000, 2_000), (1949, 0, 1, 0, 0, 0, 0, 0), (2050, 0, 1, 0, 0, 0, 0, 0), (LARGEST, 0, 1, 0, 0, 0, 0, 0),
+        (1950, 0, 60, 50, 0, 9_000, 99, 99), (2049, 525_000, 60, 11, 500_000, 525_600, 300, 300), (1976, 0, 0, 0, 0, 0, 0, 0), (1976, YEAR + 1, 1, 0, 0, 0, 0, 0),
+        (1976, LARGEST, LARGEST, 0, 0, 0, 0, 0), (1976, 0, 1, 0, 10, 9, 1, 1), (1976, 0, 1, 0, 0, LARGEST, 1, 1), (1976, YEAR, 1, 1, YEAR, YEAR, 0, 0),
+        (1976, 0, 60, 9, 0, YEAR, 0, 0), (1976, 0, 60, 9, 0, YEAR, 10, 2_000), (1976, 0, 60, 9, 0, YEAR, 2_000, 10), (1976, 44_000, 1, 1_300, 43_200, 46_080, 20, 20),
+    ):
+        yield call(b"year", *numbers)
+        yield call(b"height", 510)
 
 
 def updates():
@@ -89,14 +108,15 @@ def deepest():
     """The card file that takes the most stack, and a station of all of it."""
     deck = subprocess.run([sys.executable, os.path.join(ROOT, "tools", "deepest_cards.py")], stdout=subprocess.PIPE, check=True).stdout
     everything = station(2905, [(k, 1_000, 0) for k in range(64)])
-    return cards_call(deck) + everything + call(b"date", 1976, 7) + call(b"series", 0, 60, 9) + call(b"turns", 0, LAST, 1_500, 1_500)
+    month = call(b"date", 1976, 7) + call(b"series", 0, 60, 9) + call(b"turns", 0, LAST, 1_500, 1_500)
+    return cards_call(deck) + everything + month + call(b"year", 1976, 0, 1_440, 367, 0, 90_000, 3_000, 3_000)
 
 
 def scripts():
     """Each script with the second code's answers."""
     yield from compare_many.answered(SEED, COUNT)
     with open(malformed.SCRIPT, "rb") as file:
-        by_hand = [file.read(), ends(), card_files(), deepest()]
+        by_hand = [file.read(), ends(), b"".join(years()), card_files(), deepest()]
     for script in [*by_hand, *malformed.short_scripts()]:
         yield script, compare_many.answers(script)
 
@@ -144,17 +164,24 @@ def compare(name, command, paths, played):
     return differing == 0
 
 
+def came_up(title, kinds, numbers):
+    """Prints how often each refusal came up; whether each did."""
+    print(title + ", ".join("%d: %d" % (number, kinds["refused %d" % number]) for number in numbers))
+    missing = [number for number in numbers if not kinds["refused %d" % number]]
+    if missing:
+        print("never came up: %s" % missing)
+    return not missing
+
+
 def main():
     played = list(scripts())
-    kinds = collections.Counter(compare_many.kind(line) for _, wanted in played for line in wanted)
-    missing = [number for number in REFUSALS if not kinds["refused %d" % number]]
+    answered = [(word, compare_many.kind(line)) for script, wanted in played for word, line in zip(compare_many.words(script), wanted)]
     with tempfile.TemporaryDirectory() as folder:
         paths = write_files(folder, played)
         same = [compare(*player.split("=", 1), paths, played) for player in sys.argv[1:]]
-    print("how often each refusal came up: " + ", ".join("%d: %d" % (number, kinds["refused %d" % number]) for number in REFUSALS))
-    if missing:
-        print("never came up: %s" % missing)
-    sys.exit(0 if same and all(same) and not missing else 1)
+    there = [came_up("how often each refusal came up: ", collections.Counter(kind for _, kind in answered), REFUSALS)]
+    there.append(came_up("and with a year: ", collections.Counter(kind for word, kind in answered if word == b"year"), YEAR_REFUSALS))
+    sys.exit(0 if same and all(same + there) else 1)
 
 
 if __name__ == "__main__":

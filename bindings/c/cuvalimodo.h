@@ -29,7 +29,8 @@
  *   phase       phase lag in hundredths of a degree, 0 to 35,999
  *   year        1950 to 2049
  *   month       1 to 12
- *   minute      minutes after 00:00 on the 1st of the month, GMT, 0 to days * 1,440 inclusive
+ *   minute      minutes after 00:00 on the 1st of the month, GMT, 0 to days * 1,440 inclusive; for a year, after 00:00 on 1 January, 0 to
+ *               525,600 or, in a leap year, 527,040 inclusive
  *   step        minutes, 1 to 1,440
  *   height      tenths of a millimetre
  */
@@ -58,7 +59,7 @@ enum cuvalimodo_refusal {
     CUVALIMODO_TOO_MANY = 6,        /* more entries or records than there may be; place: line, or 147 for records */
     CUVALIMODO_ENDED = 7,           /* the card file ends inside a part; place: the line after the last */
     CUVALIMODO_BAD_DATE = 8,        /* year or month out of range */
-    CUVALIMODO_BAD_MINUTES = 9,     /* minutes outside the month or reversed, or step out of range */
+    CUVALIMODO_BAD_MINUTES = 9,     /* minutes outside the month, or the year, or reversed; or step out of range */
     CUVALIMODO_TOO_MANY_TURNS = 10, /* more turns than one of the lent buffers holds */
     CUVALIMODO_TOO_LARGE = 11,      /* a nodal correction too large; place: the station's record */
     CUVALIMODO_NO_TABLE = 21,       /* the clock has no table: load_cards comes first */
@@ -174,6 +175,16 @@ cuvalimodo_verdict cuvalimodo_series(const cuvalimodo_clock *clock, uint32_t sta
 cuvalimodo_turnings cuvalimodo_turns(const cuvalimodo_clock *clock, uint32_t first, uint32_t last,
                                      uint32_t *minutes, size_t minutes_length,
                                      int64_t *heights, size_t heights_length);
+
+/*
+ * A year's sheet: heights at start, start + step and so on into `series`, and the high and low waters from minute `first` to minute `last` into
+ * `minutes` and `heights`, each as above with the year in place of the month; both, or a refusal and neither. Each month has its own weights, and
+ * midnight at a month's end belongs to the month that begins. No month need be prepared, and one that is stays. (3,000 turns are plenty for a year.)
+ */
+cuvalimodo_turnings cuvalimodo_year(const cuvalimodo_clock *clock, uint32_t year, uint32_t start, uint32_t step, uint32_t first, uint32_t last,
+                                    int64_t *series, size_t series_length,
+                                    uint32_t *minutes, size_t minutes_length,
+                                    int64_t *heights, size_t heights_length);
 
 /* The words of a refusal; none for a number that is no refusal's. printf("%s\n", cuvalimodo_refusal_text(6).text) */
 cuvalimodo_text cuvalimodo_refusal_text(uint32_t number);

@@ -261,6 +261,14 @@ static bool series(struct script *s, const int64_t *n)
     return true;
 }
 
+static void write_turns(cuvalimodo_turnings found, const uint32_t *minutes, const int64_t *heights)
+{
+    printf("turns %zu %d", found.count, found.high);
+    for (size_t k = 0; k < found.count; k++)
+        printf(" %" PRIu32 " %" PRId64, minutes[k], heights[k]);
+    puts("");
+}
+
 static bool turns(struct script *s, const int64_t *n)
 {
     (void)s;
@@ -271,12 +279,33 @@ static bool turns(struct script *s, const int64_t *n)
     copy(lent_heights);
     cuvalimodo_turnings said = cuvalimodo_turns(held(), (uint32_t)n[0], (uint32_t)n[1], minutes, (size_t)n[2], heights, (size_t)n[3]);
     clock_stands(false);
+    if (accepted(said.number, said.place))
+        write_turns(said, minutes, heights);
+    back(lent_minutes, said.count * sizeof(uint32_t));
+    back(lent_heights, said.count * sizeof(int64_t));
+    return true;
+}
+
+static bool year(struct script *s, const int64_t *n)
+{
+    (void)s;
+    struct lent lent_series = lend((size_t)n[3], sizeof(int64_t)), lent_minutes = lend((size_t)n[6], sizeof(uint32_t)), lent_heights = lend((size_t)n[7], sizeof(int64_t));
+    int64_t *series = (int64_t *)(void *)lent_series.at, *heights = (int64_t *)(void *)lent_heights.at;
+    uint32_t *minutes = (uint32_t *)(void *)lent_minutes.at;
+    copy(lent_series);
+    copy(lent_minutes);
+    copy(lent_heights);
+    cuvalimodo_turnings said = cuvalimodo_year(held(), (uint32_t)n[0], (uint32_t)n[1], (uint32_t)n[2], (uint32_t)n[4], (uint32_t)n[5],
+                                               series, (size_t)n[3], minutes, (size_t)n[6], heights, (size_t)n[7]);
+    clock_stands(false);
     if (accepted(said.number, said.place)) {
-        printf("turns %zu %d", said.count, said.high);
-        for (size_t k = 0; k < said.count; k++)
-            printf(" %" PRIu32 " %" PRId64, minutes[k], heights[k]);
-        puts("");
+        printf("year %" PRId64, n[3]);
+        for (int64_t k = 0; k < n[3]; k++)
+            printf(" %" PRId64, series[k]);
+        putchar(' ');
+        write_turns(said, minutes, heights);
     }
+    back(lent_series, said.number ? 0 : lent_series.size);
     back(lent_minutes, said.count * sizeof(uint32_t));
     back(lent_heights, said.count * sizeof(int64_t));
     return true;
@@ -286,9 +315,9 @@ static const struct {
     const char *word;
     int numbers;
     bool (*play)(struct script *, const int64_t *);
-} calls[] = {{"cards", 1, cards}, {"station", 2, station}, {"date", 2, date}, {"height", 1, height}, {"series", 3, series}, {"turns", 4, turns}};
+} calls[] = {{"cards", 1, cards}, {"station", 2, station}, {"date", 2, date}, {"height", 1, height}, {"series", 3, series}, {"turns", 4, turns}, {"year", 8, year}};
 
-enum { CALLS = sizeof calls / sizeof *calls };
+enum { CALLS = sizeof calls / sizeof *calls, NUMBERS = 8 };
 
 /* One call of a script. */
 static bool play_call(struct script *s)
@@ -302,7 +331,7 @@ static bool play_call(struct script *s)
         k++;
     if (k == CALLS)
         return false;
-    int64_t numbers[4];
+    int64_t numbers[NUMBERS];
     for (int i = 0; i < calls[k].numbers; i++) {
         bool latitude = calls[k].play == station && i == 0;
         if (!(byte(s, ' ') && number(s, latitude ? INT32_MIN : 0, latitude ? INT32_MAX : UINT32_MAX, &numbers[i])))

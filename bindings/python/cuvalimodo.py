@@ -11,7 +11,7 @@ leaves the clock and the lent buffers as they were.
 It loads target/staticlib/libcuvalimodo_c.so (bindings/build makes it), or the file that the environment variable CUVALIMODO_LIBRARY names.
 
 Units: latitude in minutes of arc, north positive; amplitudes and heights in tenths of a millimetre; phase lags in hundredths of a degree; minutes
-after 00:00 GMT on the 1st of the month; a place is the position of a constituent among the card file's frequencies, from 0 (see Clock.place_of).
+after 00:00 GMT on the 1st of the month, for a year on 1 January; a place is the position of a constituent among the card file's frequencies, from 0 (see Clock.place_of).
 A number that its C type cannot hold (place: one byte; latitude: 32 bits, signed; all others: 32 bits) raises OverflowError and reaches no call.
 
 The interpreter's lock is held during a call, so threads may share a clock.
@@ -136,6 +136,7 @@ def _load() -> ctypes.PyDLL:
         ("height", _Reading, [clock, u32]),
         ("series", _Verdict, [clock, u32, u32, *lent]),
         ("turns", _Turnings, [clock, u32, u32, *lent, *lent]),
+        ("year", _Turnings, [clock, u32, u32, u32, u32, u32, *lent, *lent, *lent]),
         ("refusal_text", _Text, [u32]),
     ):
         function = getattr(library, "cuvalimodo_" + name)
@@ -192,10 +193,15 @@ def _minutes(lent: WriteableBuffer) -> ctypes.Array:
     return _buffer(ctypes.c_uint32, "IL", lent)
 
 
-def _apart(one: ctypes.Array, other: ctypes.Array) -> None:
-    first, second = sorted((ctypes.addressof(each), ctypes.sizeof(each)) for each in (one, other))
-    if first[0] + first[1] > second[0]:
-        raise ValueError("the buffers overlap")
+def _apart(*buffers: ctypes.Array) -> None:
+    spans = sorted((ctypes.addressof(each), ctypes.sizeof(each)) for each in buffers)
+    for (at, size), (following, _) in zip(spans, spans[1:]):
+        if at + size > following:
+            raise ValueError("the buffers overlap")
+
+
+def _turns(minutes: array[int], heights: array[int], count: int, high: bool) -> list[Turn]:
+    return [Turn(minutes[n], heights[n], (n % 2 == 0) == high) for n in range(count)]
 
 
 def _accept(result: ctypes.Structure) -> None:
@@ -295,5 +301,23 @@ class Clock:
     def turns(self, first: SupportsIndex, last: SupportsIndex, room: int = 1500) -> list[Turn]:
         """The high and low waters from minute first to minute last; Refused 10 where there are more than room."""
         minutes, heights = array("I", bytes(4 * room)), array("q", bytes(8 * room))
-        count, high = self.turns_into(minutes, heights, first, last)
-        return [Turn(minutes[n], heights[n], (n % 2 == 0) == high) for n in range(count)]
+        return _turns(minutes, heights, *self.turns_into(minutes, heights, first, last))
+
+    def year_into(self, series: WriteableBuffer, minutes: WriteableBuffer, heights: WriteableBuffer, year: SupportsIndex, start: SupportsIndex,
+                  step: SupportsIndex, first: SupportsIndex, last: SupportsIndex) -> Tuple[int, bool]:
+        """A year's sheet: fills series as series_into does and writes the turns as turns_into does, both or, where it is refused, neither. Each month
+        has its own weights. No month need be prepared, and one that is stays."""
+        lent_series, lent_minutes, lent_heights = _heights(series), _minutes(minutes), _heights(heights)
+        _apart(lent_series, lent_minutes, lent_heights)
+        asked = [_u32(number) for number in (year, start, step, first, last)]
+        result = _library.cuvalimodo_year(self._memory, *asked, *_lent(lent_series), *_lent(lent_minutes), *_lent(lent_heights))
+        _accept(result)
+        return result.count, result.high
+
+    def year(self, year: SupportsIndex, start: SupportsIndex, step: SupportsIndex, count: int, first: SupportsIndex, last: SupportsIndex,
+             room: int = 18000) -> Tuple[array[int], list[Turn]]:
+        """So many heights of a year, as an array("q"), and its high and low waters from minute first to minute last; Refused 10 where there are more
+        than room."""
+        series, minutes, heights = array("q", bytes(8 * count)), array("I", bytes(4 * room)), array("q", bytes(8 * room))
+        found = self.year_into(series, minutes, heights, year, start, step, first, last)
+        return series, _turns(minutes, heights, *found)

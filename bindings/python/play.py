@@ -107,6 +107,20 @@ class Guarded:
             heights.stands(count)
         return list(zip(minutes.numbers[:count], heights.numbers[:count])), high
 
+    def year(self, year, asked_series, asked_turns):
+        start, step, count = asked_series
+        first, last, minute_places, height_places = asked_turns
+        series, minutes, heights = Lent(ctypes.c_int64, count), Lent(ctypes.c_uint32, minute_places), Lent(ctypes.c_int64, height_places)
+        given = found = 0
+        try:
+            found, high = self.call(self.clock.year_into, series.numbers, minutes.numbers, heights.numbers, year, start, step, first, last)
+            given = count
+        finally:
+            series.stands(given)
+            minutes.stands(found)
+            heights.stands(found)
+        return list(series.numbers), list(zip(minutes.numbers[:found], heights.numbers[:found])), high
+
 
 def main():
     clock = Guarded()

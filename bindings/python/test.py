@@ -20,6 +20,8 @@ from cuvalimodo import Clock, Counts, Refusal, Refused, Turn, check_cards, refus
 from incident import LATITUDE, VICTORIA  # noqa: E402
 
 LAST = 31 * 1440
+YEAR = 366 * 1440
+JULY = 182 * 1440
 
 
 def read(name):
@@ -75,6 +77,9 @@ class Buffers(unittest.TestCase):
                 self.clock.series_into(heights, 0, 60)
             with self.assertRaises((TypeError, BufferError)):
                 self.clock.turns_into(array("I", bytes(16)), heights, 0, LAST)
+            for series, turns in ((heights, array("q")), (array("q"), heights)):
+                with self.assertRaises((TypeError, BufferError)):
+                    self.clock.year_into(series, array("I"), turns, 1976, 0, 60, 0, 0)
         with self.assertRaises(TypeError):
             self.clock.turns_into(array("q", bytes(32)), array("q", bytes(32)), 0, LAST)
 
@@ -86,6 +91,12 @@ class Buffers(unittest.TestCase):
             self.clock.turns_into(memory[:2000].cast("I"), memory[1992:].cast("q"), 0, LAST)
         count, _ = self.clock.turns_into(memory[:1200].cast("I"), memory[1200:3600].cast("q"), 0, LAST)
         self.assertEqual(count, 103)
+        minutes, heights, series = memory[:400].cast("I"), memory[400:1200].cast("q"), memory[1200:1232].cast("q")
+        for overlapping in (memory[1192:1224].cast("q"), memory[392:424].cast("q"), memory[600:632].cast("q")):
+            with self.assertRaises(ValueError):
+                self.clock.year_into(overlapping, minutes, heights, 1976, JULY, 60, JULY, JULY + 1440)
+        self.assertEqual(self.clock.year_into(series, minutes, heights, 1976, JULY, 60, JULY, JULY + 1440), (3, True))
+        self.assertEqual((bytes(series), heights[0]), (bytes(self.wanted), 79445))
 
     def test_empty(self):
         self.clock.series_into(array("q"), 0, 60)
@@ -98,6 +109,15 @@ class Buffers(unittest.TestCase):
         with self.assertRaises(Refused) as caught:
             self.clock.turns(0, LAST, room=102)
         self.assertEqual(caught.exception.number, Refusal.TOO_MANY_TURNS)
+
+    def test_a_year(self):
+        daily, turns = self.clock.year(1976, 0, 1440, 367, 0, YEAR)
+        self.assertEqual(daily[182], self.wanted[0])
+        self.assertEqual([turn for turn in turns if JULY <= turn.minute < JULY + 1440][0], Turn(JULY + 202, 79445, True))
+        with self.assertRaises(Refused) as caught:
+            self.clock.year(1976, 0, 1440, 367, 0, YEAR, room=len(turns) - 1)
+        self.assertEqual(caught.exception.number, Refusal.TOO_MANY_TURNS)
+        self.assertEqual(self.clock.series(0, 60, 4), self.wanted)
 
 
 class Numbers(unittest.TestCase):
@@ -120,6 +140,8 @@ class Numbers(unittest.TestCase):
                 self.overflows(call, wrong)
             for call in (lambda n: clock.series(0, n, 1), lambda n: clock.turns(n, 9), lambda n: clock.turns(0, n), refusal_text):
                 self.overflows(call, wrong)
+            for place in range(5):
+                self.overflows(lambda n: clock.year_into(array("q"), array("I"), array("q"), *([1976, 0, 60, 0, 0][:place] + [n] + [0] * (4 - place))), wrong)
 
     def test_kinds(self):
         clock = victoria()

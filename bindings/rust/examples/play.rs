@@ -4,7 +4,7 @@
 //! The clock and every lent buffer stand between guards. After each call the guards must be as they were, and so must all that the call may not
 //! change: after a refused call the clock and the buffers. Otherwise the program panics.
 
-use cuvalimodo::{check_cards, Clock, Record, Refusal};
+use cuvalimodo::{check_cards, Clock, Record, Refusal, Sheet, Turns};
 use std::hint::black_box;
 use std::io::{self, Read, Write};
 
@@ -161,22 +161,41 @@ fn station(held: &mut Held, latitude: i32, records: &[Record]) -> Result<String,
     said
 }
 
+fn spaced(heights: &[i64]) -> String {
+    heights.iter().map(|height| format!(" {height}")).collect()
+}
+
 fn series(held: &Held, start: u32, step: u32, count: usize) -> Result<String, Refusal> {
     let mut lent = Lent::new(&vec![PAINT as i64; count], PAINT as i64);
     let said = held.read(|clock| clock.series(start, step, lent.numbers()));
     let heights = lent.stands(if said.is_ok() { count } else { 0 });
     said?;
-    Ok(format!("heights{}", heights.iter().map(|height| format!(" {height}")).collect::<String>()))
+    Ok(format!("heights{}", spaced(heights)))
+}
+
+/// The turns that were written, no more of the buffers being changed; or the refusal, with nothing changed.
+fn turns_line(said: Result<Turns, Refusal>, minutes: &Lent<u32>, heights: &Lent<i64>) -> Result<String, Refusal> {
+    let count = said.map_or(0, |found| found.count);
+    let pairs = minutes.stands(count).iter().zip(heights.stands(count));
+    let written: String = pairs.map(|(minute, height)| format!(" {minute} {height}")).collect();
+    Ok(format!("turns {count} {}{written}", u8::from(said?.first_high)))
 }
 
 fn turns(held: &Held, first: u32, last: u32, minute_places: usize, height_places: usize) -> Result<String, Refusal> {
     let mut lent_minutes = Lent::new(&vec![PAINT as u32; minute_places], PAINT as u32);
     let mut lent_heights = Lent::new(&vec![PAINT as i64; height_places], PAINT as i64);
     let said = held.read(|clock| clock.turns(first, last, lent_minutes.numbers(), lent_heights.numbers()));
-    let count = said.map_or(0, |found| found.count);
-    let pairs = lent_minutes.stands(count).iter().zip(lent_heights.stands(count));
-    let written: String = pairs.map(|(minute, height)| format!(" {minute} {height}")).collect();
-    Ok(format!("turns {count} {}{written}", u8::from(said?.first_high)))
+    turns_line(said, &lent_minutes, &lent_heights)
+}
+
+fn year(held: &Held, sheet: Sheet, count: usize, minute_places: usize, height_places: usize) -> Result<String, Refusal> {
+    let mut lent_series = Lent::new(&vec![PAINT as i64; count], PAINT as i64);
+    let mut lent_minutes = Lent::new(&vec![PAINT as u32; minute_places], PAINT as u32);
+    let mut lent_heights = Lent::new(&vec![PAINT as i64; height_places], PAINT as i64);
+    let said = held.read(|clock| clock.year(sheet, lent_series.numbers(), lent_minutes.numbers(), lent_heights.numbers()));
+    let series = lent_series.stands(if said.is_ok() { count } else { 0 });
+    let turns = turns_line(said, &lent_minutes, &lent_heights)?;
+    Ok(format!("year {count}{} {turns}", spaced(series)))
 }
 
 /// Reads one call and makes it; nothing where the script is not of the form.
@@ -213,6 +232,13 @@ fn play_call(held: &mut Held, script: &mut Script) -> Option<Result<String, Refu
             let (first, last, minutes, heights) = (word(first)?, word(last)?, place(minutes)?, place(heights)?);
             script.line += 1;
             turns(held, first, last, minutes, heights)
+        }
+        [b"year", year_number, start, step, count, first, last, minutes, heights] => {
+            let (start, step, first, last) = (word(start)?, word(step)?, word(first)?, word(last)?);
+            let sheet = Sheet { year: word(year_number)?, start, step, first, last };
+            let (count, minutes, heights) = (place(count)?, place(minutes)?, place(heights)?);
+            script.line += 1;
+            year(held, sheet, count, minutes, heights)
         }
         _ => return None,
     })

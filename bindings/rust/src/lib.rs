@@ -4,7 +4,7 @@
 //! number and place, and leaves the clock and the lent buffers as they were.
 //!
 //! Units: latitude in minutes of arc, north positive; amplitudes and heights in tenths of a millimetre; phase lags in hundredths of a degree;
-//! minutes after 00:00 GMT on the 1st of the month.
+//! minutes after 00:00 GMT on the 1st of the month, for a year's sheet on 1 January.
 //!
 //! ```
 //! use cuvalimodo::{Clock, Record, Refusal};
@@ -31,7 +31,7 @@
 mod sys;
 
 use std::fmt;
-pub use sys::{Record, CLOCK_SIZE};
+pub use sys::{Record, Sheet, CLOCK_SIZE};
 
 /// A refused call: why, by document 01's number, and its place (a card's line or a station's record, from 1; else 0).
 #[derive(Clone, Copy, Debug, PartialEq, Eq, Hash)]
@@ -59,7 +59,7 @@ impl Refusal {
     pub const ENDED: u32 = 7;
     /// Year or month out of range.
     pub const BAD_DATE: u32 = 8;
-    /// Minutes outside the month or reversed, or step out of range.
+    /// Minutes outside the month, or the year, or reversed; or step out of range.
     pub const BAD_MINUTES: u32 = 9;
     /// More turns than one of the lent buffers holds.
     pub const TOO_MANY_TURNS: u32 = 10;
@@ -248,7 +248,34 @@ impl Clock {
         Ok(Turns { count: said.count, first_high: said.high })
     }
 
-    /// The clock's bytes. A refused call leaves every one as it was. (Two clocks in one state may differ in bytes that mean nothing.)
+    /// A year's sheet: fills `series` as [`Clock::series`] does, and writes the high and low waters as [`Clock::turns`] does; both, or neither and a
+    /// refusal. Each month has its own weights. No month need be prepared, and one that is stays. 3,000 turns are plenty for a year.
+    ///
+    /// ```
+    /// use cuvalimodo::{Clock, Record, Refusal, Sheet};
+    /// let cards = include_bytes!(concat!(env!("CARGO_MANIFEST_DIR"), "/../../data/standard-cards.txt"));
+    /// let mut clock = Clock::new();
+    /// clock.load_cards(cards)?;
+    /// clock.set_station(2905, &[Record { place: clock.place_of("M2").unwrap(), amplitude: 12130, phase: 8700 }])?;
+    /// let whole = Sheet { year: 1976, start: 0, step: 1440, first: 0, last: 366 * 1440 };
+    /// let (mut daily, mut minutes, mut heights) = ([0; 367], [0; 3000], [0; 3000]);
+    /// let found = clock.year(whole, &mut daily, &mut minutes, &mut heights)?;
+    /// assert_eq!(found.count, 1414);
+    ///
+    /// // 1 July is day 182 of a leap year, from 0: its midnight is the first minute of July.
+    /// clock.set_date(1976, 7)?;
+    /// assert_eq!(clock.height(0), Ok(daily[182]));
+    /// assert_eq!(clock.year(whole, &mut daily, &mut minutes[..9], &mut heights), Err(Refusal { number: Refusal::TOO_MANY_TURNS, place: 0 }));
+    /// # Ok::<(), Refusal>(())
+    /// ```
+    pub fn year(&self, sheet: Sheet, series: &mut [i64], minutes: &mut [u32], heights: &mut [i64]) -> Result<Turns, Refusal> {
+        let said = sys::year(&self.0, sheet, series, minutes, heights);
+        accepted(said.number, said.place)?;
+        Ok(Turns { count: said.count, first_high: said.high })
+    }
+
+    /// The clock's bytes. A refused call leaves the clock's state as it was, which is proved, and every byte, which is tested (`bindings/compare.py`).
+    /// (Two clocks in one state may differ in bytes that mean nothing.)
     pub fn bytes(&self) -> &[u8; CLOCK_SIZE] {
         self.0.bytes()
     }

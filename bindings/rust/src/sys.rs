@@ -40,6 +40,21 @@ pub struct Record {
     pub phase: u32,
 }
 
+/// What a year's sheet is asked for; minutes after 00:00 GMT on 1 January.
+#[derive(Clone, Copy, Debug, PartialEq, Eq, Hash)]
+pub struct Sheet {
+    /// 1950 to 2049.
+    pub year: u32,
+    /// The minute of the series' first height.
+    pub start: u32,
+    /// Minutes from one height to the next, 1 to 1,440.
+    pub step: u32,
+    /// The minute where the search for turns begins.
+    pub first: u32,
+    /// The minute where it ends.
+    pub last: u32,
+}
+
 #[repr(C)]
 pub struct Counts {
     pub number: u32,
@@ -100,6 +115,20 @@ extern "C" {
         heights: *mut i64,
         heights_length: usize,
     ) -> Turnings;
+    fn cuvalimodo_year(
+        clock: &Clock,
+        year: u32,
+        start: u32,
+        step: u32,
+        first: u32,
+        last: u32,
+        series: *mut i64,
+        series_length: usize,
+        minutes: *mut u32,
+        minutes_length: usize,
+        heights: *mut i64,
+        heights_length: usize,
+    ) -> Turnings;
     fn cuvalimodo_refusal_text(number: u32) -> Text;
 }
 
@@ -146,6 +175,16 @@ pub fn series(clock: &Clock, start: u32, step: u32, heights: &mut [i64]) -> Verd
 pub fn turns(clock: &Clock, first: u32, last: u32, minutes: &mut [u32], heights: &mut [i64]) -> Turnings {
     // SAFETY: see the head of this file.
     unsafe { cuvalimodo_turns(clock, first, last, minutes.as_mut_ptr(), minutes.len(), heights.as_mut_ptr(), heights.len()) }
+}
+
+pub fn year(clock: &Clock, sheet: Sheet, series: &mut [i64], minutes: &mut [u32], heights: &mut [i64]) -> Turnings {
+    let Sheet { year, start, step, first, last } = sheet;
+    let (minutes_length, heights_length) = (minutes.len(), heights.len());
+    let (minutes, heights) = (minutes.as_mut_ptr(), heights.as_mut_ptr());
+    // SAFETY: see the head of this file.
+    unsafe {
+        cuvalimodo_year(clock, year, start, step, first, last, series.as_mut_ptr(), series.len(), minutes, minutes_length, heights, heights_length)
+    }
 }
 
 pub fn refusal_text(number: u32) -> Text {

@@ -19,7 +19,7 @@ use Rattle.turns.specs.Strides.{stationStride}
 use Rattle.turns.specs.Written.{TurnsFound, TurnsGiven, given}
 use Rattle.calls.specs.State.{Maybe, State}
 use Rattle.calls.specs.Asked.{stationAsked, seriesOutside, turnsOutside}
-use Rattle.calls.specs.declared.sheets.Sheet.{Sheet}
+use Rattle.calls.specs.declared.annual.Sheet.{Sheet}
 
 -- ---- "01's 8, 11, 9 and 10 apply in that order with the year in place of the month."
 

@@ -3,4 +3,4 @@
 pub mod asked; // heights, series, turns
 pub mod reasons; // why a series is refused
 pub mod settings; // stations, dates, months
-pub mod sheets; // a year's sheet
+pub mod annual; // a year's sheet

@@ -6,20 +6,18 @@ use mathlib.Core.List.{List, [], _∷_, _++_, map}
 use mathlib.Core.Path.{_≡_, refl, sym, ap, subst, _∙_}
 use lib.IntN.{ℤ, pos}
 use lib.ListN.{length, getD, take, drop, length-map, length-append}
-use Rattle.table.specs.Table.{Table}
-use Rattle.station.specs.Station as station
-use Rattle.month_prepared.specs.Prepared.{Constituent, Month}
-use Rattle.heights.specs.Exact.{Near}
-use Rattle.heights.specs.Height.{heightAt}
-use Rattle.turns.specs.Search.{minutesOf}
-use Rattle.turns.specs.Written.{TurnsFound, TurnsGiven, fromFront}
+use Rattle.month_prepared.specs.Prepared.{Month}
+use Rattle.month_prepared.specs.Months.{ownerOf}
+use Rattle.heights.specs.Exact.{Near, NearOver}
+use Rattle.heights.specs.Height.{heightAt, heightOver}
+use Rattle.turns.specs.Search.{Turn, minutesOf}
+use Rattle.turns.specs.Written.{TurnsFound, fromFront}
 use Rattle.calls.specs.State as state
 use Rattle.calls.specs.State.{Maybe}
 use Rattle.refusals.specs.Outcome.{Outcome, accepted, refused}
-use Rattle.calls.specs.Calls.{turnsGives}
-use Rattle.claim.specs.Document.{Request, Turns, Gave, told, predicted, wrote, found, named, Last, nothing, workedOut, after, gives, givesAll, lastAfter, Point, pointsFrom, pointsOf, points, lastConstituents, AllNear, cons, EachNear, end, next}
-use Rattle.claim.proofs.Points.{turns-give, as-many}
-use Rattle.claim.specs.Claim.{OfAHeight, OfASeries, OfTurns}
+use Rattle.claim.specs.Document.{Request, Cards, Station, Date, Height, Series, Turns, Year, Names, Gave, told, predicted, wrote, found, filled, named, Last, nothing, workedOut, after, gives, givesAll, lastAfter, Point, pointsFrom, pointsOf, points, constituentsThere, preparedMonth, monthsFor, AllNear, nil, cons, EachNear, end, next}
+use Rattle.claim.proofs.Given.{all-found, turns-give, as-many, year-gives}
+use Rattle.claim.specs.Claim.{OfAHeight, OfASeries, OfTurns, OfAYearsSeries, OfAYearsTurns}
 
 -- ---- down the list
 
@@ -32,7 +30,7 @@ not-empty [] x = omega arith
 not-empty (y ∷ xs) x = omega arith
 
 last-near : (l : Last) (qs : List Request) (gs : List Gave) (q : Request) (g : Gave) → EachNear l (qs ++ q ∷ []) (gs ++ g ∷ [])
-    → AllNear (lastConstituents (lastAfter l qs)) (points q g)
+    → AllNear (monthsFor (lastAfter l qs) q) (points q g)
 unfolding lastAfter
 last-near l [] [] q g (next x xs) = x
 last-near l [] (f ∷ gs) q g x = absurd (omega (arith, same-length x, not-empty gs g))
@@ -41,19 +39,35 @@ last-near l (p ∷ qs) (f ∷ gs) q g (next x xs) = last-near (after l p) qs gs 
 
 -- ---- to the n-th point
 
-from-nth : (cs : List Constituent) (minute step : ℕ) (hs : List ℤ) (n : ℕ) → n < length hs → AllNear cs (pointsFrom minute step hs) → Near cs (minute + n * step) (getD hs n (pos 0))
-unfolding pointsFrom
-from-nth cs minute step [] n h x = absurd (omega arith)
-from-nth cs minute step (k ∷ hs) zero h (cons x xs) = subst (λ (m : ℕ). Near cs m k) (omega arith) x
-from-nth cs minute step (k ∷ hs) (suc n) h (cons x xs) = subst (λ (m : ℕ). Near cs m (getD hs n (pos 0))) (omega arith) (from-nth cs (minute + step) step hs n (omega arith) xs)
+module _ (months : List Month) where
+  from-nth : (minute step : ℕ) (hs : List ℤ) (n : ℕ) → n < length hs → AllNear months (pointsFrom minute step hs) → NearOver months (minute + n * step) (getD hs n (pos 0))
+  unfolding pointsFrom
+  from-nth minute step [] n h x = absurd (omega arith)
+  from-nth minute step (k ∷ hs) zero h (cons x xs) = subst (λ (m : ℕ). NearOver months m k) (omega arith) x
+  from-nth minute step (k ∷ hs) (suc n) h (cons x xs) = subst (λ (m : ℕ). NearOver months m (getD hs n (pos 0))) (omega arith) (from-nth (minute + step) step hs n (omega arith) xs)
 
-of-nth : (cs : List Constituent) (ms : List ℕ) (hs : List ℤ) (count n : ℕ) → n < count → n < length ms → n < length hs → AllNear cs (pointsOf (take count ms) (take count hs)) → Near cs (getD ms n 0) (getD hs n (pos 0))
-unfolding pointsOf
-of-nth cs ms hs zero n c i j x = absurd (omega arith)
-of-nth cs [] hs (suc count) n c i j x = absurd (omega arith)
-of-nth cs (m ∷ ms) [] (suc count) n c i j x = absurd (omega arith)
-of-nth cs (m ∷ ms) (h ∷ hs) (suc count) zero c i j (cons x xs) = x
-of-nth cs (m ∷ ms) (h ∷ hs) (suc count) (suc n) c i j (cons x xs) = of-nth cs ms hs count n (omega arith) (omega arith) (omega arith) xs
+  of-nth : (ms : List ℕ) (hs : List ℤ) (count n : ℕ) → n < count → n < length ms → n < length hs → AllNear months (pointsOf (take count ms) (take count hs)) → NearOver months (getD ms n 0) (getD hs n (pos 0))
+  unfolding pointsOf
+  of-nth ms hs zero n c i j x = absurd (omega arith)
+  of-nth [] hs (suc count) n c i j x = absurd (omega arith)
+  of-nth (m ∷ ms) [] (suc count) n c i j x = absurd (omega arith)
+  of-nth (m ∷ ms) (h ∷ hs) (suc count) zero c i j (cons x xs) = x
+  of-nth (m ∷ ms) (h ∷ hs) (suc count) (suc n) c i j (cons x xs) = of-nth ms hs count n (omega arith) (omega arith) (omega arith) xs
+
+  -- the series' points stand before the turns'
+  near-before : (ps qs : List Point) → AllNear months (ps ++ qs) → AllNear months ps
+  near-before [] qs x = nil
+  near-before (p ∷ ps) qs (cons x xs) = cons x (near-before ps qs xs)
+
+  near-behind : (ps qs : List Point) → AllNear months (ps ++ qs) → AllNear months qs
+  near-behind [] qs x = x
+  near-behind (p ∷ ps) qs (cons x xs) = near-behind ps qs xs
+
+-- a prepared month alone owns each minute
+alone : (m : Maybe Month) (minute : ℕ) (h : ℤ) → NearOver (preparedMonth m) minute h → Near (constituentsThere m) minute h
+unfolding ownerOf
+alone state.none minute h x = x
+alone (state.some m) minute h x = x
 
 -- ---- turns that are given stand in both buffers
 
@@ -62,17 +76,35 @@ abbrev Stand : Outcome TurnsFound → List ℕ → List ℤ → Type 0
 Stand (accepted f) ms hs = (f .count ≤ length ms) × (f .count ≤ length hs)
 Stand (refused number place) ms hs = Unit {0}
 
-abbrev AllStand : TurnsGiven → Type 0
-AllStand t = Stand (t .returned) (t .minutes) (t .heights)
-
 front-holds : {A : Type 0} (new old : List A) (n : ℕ) → length new ≡ n → n ≤ length (fromFront new old)
 front-holds new old n e = omega (arith, e, length-append new (drop (length new) old))
 
-turns-stand : (first last : ℕ) (ms : List ℕ) (hs : List ℤ) (t : Maybe Table) (s : Maybe station.Station) (m : Maybe Month)
-    → AllStand (turnsGives (record { table = t; station = s; month = m }) first last ms hs)
-turns-stand first last ms hs =
-    turns-give (λ m g. AllStand g) first last ms hs (λ m number. tt) (λ m ts.
-    (front-holds (minutesOf ts) ms (length ts) (as-many ts), front-holds (map (heightAt (m .constituents)) (minutesOf ts)) hs (length ts) (length-map (minutesOf ts) (heightAt (m .constituents)) ∙ as-many ts)))
+found-stand : (height : ℕ → ℤ) (ts : List Turn) (ms : List ℕ) (hs : List ℤ) → (length ts ≤ length (all-found height ts ms hs .minutes)) × (length ts ≤ length (all-found height ts ms hs .heights))
+found-stand height ts ms hs = (
+  front-holds (minutesOf ts) ms (length ts) (as-many ts),
+  front-holds (map height (minutesOf ts)) hs (length ts) (length-map (minutesOf ts) height ∙ as-many ts),
+)
+
+abbrev AllStand : Gave → Type 0
+AllStand (told r) = Unit {0}
+AllStand (predicted r) = Unit {0}
+AllStand (wrote s) = Unit {0}
+AllStand (found t) = Stand (t .returned) (t .minutes) (t .heights)
+AllStand (filled y) = Stand (y .returned) (y .minutes) (y .heights)
+AllStand (named names) = Unit {0}
+
+all-stand : (l : Last) (q : Request) → AllStand (gives l q)
+unfolding gives
+all-stand l (Cards file) = tt
+all-stand l (Station latitude records) = tt
+all-stand l (Date year month) = tt
+all-stand l (Height minute) = tt
+all-stand l (Series start step heights) = tt
+all-stand l (Turns first last ms hs) =
+    turns-give (λ m g. AllStand (found g)) first last ms hs (λ m number. tt) (λ m ts. found-stand (heightAt (m .constituents)) ts ms hs) (workedOut l .table) (workedOut l .station) (workedOut l .month)
+all-stand l (Year sheet ss ms hs) =
+    year-gives (λ months y. AllStand (filled y)) sheet ss ms hs (λ months number place. tt) (λ months ts. found-stand (heightOver months) ts ms hs) (workedOut l .table) (workedOut l .station) (workedOut l .month)
+all-stand l Names = tt
 
 -- what the last call of a list gives is what the document gives for it
 gives-last : (l : Last) (qs : List Request) (q : Request) → givesAll l (qs ++ q ∷ []) ≡ givesAll l qs ++ gives (lastAfter l qs) q ∷ []
@@ -91,34 +123,40 @@ last-is d (f ∷ gs) g = last-is f gs g
 last-exactly : (qs : List Request) (gs : List Gave) (q : Request) (g : Gave) → gs ++ g ∷ [] ≡ givesAll nothing (qs ++ q ∷ []) → g ≡ gives (lastAfter nothing qs) q
 last-exactly qs gs q g e = sym (last-is g gs g) ∙ ap (last-of g) (e ∙ gives-last nothing qs q) ∙ last-is g (givesAll nothing qs) (gives (lastAfter nothing qs) q)
 
--- what a call found, or nothing
-abbrev found-in : Gave → TurnsGiven
-found-in (told r) = record { returned = refused 0 0; minutes = []; heights = [] }
-found-in (predicted r) = record { returned = refused 0 0; minutes = []; heights = [] }
-found-in (wrote s) = record { returned = refused 0 0; minutes = []; heights = [] }
-found-in (found t) = t
-found-in (named names) = record { returned = refused 0 0; minutes = []; heights = [] }
-
-found-stand : (l : Last) (first last : ℕ) (ms : List ℕ) (hs : List ℤ) (t : TurnsGiven) → found t ≡ gives l (Turns first last ms hs) → AllStand t
-unfolding gives
-found-stand l first last ms hs t e =
-    subst AllStand (sym (ap found-in e)) (turns-stand first last ms hs (workedOut l .table) (workedOut l .station) (workedOut l .month))
+last-stands : (qs : List Request) (gs : List Gave) (q : Request) (g : Gave) → gs ++ g ∷ [] ≡ givesAll nothing (qs ++ q ∷ []) → AllStand g
+last-stands qs gs q g e = subst AllStand (sym (last-exactly qs gs q g e)) (all-stand (lastAfter nothing qs) q)
 
 -- ---- a height, a series, turns
 
+-- the month prepared by the calls before
+abbrev month-after : List Request → Maybe Month
+month-after qs = workedOut (lastAfter nothing qs) .month
+
 pub of-a-height : OfAHeight
-of-a-height qs gs minute h claim = first (last-near nothing qs gs _ _ (claim .near))
+of-a-height qs gs minute h claim = alone (month-after qs) minute h (first (last-near nothing qs gs _ _ (claim .near)))
   where
-    first : {cs : List Constituent} {p : Point} → AllNear cs (p ∷ []) → Near cs (p .minute) (p .height)
+    first : {months : List Month} {p : Point} → AllNear months (p ∷ []) → NearOver months (p .minute) (p .height)
     first (cons x xs) = x
 
 pub of-a-series : OfASeries
-of-a-series qs gs start step before left claim n h = from-nth _ start step left n h (last-near nothing qs gs _ _ (claim .near))
+of-a-series qs gs start step before left claim n h = alone (month-after qs) (start + n * step) (getD left n (pos 0)) (from-nth _ start step left n h (last-near nothing qs gs _ _ (claim .near)))
 
 pub of-turns : OfTurns
 of-turns qs gs first last ms ms′ hs hs′ count high claim n c =
-    let t : TurnsGiven = record { returned = accepted (record { count = count; high = high }); minutes = ms′; heights = hs′ } in
-    let there : (count ≤ length ms′) × (count ≤ length hs′) = found-stand (lastAfter nothing qs) first last ms hs t (last-exactly qs gs _ _ (claim .exactly)) in
+    let there : (count ≤ length ms′) × (count ≤ length hs′) = last-stands qs gs _ _ (claim .exactly) in
     let in-minutes : count ≤ length ms′ = there .0 in
     let in-heights : count ≤ length hs′ = there .1 in
-    of-nth _ ms′ hs′ count n c (omega arith) (omega arith) (last-near nothing qs gs _ _ (claim .near))
+    alone (month-after qs) (getD ms′ n 0) (getD hs′ n (pos 0)) (of-nth _ ms′ hs′ count n c (omega arith) (omega arith) (last-near nothing qs gs _ _ (claim .near)))
+
+-- ---- a year's series and turns
+
+pub of-a-years-series : OfAYearsSeries
+of-a-years-series qs gs sheet ss ss′ ms ms′ hs hs′ count high claim n h =
+    from-nth _ (sheet .start) (sheet .step) ss′ n h (near-before _ _ _ (last-near nothing qs gs _ _ (claim .near)))
+
+pub of-a-years-turns : OfAYearsTurns
+of-a-years-turns qs gs sheet ss ss′ ms ms′ hs hs′ count high claim n c =
+    let there : (count ≤ length ms′) × (count ≤ length hs′) = last-stands qs gs _ _ (claim .exactly) in
+    let in-minutes : count ≤ length ms′ = there .0 in
+    let in-heights : count ≤ length hs′ = there .1 in
+    of-nth _ ms′ hs′ count n c (omega arith) (omega arith) (near-behind _ (pointsFrom (sheet .start) (sheet .step) ss′) _ (last-near nothing qs gs _ _ (claim .near)))

@@ -34,14 +34,16 @@ use Rattle.calls.specs.State.{State}
 use Rattle.calls.specs.Names.{namesIn}
 use Rattle.clock.specs.Returned.{heightReturned, turnsReturned}
 use Rattle.calls.specs.Calls.{cardsReturns, cardsLeaves, stationReturns, stationLeaves, dateGives, dateReturns, dateLeaves, heightReturns, seriesHeights, seriesGives, turnsGives}
-use Rattle.clock.specs.Posts.{NewPost, CardsPost, StationPost, DatePost, HeightPost, SeriesPost, TurnsPost}
+use Rattle.calls.specs.declared.annual.Sheet.{Sheet}
+use Rattle.calls.specs.Year.{sheetAsked, yearGives}
+use Rattle.clock.specs.Posts.{NewPost, CardsPost, StationPost, DatePost, HeightPost, SeriesPost, TurnsPost, YearPost}
 use Rattle.cuvalimodo_c.specs.declared.answers.Verdict.{Verdict}
 use Rattle.cuvalimodo_c.specs.declared.answers.Reading.{Reading}
 use Rattle.cuvalimodo_c.specs.declared.answers.Turnings.{Turnings}
 use Rattle.cuvalimodo_c.specs.Answers.{verdictReturned, readingReturned, turningsReturned, verdictOf, readingOf, turningsOf, Plain, PlainReading, PlainTurnings}
-use Rattle.claim.specs.Document.{Cards, Station, Date, Height, Series, Turns, Names, told, predicted, wrote, found, named}
+use Rattle.claim.specs.Document.{Cards, Station, Date, Height, Series, Turns, Year, Names, told, predicted, wrote, found, filled, named}
 use Rattle.claim.specs.Calls.{Keeps, New, Call, Calls, done, _then_}
-use Rattle.claim.specs.Controls.{Controls, eachKind, eachRefused}
+use Rattle.claim.specs.Controls.{Controls, aSheet, eachKind, eachRefused}
 
 -- Wherever some memory satisfies what a call's `ensures` says, in the closed model, the call keeps its contract in the sense of `Calls`.
 pub backed : (P Q : (w : World) → SProp (w .𝓤)) (σ : Memory) (F : SProp (w₀ .𝓤)) → Satisfies (w₀ .𝓤) (w₀ .H) (w₀ .𝓜) σ (sep (w₀ .𝓤) (Q w₀) F) → Keeps P Q
@@ -104,6 +106,10 @@ module _ (c : Clock) (p : NewPost c) where
   unfolding turnsGives
   no-turns first last ms hs = record { gives = sym (ap (λ (k : State). turnsGives k first last ms hs) (p .leaves)) }
 
+  no-year : (sheet : Sheet) (ss : List ℤ) (ms : List ℕ) (hs : List ℤ) → YearPost c sheet ss ss ms ms hs hs (refused 21 0)
+  unfolding sheetAsked yearGives
+  no-year sheet ss ms hs = record { gives = sym (ap (λ (k : State). yearGives k sheet ss ms hs) (p .leaves)) }
+
 -- ---- each kind of call is there
 
 new-there : (c : Clock) → NewPost c → New c
@@ -139,6 +145,11 @@ turns-there : (c : Clock) (first last : ℕ) (ms ms′ : List ℕ) (hs hs′ : L
     → Call c (Turns first last ms hs) (found (record { returned = turnsReturned answer; minutes = ms′; heights = hs′ })) c
 turns-there c first last ms ms′ hs hs′ answer p =
     Call.searches {κs = ([], ([], tt))} {ms = lent ms} {hs = lent hs} {r = answer} (record { bound = λ w. tt; contract = kept _ _ p })
+
+year-there : (c : Clock) (sheet : Sheet) (ss ss′ : List ℤ) (ms ms′ : List ℕ) (hs hs′ : List ℤ) (answer : TurnsAnswer) → YearPost c sheet ss ss′ ms ms′ hs hs′ (turnsReturned answer)
+    → Call c (Year sheet ss ms hs) (filled (record { returned = turnsReturned answer; series = ss′; minutes = ms′; heights = hs′ })) c
+year-there c sheet ss ss′ ms ms′ hs hs′ answer p =
+    Call.years {κs = ([], ([], ([], tt)))} {ss = lent ss} {ms = lent ms} {hs = lent hs} {r = answer} (record { bound = λ w. tt; contract = kept _ _ p })
 
 names-there : (c : Clock) (r : TableNames) → namesFrom (r .bytes) 0 (r .count) ≡ namesIn (view c) → Call c Names (named (namesFrom (r .bytes) 0 (r .count))) c
 names-there c r p = Call.hands {r = r} (record { bound = λ w. tt; contract = kept _ _ p })
@@ -178,6 +189,11 @@ held-turns-there : (c : Clock) (first last : ℕ) (ms ms′ : List ℕ) (hs hs�
 held-turns-there c first last ms ms′ hs hs′ r p plain =
     Call.heldSearches {κs = ([], ([], ([], tt)))} {clock = lent c} {ms = lent ms} {hs = lent hs} {r = r} (record { bound = λ w. tt; contract = kept _ _ (p, plain) })
 
+held-year-there : (c : Clock) (sheet : Sheet) (ss ss′ : List ℤ) (ms ms′ : List ℕ) (hs hs′ : List ℤ) (r : Turnings) → YearPost c sheet ss ss′ ms ms′ hs hs′ (turningsReturned r) → PlainTurnings r
+    → Call c (Year sheet ss ms hs) (filled (record { returned = turningsReturned r; series = ss′; minutes = ms′; heights = hs′ })) c
+held-year-there c sheet ss ss′ ms ms′ hs hs′ r p plain =
+    Call.heldYears {κs = ([], ([], ([], ([], tt))))} {clock = lent c} {sheet = sheet} {ss = lent ss} {ms = lent ms} {hs = lent hs} {r = r} (record { bound = λ w. tt; contract = kept _ _ (p, plain) })
+
 held-names-there : (c : Clock) (r : TableNames) → namesFrom (r .bytes) 0 (r .count) ≡ namesIn (view c) → Call c Names (named (namesFrom (r .bytes) 0 (r .count))) c
 held-names-there c r p = Call.heldHands {κs = ([], tt)} {clock = lent c} {r = r} (record { bound = λ w. tt; contract = kept _ _ p })
 
@@ -190,12 +206,14 @@ each-kind c p =
     then height-there c 0 (height.Refused NoTable 0) (no-height c p 0)
     then series-there c 0 1 (pos 5 ∷ []) (pos 5 ∷ []) (Refused NoTable 0) (no-series c p 0 1 (pos 5 ∷ []))
     then turns-there c 0 1 (9 ∷ []) (9 ∷ []) (pos 5 ∷ []) (pos 5 ∷ []) (turns.Refused NoTable 0) (no-turns c p 0 1 (9 ∷ []) (pos 5 ∷ []))
+    then year-there c aSheet (pos 3 ∷ []) (pos 3 ∷ []) (9 ∷ []) (9 ∷ []) (pos 5 ∷ []) (pos 5 ∷ []) (turns.Refused NoTable 0) (no-year c p aSheet (pos 3 ∷ []) (9 ∷ []) (pos 5 ∷ []))
     then held-cards-there c c [] (verdictOf (refused 7 1)) (no-cards c p) refl
     then held-station-there c c (pos 0) [] (verdictOf (refused 21 0)) (no-station c p (pos 0) []) refl
     then held-date-there c c 1976 7 (verdictOf (refused 21 0)) (no-month c p 1976 7) refl
     then held-height-there c 0 (readingOf (refused 21 0)) (no-height c p 0) refl
     then held-series-there c 0 1 (pos 5 ∷ []) (pos 5 ∷ []) (verdictOf (refused 21 0)) (no-series c p 0 1 (pos 5 ∷ [])) refl
     then held-turns-there c 0 1 (9 ∷ []) (9 ∷ []) (pos 5 ∷ []) (pos 5 ∷ []) (turningsOf (refused 21 0)) (no-turns c p 0 1 (9 ∷ []) (pos 5 ∷ [])) refl
+    then held-year-there c aSheet (pos 3 ∷ []) (pos 3 ∷ []) (9 ∷ []) (9 ∷ []) (pos 5 ∷ []) (pos 5 ∷ []) (turningsOf (refused 21 0)) (no-year c p aSheet (pos 3 ∷ []) (9 ∷ []) (pos 5 ∷ [])) refl
     then lent-height-there c 0 (height.Refused NoTable 0) (no-height c p 0)
     then placing-there c c (pos 0) 0 noRows (Refused NoTable 0) (no-station c p (pos 0) [])
     then names-there c (record { count = 0; bytes = [] }) (sym (ap namesIn (p .leaves)))
@@ -213,6 +231,7 @@ controls =
       height = height-there;
       series = series-there;
       turns = turns-there;
+      year = year-there;
       names = names-there;
       held-new = held-new-there;
       held-cards = held-cards-there;
@@ -222,6 +241,7 @@ controls =
       held-height = held-height-there;
       held-series = held-series-there;
       held-turns = held-turns-there;
+      held-year = held-year-there;
       held-names = held-names-there;
       each-kind = each-kind;
     }

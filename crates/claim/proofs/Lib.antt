@@ -1,3 +1,4 @@
+pub mod Given
 pub mod Points
 pub mod Decided
 pub mod Backed

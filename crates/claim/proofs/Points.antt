@@ -1,127 +1,114 @@
--- Each height that the document gives for a list of calls is near the exact sum at its own minute. Rests on the distance of one height
--- (`height-is-near` of heights), over the cases of what a call returns. Assumes nothing.
+-- Each height that the document gives for a list of calls is near the exact sum of its own month at its own minute. Rests on the distance of
+-- one height (`height-is-near` of heights), over the cases of what a call gives (`Given`). Assumes nothing.
 use Prim.Native.Nat.{ℕ, zero, suc, _+_, _*_}
-use mathlib.Core.Bool.{Bool, true, false}
-use mathlib.Core.List.{List, [], _∷_, map}
+use mathlib.Core.List.{List, [], _∷_, _++_, map}
 use mathlib.Core.Path.{_≡_, subst, _∙_}
 use native.Mathlib.Omega.{arith}
 use lib.ListN.{length, take, drop, length-map}
 use lib.Seq.{take-at}
 use lib.IntN.{ℤ}
-use Rattle.refusals.specs.Outcome.{accepted, refused, refuseIf, answered, onAccepted}
+use Rattle.refusals.specs.Outcome.{answered, onAccepted}
 use Rattle.table.specs.Table.{Table}
 use Rattle.station.specs.Station as station
-use Rattle.month_prepared.specs.Prepared.{Constituent, Month}
-use Rattle.heights.specs.Height.{heightAt}
+use Rattle.month_prepared.specs.Prepared.{Month}
+use Rattle.month_prepared.specs.Months.{ownerOf}
+use Rattle.heights.specs.Exact.{NearOver}
+use Rattle.heights.specs.Height.{heightAt, heightOver}
 use Rattle.heights.specs.Series.{seriesFrom, seriesOf}
 use Rattle.heights.proofs.distance.Distance.{height-is-near}
-use Rattle.turns.specs.Slope.{slopeAt}
-use Rattle.turns.specs.Search.{Turn, turnsOf}
-use Rattle.turns.specs.Strides.{stationStride}
-use Rattle.turns.specs.Written.{TurnsGiven, unlessRefused, tooMany, fromFront, given}
-use Rattle.turns.specs.Search.{firstHigh, minutesOf}
-use Rattle.calls.specs.State as state
+use Rattle.turns.specs.Search.{Turn, minutesOf}
+use Rattle.turns.specs.Written.{TurnsGiven, fromFront}
 use Rattle.calls.specs.State.{Maybe}
-use Rattle.calls.specs.Calls.{ready, heightReturns, seriesHeights, seriesGives, turnsGives}
-use Rattle.calls.specs.Asked.{minuteOutside, seriesOutside, turnsOutside}
-use Rattle.calls.proofs.Posed.{Asked, height-of, series-of, turns-of}
-use Rattle.claim.specs.Document.{Request, Cards, Station, Date, Height, Series, Turns, Names, Last, workedOut, after, gives, givesAll, Point, heightPoints, pointsFrom, seriesPoints, pointsOf, turnsPoints, points, constituentsThere, lastConstituents, AllNear, nil, cons, EachNear, end, next}
+use Rattle.calls.specs.Calls.{heightReturns, seriesHeights, seriesGives, turnsGives}
+use Rattle.calls.specs.Asked.{minuteOutside, seriesOutside}
+use Rattle.calls.specs.declared.annual.Sheet.{Sheet}
+use Rattle.calls.specs.Year.{yearGives}
+use Rattle.calls.proofs.Posed.{height-of, series-of}
+use Rattle.claim.specs.Document.{Request, Cards, Station, Date, Height, Series, Turns, Year, Names, Last, workedOut, after, gives, givesAll, Point, heightPoints, pointsFrom, seriesPoints, pointsOf, turnsPoints, sheetPoints, points, preparedMonth, monthsOn, monthsFor, AllNear, nil, cons, EachNear, end, next}
+use Rattle.claim.proofs.Given.{ready-by, all-found, turns-give, as-many, year-gives}
 
--- ---- what is asked first: a refusal, or the month that is there
+-- ---- one height, of a month alone and of months that follow one another
 
-ready-by : (P : Maybe Month → Asked → Type 0) (outside : Month → Bool) → ((m : Maybe Month) (number : ℕ) → P m (refused number 0))
-    → ((t : Table) (s : station.Station) (m : Month) → P (state.some m) (accepted (t, s, m)))
-    → (t : Maybe Table) (s : Maybe station.Station) (m : Maybe Month) → P m (ready outside (record { table = t; station = s; month = m }))
-ready-by P outside turned there state.none s m = turned m 21
-ready-by P outside turned there (state.some t) state.none m = turned m 22
-ready-by P outside turned there (state.some t) (state.some s) state.none = turned state.none 23
-ready-by P outside turned there (state.some t) (state.some s) (state.some m) = nine (outside m)
-  where
-    nine : (past : Bool) → P (state.some m) (refuseIf past 9 0 (accepted (t, s, m)))
-    nine true = turned (state.some m) 9
-    nine false = there t s m
+alone-near : (m : Month) (minute : ℕ) → NearOver (m ∷ []) minute (heightAt (m .constituents) minute)
+unfolding ownerOf
+alone-near m minute = height-is-near (m .constituents) minute
 
--- ---- a height
+over-near : (months : List Month) (minute : ℕ) → NearOver months minute (heightOver months minute)
+over-near months minute = height-is-near (ownerOf months minute .month .constituents) (ownerOf months minute .minute)
 
-height-near : (minute : ℕ) (t : Maybe Table) (s : Maybe station.Station) (m : Maybe Month)
-    → AllNear (constituentsThere m) (heightPoints minute (heightReturns (record { table = t; station = s; month = m }) minute))
-unfolding heightReturns
-height-near minute =
-    ready-by (λ m o. AllNear (constituentsThere m) (heightPoints minute (height-of minute o))) (λ m. minuteOutside (m .last) minute) (λ m number. nil)
-    (λ t s m. cons (height-is-near (m .constituents) minute) nil)
-
--- ---- a series
-
-from-near : (cs : List Constituent) (start step j n : ℕ) → AllNear cs (pointsFrom (start + j * step) step (seriesFrom (heightAt cs) start step j n))
-unfolding pointsFrom seriesFrom
-from-near cs start step j zero = nil
-from-near cs start step j (suc n) =
-    let on : start + (j + 1) * step ≡ start + j * step + step = omega arith in
-    cons (height-is-near cs (start + j * step)) (subst (λ (m : ℕ). AllNear cs (pointsFrom m step (seriesFrom (heightAt cs) start step (j + 1) n))) on (from-near cs start step (j + 1) n))
-
-series-near : (start step : ℕ) (heights : List ℤ) (t : Maybe Table) (s : Maybe station.Station) (m : Maybe Month)
-    → AllNear (constituentsThere m) (seriesPoints start step (seriesGives (record { table = t; station = s; month = m }) start step heights .returned) (seriesGives (record { table = t; station = s; month = m }) start step heights .heights))
-unfolding seriesGives seriesHeights
-series-near start step heights =
-    ready-by (λ m o. AllNear (constituentsThere m) (seriesPoints start step (answered (series-of start step (length heights) o)) (onAccepted (series-of start step (length heights) o) (λ new. new) heights)))
-    (λ m. seriesOutside (m .last) start step (length heights)) (λ m number. nil)
-    (λ t s m. subst (λ (k : ℕ). AllNear (m .constituents) (pointsFrom k step (seriesOf (heightAt (m .constituents)) start step (length heights)))) (let e : start + 0 * step ≡ start = omega arith in e) (from-near (m .constituents) start step 0 (length heights)))
-
--- ---- turns
-
-pairs-near : (cs : List Constituent) (ms : List ℕ) → AllNear cs (pointsOf ms (map (heightAt cs) ms))
-unfolding pointsOf
-pairs-near cs [] = nil
-pairs-near cs (m ∷ ms) = cons (height-is-near cs m) (pairs-near cs ms)
-
-abbrev foundPoints : TurnsGiven → List Point
-foundPoints g = turnsPoints (g .returned) (g .minutes) (g .heights)
+-- ---- a series and turns, where the height at each minute is near
 
 -- what stands in front of a buffer is what was put there
 front-is : {A : Type 0} (new old : List A) (n : ℕ) → length new ≡ n → take n (fromFront new old) ≡ new
 front-is new old n e = take-at new (drop (length new) old) n e
 
--- what a search for turns gives: a refusal, with both buffers as they were, or what was found, in front of both
-pub turns-give : (P : Maybe Month → TurnsGiven → Type 0) (first last : ℕ) (ms : List ℕ) (hs : List ℤ)
-    → ((m : Maybe Month) (number : ℕ) → P m (record { returned = refused number 0; minutes = ms; heights = hs }))
-    → ((m : Month) (ts : List Turn) → P (state.some m) (record {
-      returned = accepted (record { count = length ts; high = firstHigh ts });
-      minutes = fromFront (minutesOf ts) ms;
-      heights = fromFront (map (heightAt (m .constituents)) (minutesOf ts)) hs;
-    }))
-    → (t : Maybe Table) (s : Maybe station.Station) (m : Maybe Month) → P m (turnsGives (record { table = t; station = s; month = m }) first last ms hs)
-unfolding turnsGives given
-turns-give P first last ms hs none-found all-found =
-    ready-by (λ m o. P m (turns-of first last ms hs o))
-    (λ m. turnsOutside (m .last) first last) none-found
-    (λ t s m. room m (turnsOf (slopeAt (m .constituents)) (stationStride t s) first last) (tooMany (turnsOf (slopeAt (m .constituents)) (stationStride t s) first last) (length ms) (length hs)))
-  where
-    room : (m : Month) (ts : List Turn) (short : Bool) → P (state.some m) (unlessRefused (refuseIf short 10 0 (accepted ts)) ms hs λ ts.
-        (record { returned = accepted (record { count = length ts; high = firstHigh ts }); minutes = fromFront (minutesOf ts) ms; heights = fromFront (map (heightAt (m .constituents)) (minutesOf ts)) hs }))
-    room m ts true = none-found (state.some m) 10
-    room m ts false = all-found m ts
+abbrev foundPoints : TurnsGiven → List Point
+foundPoints g = turnsPoints (g .returned) (g .minutes) (g .heights)
 
-pub as-many : (ts : List Turn) → length (minutesOf ts) ≡ length ts
-as-many ts = length-map ts (λ (u : Turn). u .minute)
+module _ (months : List Month) (height : ℕ → ℤ) (near : (minute : ℕ) → NearOver months minute (height minute)) where
+  from-near : (start step j n : ℕ) → AllNear months (pointsFrom (start + j * step) step (seriesFrom height start step j n))
+  unfolding pointsFrom seriesFrom
+  from-near start step j zero = nil
+  from-near start step j (suc n) =
+      let on : start + (j + 1) * step ≡ start + j * step + step = omega arith in
+      cons (near (start + j * step)) (subst (λ (m : ℕ). AllNear months (pointsFrom m step (seriesFrom height start step (j + 1) n))) on (from-near start step (j + 1) n))
 
-turns-near : (first last : ℕ) (ms : List ℕ) (hs : List ℤ) (t : Maybe Table) (s : Maybe station.Station) (m : Maybe Month)
-    → AllNear (constituentsThere m) (foundPoints (turnsGives (record { table = t; station = s; month = m }) first last ms hs))
-turns-near first last ms hs =
-    turns-give (λ m g. AllNear (constituentsThere m) (foundPoints g)) first last ms hs (λ m number. nil) (λ m ts.
-    rw (front-is (minutesOf ts) ms (length ts) (as-many ts), front-is (map (heightAt (m .constituents)) (minutesOf ts)) hs (length ts) (length-map (minutesOf ts) (heightAt (m .constituents)) ∙ as-many ts))
-    (pairs-near (m .constituents) (minutesOf ts)))
+  series-near : (start step n : ℕ) → AllNear months (pointsFrom start step (seriesOf height start step n))
+  series-near start step n =
+      let e : start + 0 * step ≡ start = omega arith in
+      subst (λ (k : ℕ). AllNear months (pointsFrom k step (seriesOf height start step n))) e (from-near start step 0 n)
+
+  pairs-near : (ms : List ℕ) → AllNear months (pointsOf ms (map height ms))
+  unfolding pointsOf
+  pairs-near [] = nil
+  pairs-near (m ∷ ms) = cons (near m) (pairs-near ms)
+
+  turns-near : (ts : List Turn) (ms : List ℕ) (hs : List ℤ) → AllNear months (foundPoints (all-found height ts ms hs))
+  turns-near ts ms hs =
+      rw (front-is (minutesOf ts) ms (length ts) (as-many ts), front-is (map height (minutesOf ts)) hs (length ts) (length-map (minutesOf ts) height ∙ as-many ts))
+      (pairs-near (minutesOf ts))
+
+both-near : {months : List Month} (ps qs : List Point) → AllNear months ps → AllNear months qs → AllNear months (ps ++ qs)
+both-near [] qs nil ys = ys
+both-near (p ∷ ps) qs (cons x xs) ys = cons x (both-near ps qs xs ys)
+
+-- ---- what each call gives, from whatever state
+
+module _ (t : Maybe Table) (s : Maybe station.Station) (m : Maybe Month) where
+  height-given : (minute : ℕ) → AllNear (preparedMonth m) (heightPoints minute (heightReturns (record { table = t; station = s; month = m }) minute))
+  unfolding heightReturns
+  height-given minute =
+      ready-by (λ m o. AllNear (preparedMonth m) (heightPoints minute (height-of minute o))) (λ m. minuteOutside (m .last) minute) (λ m number. nil)
+      (λ t s m. cons (alone-near m minute) nil) t s m
+
+  series-given : (start step : ℕ) (heights : List ℤ)
+      → AllNear (preparedMonth m) (seriesPoints start step (seriesGives (record { table = t; station = s; month = m }) start step heights .returned) (seriesGives (record { table = t; station = s; month = m }) start step heights .heights))
+  unfolding seriesGives seriesHeights
+  series-given start step heights =
+      ready-by (λ m o. AllNear (preparedMonth m) (seriesPoints start step (answered (series-of start step (length heights) o)) (onAccepted (series-of start step (length heights) o) (λ new. new) heights)))
+      (λ m. seriesOutside (m .last) start step (length heights)) (λ m number. nil) (λ t s m. series-near (m ∷ []) (heightAt (m .constituents)) (alone-near m) start step (length heights)) t s m
+
+  turns-given : (first last : ℕ) (ms : List ℕ) (hs : List ℤ) → AllNear (preparedMonth m) (foundPoints (turnsGives (record { table = t; station = s; month = m }) first last ms hs))
+  turns-given first last ms hs =
+      turns-give (λ m g. AllNear (preparedMonth m) (foundPoints g)) first last ms hs (λ m number. nil) (λ m ts. turns-near (m ∷ []) (heightAt (m .constituents)) (alone-near m) ts ms hs) t s m
+
+  year-given : (sheet : Sheet) (ss : List ℤ) (ms : List ℕ) (hs : List ℤ) → AllNear (monthsOn t s (sheet .year)) (sheetPoints sheet (yearGives (record { table = t; station = s; month = m }) sheet ss ms hs))
+  year-given sheet ss ms hs =
+      year-gives (λ months y. AllNear months (sheetPoints sheet y)) sheet ss ms hs (λ months number place. nil) (λ months ts.
+      both-near _ _ (series-near months (heightOver months) (over-near months) (sheet .start) (sheet .step) (length ss)) (turns-near months (heightOver months) (over-near months) ts ms hs)) t s m
 
 -- ---- the list
 
-near-call : (l : Last) (q : Request) → AllNear (lastConstituents l) (points q (gives l q))
+near-call : (l : Last) (q : Request) → AllNear (monthsFor l q) (points q (gives l q))
 unfolding gives
 near-call l (Cards file) = nil
 near-call l (Station latitude records) = nil
 near-call l (Date year month) = nil
 near-call l Names = nil
-near-call l (Height minute) = height-near minute (workedOut l .table) (workedOut l .station) (workedOut l .month)
-near-call l (Series start step heights) = series-near start step heights (workedOut l .table) (workedOut l .station) (workedOut l .month)
-near-call l (Turns first last minutes heights) = turns-near first last minutes heights (workedOut l .table) (workedOut l .station) (workedOut l .month)
+near-call l (Height minute) = height-given (workedOut l .table) (workedOut l .station) (workedOut l .month) minute
+near-call l (Series start step heights) = series-given (workedOut l .table) (workedOut l .station) (workedOut l .month) start step heights
+near-call l (Turns first last minutes heights) = turns-given (workedOut l .table) (workedOut l .station) (workedOut l .month) first last minutes heights
+near-call l (Year sheet series minutes heights) = year-given (workedOut l .table) (workedOut l .station) (workedOut l .month) sheet series minutes heights
 
 pub near-calls : (l : Last) (qs : List Request) → EachNear l qs (givesAll l qs)
 unfolding givesAll

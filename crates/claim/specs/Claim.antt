@@ -1,5 +1,5 @@
--- 01, demand 3: THE CLAIM, as it is proved (proofs/Claim.antt), and what it says of a single height, of a series and of turns
--- (proofs/AtEachHeight.antt).
+-- 01, demand 3: THE CLAIM, as it is proved (proofs/Claim.antt), and what it says of a single height, of a series, of turns and of a year's
+-- sheet (proofs/AtEachHeight.antt).
 -- Assumes nothing.
 use Prim.Native.Nat.{ℕ, _+_, _*_, _<_}
 use mathlib.Core.Bool.{Bool}
@@ -7,10 +7,11 @@ use mathlib.Core.List.{List, [], _∷_, _++_}
 use mathlib.Core.Path.{_≡_}
 use lib.IntN.{ℤ, pos}
 use lib.ListN.{length, getD}
-use Rattle.heights.specs.Exact.{Near}
+use Rattle.heights.specs.Exact.{Near, NearOver}
 use Rattle.refusals.specs.Outcome.{accepted}
+use Rattle.calls.specs.declared.annual.Sheet.{Sheet}
 use Rattle.clock.specs.declared.Clock.{Clock}
-use Rattle.claim.specs.Document.{Request, Height, Series, Turns, Gave, predicted, wrote, found, Last, nothing, lastConstituents, givesAll, lastAfter, EachNear}
+use Rattle.claim.specs.Document.{Request, Height, Series, Turns, Year, Gave, predicted, wrote, found, filled, Last, nothing, lastConstituents, lastYear, givesAll, lastAfter, EachNear}
 use Rattle.claim.specs.Calls.{New, Calls}
 
 -- `exactly`: what the calls return and write is what the document gives for the list, all of it and no other: each call accepted or refused
@@ -51,3 +52,18 @@ OfTurns =
     (qs : List Request) (gs : List Gave) (first last : ℕ) (ms ms′ : List ℕ) (hs hs′ : List ℤ) (count : ℕ) (high : Bool)
     → Claim (qs ++ Turns first last ms hs ∷ []) (gs ++ found (record { returned = accepted (record { count = count; high = high }); minutes = ms′; heights = hs′ }) ∷ [])
     → (n : ℕ) → n < count → Near (lastConstituents (Before qs)) (getD ms′ n 0) (getD hs′ n (pos 0))
+
+-- 02, No. 1: "Every height on the sheet keeps the distance from its own month's exact sum that a single month has". The series' height n, from 0,
+-- belongs to minute start + n × step of the year
+abbrev pub OfAYearsSeries : Type 0
+OfAYearsSeries =
+    (qs : List Request) (gs : List Gave) (sheet : Sheet) (ss ss′ : List ℤ) (ms ms′ : List ℕ) (hs hs′ : List ℤ) (count : ℕ) (high : Bool)
+    → Claim (qs ++ Year sheet ss ms hs ∷ []) (gs ++ filled (record { returned = accepted (record { count = count; high = high }); series = ss′; minutes = ms′; heights = hs′ }) ∷ [])
+    → (n : ℕ) → n < length ss′ → NearOver (lastYear (Before qs) (sheet .year)) (sheet .start + n * sheet .step) (getD ss′ n (pos 0))
+
+-- a turn's height to the minute of the year written with it
+abbrev pub OfAYearsTurns : Type 0
+OfAYearsTurns =
+    (qs : List Request) (gs : List Gave) (sheet : Sheet) (ss ss′ : List ℤ) (ms ms′ : List ℕ) (hs hs′ : List ℤ) (count : ℕ) (high : Bool)
+    → Claim (qs ++ Year sheet ss ms hs ∷ []) (gs ++ filled (record { returned = accepted (record { count = count; high = high }); series = ss′; minutes = ms′; heights = hs′ }) ∷ [])
+    → (n : ℕ) → n < count → NearOver (lastYear (Before qs) (sheet .year)) (getD ms′ n 0) (getD hs′ n (pos 0))

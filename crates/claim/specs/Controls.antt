@@ -12,6 +12,7 @@ use Rattle.columns.specs.Names.{namesFrom}
 use Rattle.station.specs.declared.records.Record.{Record}
 use Rattle.station.specs.declared.records.Rows.{Rows}
 use Rattle.station.specs.Records.{recordsOf}
+use Rattle.calls.specs.declared.annual.Sheet.{Sheet}
 use Rattle.clock.specs.declared.Clock.{Clock}
 use Rattle.clock.specs.declared.HeightAnswer.{HeightAnswer}
 use Rattle.clock.specs.declared.TurnsAnswer.{TurnsAnswer}
@@ -19,26 +20,32 @@ use Rattle.clock.specs.declared.TableNames.{TableNames}
 use Rattle.clock.specs.View.{view}
 use Rattle.calls.specs.Names.{namesIn}
 use Rattle.clock.specs.Returned.{heightReturned, turnsReturned}
-use Rattle.clock.specs.Posts.{NewPost, CardsPost, StationPost, DatePost, HeightPost, SeriesPost, TurnsPost}
+use Rattle.clock.specs.Posts.{NewPost, CardsPost, StationPost, DatePost, HeightPost, SeriesPost, TurnsPost, YearPost}
 use Rattle.cuvalimodo_c.specs.declared.answers.Verdict.{Verdict}
 use Rattle.cuvalimodo_c.specs.declared.answers.Reading.{Reading}
 use Rattle.cuvalimodo_c.specs.declared.answers.Turnings.{Turnings}
 use Rattle.cuvalimodo_c.specs.Answers.{verdictReturned, readingReturned, turningsReturned, Plain, PlainReading, PlainTurnings}
-use Rattle.claim.specs.Document.{Request, Cards, Station, Date, Height, Series, Turns, Names, Gave, told, predicted, wrote, found, named}
+use Rattle.claim.specs.Document.{Request, Cards, Station, Date, Height, Series, Turns, Year, Names, Gave, told, predicted, wrote, found, filled, named}
 use Rattle.claim.specs.Calls.{New, Call, Calls}
 
--- the calls of 01, and what a clock with no table gives for them: an empty card file ends inside its first part, 7 at line 1; the others find
+-- the calls of the papers, and what a clock with no table gives for them: an empty card file ends inside its first part, 7 at line 1; the others find
 -- no table, 21, and leave the lent places as they were
+abbrev pub aSheet : Sheet
+aSheet = record { year = 1976; start = 0; step = 1; first = 0; last = 1 }
+
 abbrev each : List Request
-each = Cards [] ∷ Station (pos 0) [] ∷ Date 1976 7 ∷ Height 0 ∷ Series 0 1 (pos 5 ∷ []) ∷ Turns 0 1 (9 ∷ []) (pos 5 ∷ []) ∷ []
+each =
+    Cards [] ∷ Station (pos 0) [] ∷ Date 1976 7 ∷ Height 0 ∷ Series 0 1 (pos 5 ∷ []) ∷ Turns 0 1 (9 ∷ []) (pos 5 ∷ [])
+    ∷ Year aSheet (pos 3 ∷ []) (9 ∷ []) (pos 5 ∷ []) ∷ []
 
 abbrev refusals : List Gave
 refusals =
     told (refused 7 1) ∷ told (refused 21 0) ∷ told (refused 21 0) ∷ predicted (refused 21 0)
     ∷ wrote (record { returned = refused 21 0; heights = pos 5 ∷ [] })
-    ∷ found (record { returned = refused 21 0; minutes = 9 ∷ []; heights = pos 5 ∷ [] }) ∷ []
+    ∷ found (record { returned = refused 21 0; minutes = 9 ∷ []; heights = pos 5 ∷ [] })
+    ∷ filled (record { returned = refused 21 0; series = pos 3 ∷ []; minutes = 9 ∷ []; heights = pos 5 ∷ [] }) ∷ []
 
--- a list with each kind of call in it: a call of 01 with the clock by value, and with the clock lent; a height of `clock::height_lent`, a
+-- a list with each kind of call in it: a call of the papers with the clock by value, and with the clock lent; a height of `clock::height_lent`, a
 -- station whose records are in arrays, and the names, of which there are none, with the clock by value and lent
 abbrev pub eachKind : List Request
 eachKind = each ++ each ++ Height 0 ∷ Station (pos 0) [] ∷ Names ∷ Names ∷ []
@@ -59,6 +66,8 @@ pub record Controls : Type 2 where
       → Call c (Series start step hs) (wrote (record { returned = outcomeOf answer; heights = hs′ })) c
   pub turns : (c : Clock) (first last : ℕ) (ms ms′ : List ℕ) (hs hs′ : List ℤ) (answer : TurnsAnswer) → TurnsPost c first last ms ms′ hs hs′ (turnsReturned answer)
       → Call c (Turns first last ms hs) (found (record { returned = turnsReturned answer; minutes = ms′; heights = hs′ })) c
+  pub year : (c : Clock) (sheet : Sheet) (ss ss′ : List ℤ) (ms ms′ : List ℕ) (hs hs′ : List ℤ) (answer : TurnsAnswer) → YearPost c sheet ss ss′ ms ms′ hs hs′ (turnsReturned answer)
+      → Call c (Year sheet ss ms hs) (filled (record { returned = turnsReturned answer; series = ss′; minutes = ms′; heights = hs′ })) c
   pub names : (c : Clock) (r : TableNames) → namesFrom (r .bytes) 0 (r .count) ≡ namesIn (view c) → Call c Names (named (namesFrom (r .bytes) 0 (r .count))) c
   -- with the clock lent: c is what is behind the reference
   pub held-new : (c c′ : Clock) → NewPost c′ → New c′
@@ -72,5 +81,7 @@ pub record Controls : Type 2 where
       → Call c (Series start step hs) (wrote (record { returned = verdictReturned r; heights = hs′ })) c
   pub held-turns : (c : Clock) (first last : ℕ) (ms ms′ : List ℕ) (hs hs′ : List ℤ) (r : Turnings) → TurnsPost c first last ms ms′ hs hs′ (turningsReturned r) → PlainTurnings r
       → Call c (Turns first last ms hs) (found (record { returned = turningsReturned r; minutes = ms′; heights = hs′ })) c
+  pub held-year : (c : Clock) (sheet : Sheet) (ss ss′ : List ℤ) (ms ms′ : List ℕ) (hs hs′ : List ℤ) (r : Turnings) → YearPost c sheet ss ss′ ms ms′ hs hs′ (turningsReturned r) → PlainTurnings r
+      → Call c (Year sheet ss ms hs) (filled (record { returned = turningsReturned r; series = ss′; minutes = ms′; heights = hs′ })) c
   pub held-names : (c : Clock) (r : TableNames) → namesFrom (r .bytes) 0 (r .count) ≡ namesIn (view c) → Call c Names (named (namesFrom (r .bytes) 0 (r .count))) c
   pub each-kind : (c : Clock) → NewPost c → Calls c eachKind eachRefused c

@@ -1,25 +1,29 @@
--- 01, "Heights and turns", demand 3: what the document says of a list of calls. Over the calls alone, with all that is lent to them:
+-- 01, "Heights and turns", demand 3, and 02, No. 1: what the documents say of a list of calls. Over the calls alone, with all that is lent to them:
 -- no clock, and nothing that a program keeps.
 -- Assumes nothing.
 use Prim.{Unit}
 use Prim.Native.Nat.{ℕ, _+_}
-use mathlib.Core.List.{List, [], _∷_}
+use mathlib.Core.List.{List, [], _∷_, _++_}
 use lib.ListN.{take}
 use lib.IntN.{ℤ}
-use Rattle.refusals.specs.Outcome.{Outcome, onAccepted}
+use Rattle.refusals.specs.Outcome.{Outcome, onAccepted, _>>=_}
 use Rattle.table.specs.Table.{Table}
 use Rattle.card_file.specs.Cards.{cardsOutcome}
 use Rattle.station.specs.declared.records.Record.{Record}
 use Rattle.station.specs.Station as station
 use Rattle.month_prepared.specs.Prepared.{Constituent, Month}
-use Rattle.heights.specs.Exact.{Near}
+use Rattle.year.specs.Year.{yearOf}
+use Rattle.heights.specs.Exact.{NearOver}
 use Rattle.calls.specs.State.{Maybe, none, some, State}
 use Rattle.calls.specs.Names.{namesIn}
 use Rattle.turns.specs.Written.{TurnsFound, TurnsGiven}
 use Rattle.calls.specs.Calls.{cardsReturns, stationReturns, dateGives, dateReturns, heightReturns, SeriesGiven, seriesGives, turnsGives}
+use Rattle.calls.specs.declared.annual.Sheet.{Sheet}
+use Rattle.calls.specs.Year.{yearAsked, YearGiven, yearGives}
 
--- "The calls are a card file, a station, a date, a height, a series and turns", each with all that is lent to it; and, though it is no call of
--- 01 and gives nothing of the tide, the clock's handing out of names
+-- "The calls are a card file, a station, a date, a height, a series and turns", each with all that is lent to it; "A call that a change request
+-- adds to the clock joins the list": 02's year; and, though it is no call of the papers and gives nothing of the tide, the clock's handing out of
+-- names
 pub data Request : Type 0 where
   Cards : List ℕ → Request
   Station : ℤ → List Record → Request
@@ -27,6 +31,7 @@ pub data Request : Type 0 where
   Height : ℕ → Request
   Series : ℕ → ℕ → List ℤ → Request
   Turns : ℕ → ℕ → List ℕ → List ℤ → Request
+  Year : Sheet → List ℤ → List ℕ → List ℤ → Request
   Names : Request
 
 -- what a call gives: what it returns, and its lent buffers as it leaves them
@@ -35,6 +40,7 @@ pub data Gave : Type 0 where
   predicted : Outcome ℤ → Gave
   wrote : SeriesGiven → Gave
   found : TurnsGiven → Gave
+  filled : YearGiven → Gave
   named : List (List ℕ) → Gave
 
 -- a date as it is lent
@@ -85,6 +91,8 @@ after l (Date year month) =
 after l (Height minute) = l
 after l (Series start step heights) = l
 after l (Turns first end minutes heights) = l
+-- "the prepared month stays, whether the year is given or refused"
+after l (Year sheet series minutes heights) = l
 after l Names = l
 
 -- what the document gives for a call, from what was last accepted before it
@@ -95,6 +103,7 @@ gives l (Date year month) = told (dateReturns (workedOut l) year month)
 gives l (Height minute) = predicted (heightReturns (workedOut l) minute)
 gives l (Series start step heights) = wrote (seriesGives (workedOut l) start step heights)
 gives l (Turns first end minutes heights) = found (turnsGives (workedOut l) first end minutes heights)
+gives l (Year sheet series minutes heights) = filled (yearGives (workedOut l) sheet series minutes heights)
 gives l Names = named (namesIn (workedOut l))
 
 -- what it gives for each call of a list, the first one first
@@ -122,7 +131,7 @@ unfoldable pub pointsFrom : ℕ → ℕ → List ℤ → List Point
 pointsFrom minute step [] = []
 pointsFrom minute step (h ∷ hs) = record { minute = minute; height = h } ∷ pointsFrom (minute + step) step hs
 
-abbrev pub seriesPoints : ℕ → ℕ → Outcome Unit → List ℤ → List Point
+abbrev pub seriesPoints : {A : Type 0} → ℕ → ℕ → Outcome A → List ℤ → List Point
 seriesPoints start step returned heights = onAccepted returned (λ _. pointsFrom start step heights) []
 
 -- "a turn's height at the minute written with it"
@@ -134,6 +143,11 @@ pointsOf (m ∷ ms) (h ∷ hs) = record { minute = m; height = h } ∷ pointsOf 
 abbrev pub turnsPoints : Outcome TurnsFound → List ℕ → List ℤ → List Point
 turnsPoints returned minutes heights = onAccepted returned (λ f. pointsOf (take (f .count) minutes) (take (f .count) heights)) []
 
+-- "Every height on the sheet": those of the series and those of the turns, at minutes "counted from 1 January"
+abbrev pub sheetPoints : Sheet → YearGiven → List Point
+sheetPoints sheet y =
+    seriesPoints (sheet .start) (sheet .step) (y .returned) (y .series) ++ turnsPoints (y .returned) (y .minutes) (y .heights)
+
 -- "The claim covers each height that a call in the list gives"
 abbrev pub points : Request → Gave → List Point
 points (Cards file) g = []
@@ -144,17 +158,26 @@ points (Height minute) (told r) = []
 points (Height minute) (predicted r) = heightPoints minute r
 points (Height minute) (wrote s) = []
 points (Height minute) (found t) = []
+points (Height minute) (filled y) = []
 points (Height minute) (named names) = []
 points (Series start step heights) (told r) = []
 points (Series start step heights) (predicted r) = []
 points (Series start step heights) (wrote s) = seriesPoints start step (s .returned) (s .heights)
 points (Series start step heights) (found t) = []
+points (Series start step heights) (filled y) = []
 points (Series start step heights) (named names) = []
 points (Turns first end minutes heights) (told r) = []
 points (Turns first end minutes heights) (predicted r) = []
 points (Turns first end minutes heights) (wrote s) = []
 points (Turns first end minutes heights) (found t) = turnsPoints (t .returned) (t .minutes) (t .heights)
+points (Turns first end minutes heights) (filled y) = []
 points (Turns first end minutes heights) (named names) = []
+points (Year sheet series minutes heights) (told r) = []
+points (Year sheet series minutes heights) (predicted r) = []
+points (Year sheet series minutes heights) (wrote s) = []
+points (Year sheet series minutes heights) (found t) = []
+points (Year sheet series minutes heights) (filled y) = sheetPoints sheet y
+points (Year sheet series minutes heights) (named names) = []
 
 -- V, P and Q of the station's constituents, worked out from what was last accepted
 abbrev pub constituentsThere : Maybe Month → List Constituent
@@ -164,13 +187,36 @@ constituentsThere (some month) = month .constituents
 abbrev pub lastConstituents : Last → List Constituent
 lastConstituents l = constituentsThere (workedOut l .month)
 
--- each point near the exact sum
-pub data AllNear (cs : List Constituent) : List Point → Type 0 where
-  nil : AllNear cs []
-  cons : {p : Point} {ps : List Point} → Near cs (p .minute) (p .height) → AllNear cs ps → AllNear cs (p ∷ ps)
+-- the prepared month alone, where there is one
+abbrev pub preparedMonth : Maybe Month → List Month
+preparedMonth none = []
+preparedMonth (some month) = month ∷ []
+
+-- "Each month uses its own weights": the months of a year, from the cards and the station last accepted; none where the year is refused
+abbrev pub monthsOn : Maybe Table → Maybe station.Station → ℕ → List Month
+monthsOn t s year = onAccepted (yearAsked t s year >>= λ (table, station). yearOf table station year) (λ months. months) []
+
+abbrev pub lastYear : Last → ℕ → List Month
+lastYear l year = monthsOn (workedOut l .table) (workedOut l .station) year
+
+-- the months that the heights of a call belong to: the year's own for a year's sheet, else the prepared one
+abbrev pub monthsFor : Last → Request → List Month
+monthsFor l (Cards file) = preparedMonth (workedOut l .month)
+monthsFor l (Station latitude records) = preparedMonth (workedOut l .month)
+monthsFor l (Date year month) = preparedMonth (workedOut l .month)
+monthsFor l (Height minute) = preparedMonth (workedOut l .month)
+monthsFor l (Series start step heights) = preparedMonth (workedOut l .month)
+monthsFor l (Turns first end minutes heights) = preparedMonth (workedOut l .month)
+monthsFor l (Year sheet series minutes heights) = lastYear l (sheet .year)
+monthsFor l Names = preparedMonth (workedOut l .month)
+
+-- each point near the exact sum of the month that owns its minute
+pub data AllNear (months : List Month) : List Point → Type 0 where
+  nil : AllNear months []
+  cons : {p : Point} {ps : List Point} → NearOver months (p .minute) (p .height) → AllNear months ps → AllNear months (p ∷ ps)
 
 -- each height that a call of the list gives, near the exact sum that follows from what was last accepted before that call
 pub data EachNear : Last → List Request → List Gave → Type 0 where
   end : {l : Last} → EachNear l [] []
   next : {l : Last} {q : Request} {qs : List Request} {g : Gave} {gs : List Gave}
-      → AllNear (lastConstituents l) (points q g) → EachNear (after l q) qs gs → EachNear l (q ∷ qs) (g ∷ gs)
+      → AllNear (monthsFor l q) (points q g) → EachNear (after l q) qs gs → EachNear l (q ∷ qs) (g ∷ gs)

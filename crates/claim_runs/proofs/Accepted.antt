@@ -10,7 +10,7 @@ use mir.Val.{Val}
 use Rattle.limits.specs.Limits.{mostMinutes}
 use Rattle.cosine.specs.Fraction.{factorial, arc, unit, term, added, taken, whole, base}
 use Rattle.cosine.specs.Fixed.{entry, fixedBase, fixedCosine}
-use Rattle.calendar.specs.Calendar.{isFourth, monthDays, monthMinutes, monthsDays, yearsDays, dayCount, between, inRange}
+use Rattle.calendar.specs.Calendar.{isFourth, monthDays, monthMinutes, monthsDays, yearMinutes, yearsDays, dayCount, between, inRange}
 use Rattle.columns.specs.Bytes.{every, leading, behind}
 use Rattle.columns.specs.Lines.{linesOf}
 use Rattle.columns.specs.Columns.{padded}
@@ -38,13 +38,15 @@ use Rattle.month_satellites.specs.Satellites.{sumOver, mainPair}
 use Rattle.month_pairs.specs.Pairs.{checked}
 use Rattle.month_pairs.specs.Shallow.{mainCorrected}
 use Rattle.month_workings.specs.Worked.{argumentOf, correctionOf}
-use Rattle.month_prepared.specs.Prepared.{Constituent}
+use Rattle.month_prepared.specs.Prepared.{Constituent, Month}
+use Rattle.month_prepared.specs.Months.{ownerOf}
 use Rattle.month.specs.Month.{monthDay, weight, constituent, recordsPrepared, monthOf}
+use Rattle.year.specs.Year.{monthsFrom, yearOf}
 use Rattle.heights.specs.Angle.{angle}
 use Rattle.heights.specs.Share.{share}
-use Rattle.heights.specs.Height.{sumOfShares, heightAt}
+use Rattle.heights.specs.Height.{sumOfShares, heightAt, heightOver}
 use Rattle.heights.specs.Series.{seriesFrom}
-use Rattle.turns.specs.Slope.{fall, fallsAt, slopeAt}
+use Rattle.turns.specs.Slope.{fall, fallsAt, slopeAt, slopeOver}
 use Rattle.turns.specs.Sense.{rising, differ}
 use Rattle.turns.specs.Search.{turnsFrom}
 use Rattle.turns.specs.Stride.{strideOf}
@@ -54,11 +56,12 @@ use Rattle.calls.specs.State.{Maybe, none, some}
 use Rattle.calls.specs.Names.{namesIn}
 use Rattle.refusals.specs.Outcome.{accepted}
 use Rattle.calls.specs.Calls.{cardsReturns, stationReturns, dateGives, dateReturns, heightReturns, seriesHeights, seriesGives, turnsGives}
+use Rattle.calls.specs.Year.{sheetAsked, yearGives}
 use Rattle.clock.proofs.Clock.Laws as ClockLaws
 use Rattle.claim.specs.Zeroed.{zeroed, zeroOf}
 use Rattle.claim.proofs.Zeros.{zeros-are-zeroed}
 use Rattle.claim.specs.Document.{Last, workedOut, gives, after, givesAll}
-use Rattle.claim_runs.specs.Accepted.{z0, frequencyLine, fiveLine, mainLine, cardLines, ended, smallFile, z0-records, acceptedCalls, AcceptedByTheDocument, AcceptedFrom, AcceptedByTheMachine}
+use Rattle.claim_runs.specs.Accepted.{z0, frequencyLine, fiveLine, mainLine, cardLines, ended, smallFile, z0-records, year-sheet, acceptedCalls, AcceptedByTheDocument, AcceptedFrom, AcceptedByTheMachine}
 use Rattle.claim_runs.specs.Values.{clockAt, zeroMemory}
 use Rattle.claim_runs.specs.Runs.{Started, GiveAll}
 use Rattle.claim_runs.proofs.EachKind.{all-reached, new-run, held-new-run}
@@ -121,11 +124,29 @@ month-is : monthOf table z0-station 1976 7 ≡ accepted z0-month
 unfolding monthOf recordsPrepared definitionAt firstWith constituent weight argumentOf argument correctionOf mainCorrected checked mainPair sumOver times longitudesOn longitude monthDay dayCount yearsDays monthsDays monthDays isFourth
 month-is = refl
 
+-- in each month of a year
+abbrev z0-in : ℕ → Month
+z0-in last = record { last = last; constituents = z0-month }
+
+-- 1976, with 29 days in February
+abbrev z0-year : List Month
+z0-year =
+    z0-in 44_640 ∷ z0-in 41_760 ∷ z0-in 44_640 ∷ z0-in 43_200 ∷ z0-in 44_640 ∷ z0-in 43_200 ∷ z0-in 44_640 ∷ z0-in 44_640 ∷ z0-in 43_200 ∷ z0-in 44_640 ∷ z0-in 43_200
+    ∷ z0-in 44_640 ∷ []
+
+year-is : yearOf table z0-station 1976 ≡ accepted z0-year
+unfolding monthsFrom monthMinutes monthOf recordsPrepared definitionAt firstWith constituent weight argumentOf argument correctionOf mainCorrected checked mainPair sumOver times longitudesOn longitude monthDay dayCount yearsDays monthsDays monthDays isFourth
+year-is = refl
+
 -- ---- its heights and turns
 
 height-is : heightAt z0-month 0 ≡ pos 100
 unfolding heightAt sumOfShares share angle fixedCosine fixedBase entry base added taken whole term factorial arc unit
 height-is = refl
+
+over-is : heightOver z0-year 0 ≡ pos 100
+unfolding ownerOf
+over-is = height-is
 
 stride-is : stationStride table z0-station ≡ 180
 unfolding stationStride strideOf amplitudeOf placeFrom same
@@ -135,6 +156,11 @@ stride-is = refl
 turns-are : (more : ℕ) → turnsFrom (slopeAt z0-month) 180 360 (suc (suc (suc more))) 0 ≡ []
 unfolding turnsFrom differ rising slopeAt fallsAt fall angle fixedCosine fixedBase entry base added taken whole term factorial arc unit
 turns-are more = refl
+
+-- .. in the year as in the month
+year-turns-are : (more : ℕ) → turnsFrom (slopeOver z0-year) 180 360 (suc (suc (suc more))) 0 ≡ []
+unfolding turnsFrom differ rising slopeAt fallsAt fall angle fixedCosine fixedBase entry base added taken whole term factorial arc unit ownerOf
+year-turns-are more = refl
 
 -- ---- what was last accepted, and what follows from it
 
@@ -194,13 +220,21 @@ turns-given : turnsGives (workedOut afterDate) 0 360 [] [] ≡ record { returned
 unfolding turnsGives written.given
 turns-given = rw (month-worked, stride-is, turns-are 357)
 
+year-given : yearGives (workedOut afterDate) year-sheet [] [] [] ≡ record { returned = accepted (record { count = 0; high = false }); series = []; minutes = []; heights = [] }
+unfolding sheetAsked yearGives written.given seriesFrom between yearMinutes monthsDays monthDays isFourth
+year-given = rw (month-worked, year-is, stride-is, year-turns-are 357)
+
+one-of-a-year : yearGives (workedOut afterDate) year-sheet (pos 0 ∷ []) [] [] ≡ record { returned = accepted (record { count = 0; high = false }); series = pos 100 ∷ []; minutes = []; heights = [] }
+unfolding sheetAsked yearGives written.given seriesFrom between yearMinutes monthsDays monthDays isFourth
+one-of-a-year = rw (month-worked, year-is, over-is, stride-is, year-turns-are 357)
+
 names-given : namesIn (workedOut afterDate) ≡ z0 ∷ []
 names-given = rw month-worked
 
 pub accepted-by-the-document : AcceptedByTheDocument
 unfolding givesAll gives after
 accepted-by-the-document =
-    rw (cards-accepted, none-accepted, station-accepted (some none-station), station-accepted none, date-accepted, height-given, series-given, one-given, turns-given, names-given)
+    rw (cards-accepted, none-accepted, station-accepted (some none-station), station-accepted none, date-accepted, height-given, series-given, one-given, turns-given, year-given, one-of-a-year, names-given)
 
 -- the machine's runs of these calls give what the document gives
 accepted-from : (vc : Val) → Started vc → AcceptedFrom vc

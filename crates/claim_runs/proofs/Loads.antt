@@ -128,6 +128,16 @@ turns-left σ ms ms′ b o hs hs′ b₁ o₁ F m n s =
     ∥∥₁-elim (minutes-read σ ms′ b o (Q ∗ F) (in-front σ P Q F s)) ∥∥₁-prop (λ d.
     ∥∥₁-map (heights-left σ hs hs′ b₁ o₁ (P ∗ F) n (behind σ P Q F s)) (λ e. (sym d ∙ ap (minutesAt σ b o) m, e)))
 
+pub sheet-left : (σ : Memory) (ss ss′ : List ℤ) (b o : ℕ) (ms ms′ : List ℕ) (b₁ o₁ : ℕ) (hs hs′ : List ℤ) (b₂ o₂ : ℕ) (F : Assertion) → length ss′ ≡ length ss → length ms′ ≡ length ms → length hs′ ≡ length hs
+    → σ ⊨ ⟦ fsep (cells (mem i64) ss′ b o) (fsep (cells (mem u32) ms′ b₁ o₁) (fsep (cells (mem i64) hs′ b₂ o₂) ftrue)) ⟧₀ ∗ F
+    → ∥ (_≡_ {A = List ℤ × (List ℕ × List ℤ)} (ss′, (ms′, hs′)) (heightsAt σ b o (length ss), (minutesAt σ b₁ o₁ (length ms), heightsAt σ b₂ o₂ (length hs)))) ∥₁
+sheet-left σ ss ss′ b o ms ms′ b₁ o₁ hs hs′ b₂ o₂ F l m n s =
+    let P : Assertion = ⟦ cells (mem i64) ss′ b o ⟧₀ in
+    let Q : Assertion = ⟦ fsep (cells (mem u32) ms′ b₁ o₁) (fsep (cells (mem i64) hs′ b₂ o₂) ftrue) ⟧₀ in
+    ∥∥₁-elim (heights-read σ ss′ b o (Q ∗ F) (in-front σ P Q F s)) ∥∥₁-prop (λ d.
+    ∥∥₁-map (turns-left σ ms ms′ b₁ o₁ hs hs′ b₂ o₂ (P ∗ F) m n (behind σ P Q F s)) (λ e.
+    ap₂ (λ (xs : List ℤ) (zs : List ℕ × List ℤ). (xs, zs)) (sym d ∙ ap (heightsAt σ b o) l) (ap₂ (λ (ys : List ℕ) (zs : List ℤ). (ys, zs)) (e .0) (e .1))))
+
 -- ---- memory of nothing but zeros
 
 pub zeros-load : Is ClockType.the-row zeroed (clockAt zeroMemory 0 0 ∷ [])

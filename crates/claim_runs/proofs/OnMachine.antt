@@ -35,7 +35,7 @@ use Rattle.cuvalimodo_c.proofs.cuvalimodo_new as heldNew
 use Rattle.cuvalimodo_c.proofs.cuvalimodo_new.Symbol as heldNewCode
 use Rattle.cuvalimodo_c.proofs.cuvalimodo_new.Met as heldNewMet
 use Rattle.claim.specs.Zeroed.{zeroed}
-use Rattle.claim.specs.Document.{Request, Cards, Station, Date, Series, Turns, Gave, told, predicted, wrote, found, named, Last, nothing, after, gives, givesAll, lastAfter}
+use Rattle.claim.specs.Document.{Request, Cards, Station, Date, Series, Turns, Year, Gave, told, predicted, wrote, found, filled, named, Last, nothing, after, gives, givesAll, lastAfter}
 use Rattle.claim.specs.Calls as call
 use Rattle.claim.specs.Calls.{Call}
 use Rattle.claim.proofs.Points.{near-calls}
@@ -43,11 +43,11 @@ use Rattle.claim.proofs.Decided.{gave-once}
 use Rattle.claim.proofs.Claim.{Agrees, new-agrees, call-agrees}
 use Rattle.claim_runs.specs.Handed.{Assertion, _∗_, ⟦_⟧₀, _⊨_, Handed, value, sees, changes, At, Written, lieAfter, Ran, Leaves}
 use Rattle.claim_runs.specs.Values.{clockIn, answerIn, turnsIn, verdictIn, turningsIn, clockAt}
-use Rattle.claim_runs.specs.Runs.{Run, loads, stations, placed, dates, heights, serieses, searches, hands, heldLoads, heldStations, heldDates, lentHeights, heldHeights, heldSerieses, heldSearches, heldHands, Gives, Started, returned, left, zeros, Runs, done, _then_, GiveAll}
+use Rattle.claim_runs.specs.Runs.{Run, loads, stations, placed, dates, heights, serieses, searches, years, hands, heldLoads, heldStations, heldDates, lentHeights, heldHeights, heldSerieses, heldSearches, heldYears, heldHands, Gives, Started, returned, left, zeros, Runs, done, _then_, GiveAll}
 use Rattle.claim_runs.specs.OnMachine.{OfAnyRuns, Returns, EveryCallEnds, AlwaysEnds}
 use Rattle.claim_runs.proofs.Handing.{Came, comes, every-comes}
-use Rattle.claim_runs.proofs.Parameters.{clock-makes, clock-lawful, Callable, new-takes, load-call, station-call, placing-call, date-call, height-call, series-call, turns-call, names-call, clock-means, held-new-takes, held-load-call, held-station-call, held-date-call, lent-height-call, held-height-call, held-series-call, held-turns-call, held-names-call}
-use Rattle.claim_runs.proofs.Loads.{zeros-load, in-front, behind, value-loads, heights-left, turns-left}
+use Rattle.claim_runs.proofs.Parameters.{clock-makes, clock-lawful, Callable, new-takes, load-call, station-call, placing-call, date-call, height-call, series-call, turns-call, year-call, names-call, clock-means, held-new-takes, held-load-call, held-station-call, held-date-call, lent-height-call, held-height-call, held-series-call, held-turns-call, held-year-call, held-names-call}
+use Rattle.claim_runs.proofs.Loads.{zeros-load, in-front, behind, value-loads, heights-left, turns-left, sheet-left}
 use Rattle.claim_runs.proofs.Laid.{laid}
 use Rattle.claim_runs.proofs.Values.{answer-reads, height-reads, turns-reads, names-read, after-reads, clock-is, verdict-reads, reading-reads, turnings-read}
 
@@ -104,7 +104,7 @@ module _ {vc : Val} (l : Last) (h : Holds vc l) where
 
   -- a run gives what the document gives, and leaves a clock that holds what is worked out after it
   run-gives : {vc′ : Val} {q : Request} (x : Run vc q vc′) → ∥ (Gives x (gives l q) × Holds vc′ (after l q)) ∥₁
-  unfolding Gives load-call station-call placing-call date-call height-call series-call turns-call names-call held-load-call held-station-call held-date-call lent-height-call held-height-call held-series-call held-turns-call held-names-call
+  unfolding Gives load-call station-call placing-call date-call height-call series-call turns-call year-call names-call held-load-call held-station-call held-date-call lent-height-call held-height-call held-series-call held-turns-call held-year-call held-names-call
   run-gives (loads {file = file} {q = q} {b = b} {o = o} x) =
       ∥∥₁-elim (ran (load-call (h .clock) vc file q b o) (on-value x)) ∥∥₁-prop (λ k.
       ∥∥₁-map (left-anew (k .result) (k .is) (call.loads (k .once))) (λ a. ((k .leaves, a .0 ∙ ap told (sym (after-reads (k .result) (x .value) (k .is)))), a .1)))
@@ -138,6 +138,17 @@ module _ {vc : Val} (l : Last) (h : Holds vc l) where
         subst (λ (zs : List ℕ × List ℤ). Leaves x (zs .0, (zs .1, tt)) × (gives l (Turns first last ms hs) ≡ found (record { returned = turnsIn (x .value); minutes = zs .0; heights = zs .1 })))
             (ap₂ (λ (ys : List ℕ) (zs : List ℤ). (ys, zs)) (e .0) (e .1))
             (k .leaves, a .0 ∙ ap (λ (r : Outcome TurnsFound). found (record { returned = r; minutes = ms′; heights = hs′ })) (sym (turns-reads (k .result) (x .value) (k .is)))),
+        a .1,
+      ))))
+  run-gives (years {sheet = sheet} {vs = vs} {ss = ss} {b = b} {o = o} {ms = ms} {b₁ = b₁} {o₁ = o₁} {hs = hs} {b₂ = b₂} {o₂ = o₂} x) =
+      ∥∥₁-elim (ran (year-call (h .clock) vc sheet vs ss b o ms b₁ o₁ hs b₂ o₂) (on-value x)) ∥∥₁-prop (λ k.
+      let ss′ : List ℤ = k .last .1 .1 .0 in
+      let ms′ : List ℕ = k .last .1 .1 .1 .0 in
+      let hs′ : List ℤ = k .last .1 .1 .1 .1 .0 in
+      ∥∥₁-elim (sheet-left (x .left) ss ss′ b o ms ms′ b₁ o₁ hs hs′ b₂ o₂ (x .rest) (k .as-many .0) (k .as-many .1 .0) (k .as-many .1 .1 .0) (k .leaves)) ∥∥₁-prop (λ e.
+      ∥∥₁-map (left-same (call.years (k .once))) (λ a. (
+        subst (λ (zs : List ℤ × (List ℕ × List ℤ)). Leaves x (zs .0, (zs .1 .0, (zs .1 .1, tt))) × (gives l (Year sheet ss ms hs) ≡ filled (record { returned = turnsIn (x .value); series = zs .0; minutes = zs .1 .0; heights = zs .1 .1 }))) e
+            (k .leaves, a .0 ∙ ap (λ (r : Outcome TurnsFound). filled (record { returned = r; series = ss′; minutes = ms′; heights = hs′ })) (sym (turns-reads (k .result) (x .value) (k .is)))),
         a .1,
       ))))
   run-gives (hands x) =
@@ -176,6 +187,17 @@ module _ {vc : Val} (l : Last) (h : Holds vc l) where
             (k .leaves, a .0 ∙ ap (λ (r : Outcome TurnsFound). found (record { returned = r; minutes = ms′; heights = hs′ })) (sym (turnings-read (k .result) (x .value) (k .is)))),
         a .1,
       ))))
+  run-gives (heldYears {s = s} {b = b} {o = o} {sheet = sheet} {vy = vy} {vs = vs} {vt = vt} {vf = vf} {vl = vl} {ss = ss} {b₁ = b₁} {o₁ = o₁} {ms = ms} {b₂ = b₂} {o₂ = o₂} {hs = hs} {b₃ = b₃} {o₃ = o₃} x) =
+      ∥∥₁-elim (ran (held-year-call (h .clock) vc (h .is) s b o sheet vy vs vt vf vl ss b₁ o₁ ms b₂ o₂ hs b₃ o₃) x) ∥∥₁-prop (λ k.
+      let ss′ : List ℤ = k .last .1 .1 .1 .1 .1 .1 .0 in
+      let ms′ : List ℕ = k .last .1 .1 .1 .1 .1 .1 .1 .0 in
+      let hs′ : List ℤ = k .last .1 .1 .1 .1 .1 .1 .1 .1 .0 in
+      ∥∥₁-elim (sheet-left (x .left) ss ss′ b₁ o₁ ms ms′ b₂ o₂ hs hs′ b₃ o₃ (⟦ At ClockType.the-row s vc b o ⟧₀ ∗ x .rest) (k .as-many .0) (k .as-many .1 .0) (k .as-many .1 .1 .0) (beside-clock x (ss′, (ms′, (hs′, tt))) (k .leaves))) ∥∥₁-prop (λ e.
+      ∥∥₁-map (left-same (call.heldYears (k .once))) (λ a. (
+        subst (λ (zs : List ℤ × (List ℕ × List ℤ)). Leaves x (zs .0, (zs .1 .0, (zs .1 .1, tt))) × (gives l (Year sheet ss ms hs) ≡ filled (record { returned = turningsIn (x .value); series = zs .0; minutes = zs .1 .0; heights = zs .1 .1 }))) e
+            (k .leaves, a .0 ∙ ap (λ (r : Outcome TurnsFound). filled (record { returned = r; series = ss′; minutes = ms′; heights = hs′ })) (sym (turnings-read (k .result) (x .value) (k .is)))),
+        a .1,
+      ))))
   run-gives (heldHands {s = s} {b = b} {o = o} x) =
       ∥∥₁-elim (ran (held-names-call (h .clock) vc (h .is) s b o) x) ∥∥₁-prop (λ k.
       ∥∥₁-map (left-same (call.heldHands (k .once))) (λ a. ((k .leaves, a .0 ∙ ap named (sym (names-read (k .result) (x .value) (k .is)))), a .1)))
@@ -197,6 +219,7 @@ module _ {vc : Val} (l : Last) (h : Holds vc l) where
         heights = λ minute vm. ends-on (height-call (h .clock) vc minute vm);
         serieses = λ start step vs vt hs b o. ends-on (series-call (h .clock) vc start step vs vt hs b o);
         searches = λ first last vf vl ms b o hs b₁ o₁. ends-on (turns-call (h .clock) vc first last vf vl ms b o hs b₁ o₁);
+        years = λ sheet vs ss b o ms b₁ o₁ hs b₂ o₂. ends-on (year-call (h .clock) vc sheet vs ss b o ms b₁ o₁ hs b₂ o₂);
         hands = ends-on (names-call (h .clock) vc);
         laid = laid ClockType.the-row (clock-means (h .clock) vc (h .is)) clock-lawful;
         heldLoads = λ b o file q b₁ o₁. ends-lent (held-load-call (h .clock) vc (h .is) b o file q b₁ o₁);
@@ -206,6 +229,7 @@ module _ {vc : Val} (l : Last) (h : Holds vc l) where
         heldHeights = λ s b o minute vm. ends-lent (held-height-call (h .clock) vc (h .is) s b o minute vm);
         heldSerieses = λ s b o start step vs vt hs b₁ o₁. ends-lent (held-series-call (h .clock) vc (h .is) s b o start step vs vt hs b₁ o₁);
         heldSearches = λ s b o first last vf vl ms b₁ o₁ hs b₂ o₂. ends-lent (held-turns-call (h .clock) vc (h .is) s b o first last vf vl ms b₁ o₁ hs b₂ o₂);
+        heldYears = λ s b o sheet vy vs vt vf vl ss b₁ o₁ ms b₂ o₂ hs b₃ o₃. ends-lent (held-year-call (h .clock) vc (h .is) s b o sheet vy vs vt vf vl ss b₁ o₁ ms b₂ o₂ hs b₃ o₃);
         heldHands = λ s b o. ends-lent (held-names-call (h .clock) vc (h .is) s b o);
       }
 
@@ -230,6 +254,7 @@ gives-once (dates x) g = ×-prop (lies-once (x .left) _) (gave-once g _)
 gives-once (heights x) g = ×-prop (lies-once (x .left) _) (gave-once g _)
 gives-once (serieses x) g = ×-prop (lies-once (x .left) _) (gave-once g _)
 gives-once (searches x) g = ×-prop (lies-once (x .left) _) (gave-once g _)
+gives-once (years x) g = ×-prop (lies-once (x .left) _) (gave-once g _)
 gives-once (hands x) g = ×-prop (lies-once (x .left) _) (gave-once g _)
 gives-once (heldLoads x) g = ×-prop (lies-once (x .left) _) (gave-once g _)
 gives-once (heldStations x) g = ×-prop (lies-once (x .left) _) (gave-once g _)
@@ -238,6 +263,7 @@ gives-once (lentHeights x) g = ×-prop (lies-once (x .left) _) (gave-once g _)
 gives-once (heldHeights x) g = ×-prop (lies-once (x .left) _) (gave-once g _)
 gives-once (heldSerieses x) g = ×-prop (lies-once (x .left) _) (gave-once g _)
 gives-once (heldSearches x) g = ×-prop (lies-once (x .left) _) (gave-once g _)
+gives-once (heldYears x) g = ×-prop (lies-once (x .left) _) (gave-once g _)
 gives-once (heldHands x) g = ×-prop (lies-once (x .left) _) (gave-once g _)
 
 all-once : {vc vc′ : Val} {qs : List Request} (xs : Runs vc qs vc′) (gs : List Gave) → IsProp (GiveAll xs gs)

@@ -21,6 +21,9 @@ use Rattle.station.specs.declared.records.Rows.{Rows}
 use Rattle.station.proofs.records.Record as RecordType
 use Rattle.station.proofs.records.Rows as RowsType
 use Rattle.station.proofs.records.Rows.Laws as RowsLaws
+use Rattle.calls.specs.declared.annual.Sheet.{Sheet}
+use Rattle.calls.proofs.annual.Sheet as SheetType
+use Rattle.calls.proofs.annual.Sheet.Laws as SheetLaws
 use Rattle.clock.specs.declared.Clock.{Clock}
 use Rattle.clock.specs.View.{Made}
 use Rattle.clock.proofs.Clock as ClockType
@@ -50,6 +53,9 @@ use Rattle.clock.proofs.series.Met as seriesMet
 use Rattle.clock.proofs.turns as turns
 use Rattle.clock.proofs.turns.Symbol as turnsCode
 use Rattle.clock.proofs.turns.Met as turnsMet
+use Rattle.clock.proofs.year as year
+use Rattle.clock.proofs.year.Symbol as yearCode
+use Rattle.clock.proofs.year.Met as yearMet
 use Rattle.clock.proofs.names as names
 use Rattle.clock.proofs.names.Symbol as namesCode
 use Rattle.clock.proofs.names.Met as namesMet
@@ -72,6 +78,9 @@ use Rattle.cuvalimodo_c.proofs.cuvalimodo_series.Met as heldSeriesMet
 use Rattle.cuvalimodo_c.proofs.cuvalimodo_turns as heldTurns
 use Rattle.cuvalimodo_c.proofs.cuvalimodo_turns.Symbol as heldTurnsCode
 use Rattle.cuvalimodo_c.proofs.cuvalimodo_turns.Met as heldTurnsMet
+use Rattle.cuvalimodo_c.proofs.cuvalimodo_year as heldYear
+use Rattle.cuvalimodo_c.proofs.cuvalimodo_year.Symbol as heldYearCode
+use Rattle.cuvalimodo_c.proofs.cuvalimodo_year.Met as heldYearMet
 use Rattle.cuvalimodo_c.proofs.cuvalimodo_names as heldNames
 use Rattle.cuvalimodo_c.proofs.cuvalimodo_names.Symbol as heldNamesCode
 use Rattle.cuvalimodo_c.proofs.cuvalimodo_names.Met as heldNamesMet
@@ -92,6 +101,9 @@ clock-lawful = LL.lawful ClockType.the-type ClockLaws.the-laws (w₀ .𝓤) (w�
 
 pub rows-make : Makes (w₀ .𝓤) (w₀ .H) (w₀ .𝓖 .A) RowsType.the-row (Is RowsType.the-row)
 rows-make = LL.makes RowsType.the-type RowsLaws.the-plain (w₀ .𝓤) (w₀ .H) (w₀ .𝓖 .A)
+
+pub sheet-makes : Makes (w₀ .𝓤) (w₀ .H) (w₀ .𝓖 .A) SheetType.the-row (Is SheetType.the-row)
+sheet-makes = LL.makes SheetType.the-type SheetLaws.the-plain (w₀ .𝓤) (w₀ .H) (w₀ .𝓖 .A)
 
 pub u32-makes : Makes (w₀ .𝓤) (w₀ .H) (w₀ .𝓖 .A) u32 (Is u32)
 u32-makes = uint-makes (w₀ .𝓤) (w₀ .H) (w₀ .𝓖 .A) W₀ w32
@@ -212,6 +224,18 @@ module _ (c : Clock) (vc : Val) where
         takes = record { enters = λ ns. ((lifetimes all ns, wholes all, tt, denotes 0 all tt ns, valuesOf 0 all ns), (λ w. tt), refl, refl, refl); writes = λ ns ws. ((ws .1 .1 .1 .0, (ws .1 .1 .1 .1 .0, tt)), refl) };
       }
 
+  unfoldable pub year-call : (sheet : Sheet) (vs : Val) (ss : List ℤ) (b o : ℕ) (ms : List ℕ) (b₁ o₁ : ℕ) (hs : List ℤ) (b₂ o₂ : ℕ) → Callable c yearCode.routine (clock ∷ value SheetType.the-row sheet vs ∷ writes i64 ss b o ∷ writes u32 ms b₁ o₁ ∷ writes i64 hs b₂ o₂ ∷ [])
+  year-call sheet vs ss b o ms b₁ o₁ hs b₂ o₂ =
+      let all : List Handed = clock ∷ value SheetType.the-row sheet vs ∷ writes i64 ss b o ∷ writes u32 ms b₁ o₁ ∷ writes i64 hs b₂ o₂ ∷ [] in
+      record {
+        ended = year.ended;
+        clauses = λ M. year.clauses;
+        met = λ M. yearMet.met;
+        meant = tt;
+        makes = (clock-makes, (sheet-makes, tt));
+        takes = record { enters = λ ns. ((lifetimes all ns, wholes all, tt, denotes 0 all tt ns, valuesOf 0 all ns), (λ w. tt), refl, refl, refl); writes = λ ns ws. ((ws .1 .1 .0, (ws .1 .1 .1 .0, (ws .1 .1 .1 .1 .0, tt))), refl) };
+      }
+
   unfoldable pub names-call : Callable c namesCode.routine (clock ∷ [])
   names-call =
       let all : List Handed = clock ∷ [] in
@@ -317,6 +341,18 @@ module _ (c : Clock) (vc : Val) (is : Is ClockType.the-row c (vc ∷ [])) where
         meant = (clock-means, tt);
         makes = (clock-makes, (u32-makes, (u32-makes, tt)));
         takes = record { enters = λ ns. ((lifetimes all ns, wholes all, tt, denotes 0 all (clock-means, tt) ns, valuesOf 0 all ns), (λ w. tt), refl, refl, refl); writes = λ ns ws. ((ws .1 .1 .1 .0, (ws .1 .1 .1 .1 .0, tt)), refl) };
+      }
+
+  unfoldable pub held-year-call : (s : Share) (b o : ℕ) (sheet : Sheet) (vy vs vt vf vl : Val) (ss : List ℤ) (b₁ o₁ : ℕ) (ms : List ℕ) (b₂ o₂ : ℕ) (hs : List ℤ) (b₃ o₃ : ℕ) → Callable c heldYearCode.routine (sees ClockType.the-row s vc b o ∷ value u32 (sheet .year) vy ∷ value u32 (sheet .start) vs ∷ value u32 (sheet .step) vt ∷ value u32 (sheet .first) vf ∷ value u32 (sheet .last) vl ∷ writes i64 ss b₁ o₁ ∷ writes u32 ms b₂ o₂ ∷ writes i64 hs b₃ o₃ ∷ [])
+  held-year-call s b o sheet vy vs vt vf vl ss b₁ o₁ ms b₂ o₂ hs b₃ o₃ =
+      let all : List Handed = sees ClockType.the-row s vc b o ∷ value u32 (sheet .year) vy ∷ value u32 (sheet .start) vs ∷ value u32 (sheet .step) vt ∷ value u32 (sheet .first) vf ∷ value u32 (sheet .last) vl ∷ writes i64 ss b₁ o₁ ∷ writes u32 ms b₂ o₂ ∷ writes i64 hs b₃ o₃ ∷ [] in
+      record {
+        ended = heldYear.ended;
+        clauses = λ M. heldYear.clauses;
+        met = λ M. heldYearMet.met;
+        meant = (clock-means, tt);
+        makes = (clock-makes, (u32-makes, (u32-makes, (u32-makes, (u32-makes, (u32-makes, tt))))));
+        takes = record { enters = λ ns. ((lifetimes all ns, wholes all, tt, denotes 0 all (clock-means, tt) ns, valuesOf 0 all ns), (λ w. tt), refl, refl, refl); writes = λ ns ws. ((ws .1 .1 .1 .1 .1 .1 .0, (ws .1 .1 .1 .1 .1 .1 .1 .0, (ws .1 .1 .1 .1 .1 .1 .1 .1 .0, tt))), refl) };
       }
 
   unfoldable pub held-names-call : (s : Share) (b o : ℕ) → Callable c heldNamesCode.routine (sees ClockType.the-row s vc b o ∷ [])

@@ -10,6 +10,7 @@ use mir.Val.{Val}
 use prog.Routine.{Routine}
 use Rattle.refusals.specs.Outcome.{accepted}
 use Rattle.station.specs.declared.records.Record.{Record}
+use Rattle.calls.specs.declared.annual.Sheet.{Sheet}
 use Rattle.clock.proofs.Clock as ClockType
 use Rattle.clock.proofs.new.Symbol as newCode
 use Rattle.clock.proofs.load_cards.Symbol as loadCode
@@ -20,6 +21,7 @@ use Rattle.clock.proofs.height.Symbol as heightCode
 use Rattle.clock.proofs.height_lent.Symbol as lentHeightCode
 use Rattle.clock.proofs.series.Symbol as seriesCode
 use Rattle.clock.proofs.turns.Symbol as turnsCode
+use Rattle.clock.proofs.year.Symbol as yearCode
 use Rattle.clock.proofs.names.Symbol as namesCode
 use Rattle.cuvalimodo_c.proofs.cuvalimodo_new.Symbol as heldNewCode
 use Rattle.cuvalimodo_c.proofs.cuvalimodo_load_cards.Symbol as heldLoadCode
@@ -28,8 +30,9 @@ use Rattle.cuvalimodo_c.proofs.cuvalimodo_set_date.Symbol as heldDateCode
 use Rattle.cuvalimodo_c.proofs.cuvalimodo_height.Symbol as heldHeightCode
 use Rattle.cuvalimodo_c.proofs.cuvalimodo_series.Symbol as heldSeriesCode
 use Rattle.cuvalimodo_c.proofs.cuvalimodo_turns.Symbol as heldTurnsCode
+use Rattle.cuvalimodo_c.proofs.cuvalimodo_year.Symbol as heldYearCode
 use Rattle.cuvalimodo_c.proofs.cuvalimodo_names.Symbol as heldNamesCode
-use Rattle.claim.specs.Document.{Request, Cards, Station, Date, Height, Series, Turns, Names, Gave, told, predicted, wrote, found, named, nothing, givesAll}
+use Rattle.claim.specs.Document.{Request, Cards, Station, Date, Height, Series, Turns, Year, Names, Gave, told, predicted, wrote, found, filled, named, nothing, givesAll}
 use Rattle.claim_runs.specs.Handed.{changes, Ran}
 use Rattle.claim_runs.specs.Values.{clockAt, zeroMemory}
 use Rattle.claim_runs.specs.Runs.{Started, Runs, GiveAll, routinesOf}
@@ -83,6 +86,10 @@ z0-record = record { place = 0; amplitude = 100; phase = 0 }
 abbrev pub z0-records : List Record
 z0-records = z0-record ∷ []
 
+-- the year 1976, its series and its search from midnight on 1 January
+abbrev pub year-sheet : Sheet
+year-sheet = record { year = 1976; start = 0; step = 1; first = 0; last = 360 }
+
 -- Z0, 100 tenths of a millimetre high, on the equator, in July 1976: by value, with a station that has no records before the other; and then
 -- over a clock that is lent, with a place for one height
 abbrev pub acceptedCalls : List Request
@@ -94,6 +101,7 @@ acceptedCalls =
     ∷ Height 0
     ∷ Series 0 1 []
     ∷ Turns 0 360 [] []
+    ∷ Year year-sheet [] [] []
     ∷ Names
     ∷ Cards smallFile
     ∷ Station (pos 0) z0-records
@@ -102,6 +110,7 @@ acceptedCalls =
     ∷ Height 0
     ∷ Series 0 1 (pos 0 ∷ [])
     ∷ Turns 0 360 [] []
+    ∷ Year year-sheet (pos 0 ∷ []) [] []
     ∷ Names
     ∷ []
 
@@ -115,6 +124,7 @@ acceptedRoutines =
     ∷ heightCode.routine
     ∷ seriesCode.routine
     ∷ turnsCode.routine
+    ∷ yearCode.routine
     ∷ namesCode.routine
     ∷ heldLoadCode.routine
     ∷ heldStationCode.routine
@@ -123,6 +133,7 @@ acceptedRoutines =
     ∷ heldHeightCode.routine
     ∷ heldSeriesCode.routine
     ∷ heldTurnsCode.routine
+    ∷ heldYearCode.routine
     ∷ heldNamesCode.routine
     ∷ []
 
@@ -136,6 +147,7 @@ allAccepted =
     ∷ predicted (accepted (pos 100))
     ∷ wrote (record { returned = accepted tt; heights = [] })
     ∷ found (record { returned = accepted (record { count = 0; high = false }); minutes = []; heights = [] })
+    ∷ filled (record { returned = accepted (record { count = 0; high = false }); series = []; minutes = []; heights = [] })
     ∷ named (z0 ∷ [])
     ∷ told (accepted tt)
     ∷ told (accepted tt)
@@ -144,6 +156,7 @@ allAccepted =
     ∷ predicted (accepted (pos 100))
     ∷ wrote (record { returned = accepted tt; heights = pos 100 ∷ [] })
     ∷ found (record { returned = accepted (record { count = 0; high = false }); minutes = []; heights = [] })
+    ∷ filled (record { returned = accepted (record { count = 0; high = false }); series = pos 100 ∷ []; minutes = []; heights = [] })
     ∷ named (z0 ∷ [])
     ∷ []
 

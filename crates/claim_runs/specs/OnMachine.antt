@@ -14,6 +14,8 @@ use Rattle.station.specs.declared.records.Record.{Record}
 use Rattle.station.specs.declared.records.Rows.{Rows}
 use Rattle.station.proofs.records.Record as RecordType
 use Rattle.station.proofs.records.Rows as RowsType
+use Rattle.calls.specs.declared.annual.Sheet.{Sheet}
+use Rattle.calls.proofs.annual.Sheet as SheetType
 use Rattle.clock.specs.declared.Clock.{Clock}
 use Rattle.clock.proofs.Clock as ClockType
 use Rattle.clock.proofs.new.Symbol as newCode
@@ -25,6 +27,7 @@ use Rattle.clock.proofs.height.Symbol as heightCode
 use Rattle.clock.proofs.height_lent.Symbol as lentHeightCode
 use Rattle.clock.proofs.series.Symbol as seriesCode
 use Rattle.clock.proofs.turns.Symbol as turnsCode
+use Rattle.clock.proofs.year.Symbol as yearCode
 use Rattle.clock.proofs.names.Symbol as namesCode
 use Rattle.cuvalimodo_c.proofs.cuvalimodo_new.Symbol as heldNewCode
 use Rattle.cuvalimodo_c.proofs.cuvalimodo_load_cards.Symbol as heldLoadCode
@@ -33,6 +36,7 @@ use Rattle.cuvalimodo_c.proofs.cuvalimodo_set_date.Symbol as heldDateCode
 use Rattle.cuvalimodo_c.proofs.cuvalimodo_height.Symbol as heldHeightCode
 use Rattle.cuvalimodo_c.proofs.cuvalimodo_series.Symbol as heldSeriesCode
 use Rattle.cuvalimodo_c.proofs.cuvalimodo_turns.Symbol as heldTurnsCode
+use Rattle.cuvalimodo_c.proofs.cuvalimodo_year.Symbol as heldYearCode
 use Rattle.cuvalimodo_c.proofs.cuvalimodo_names.Symbol as heldNamesCode
 use Rattle.claim.specs.Document.{Request, nothing, givesAll, EachNear}
 use Rattle.claim_runs.specs.Handed.{Assertion, _∗_, ⟦_⟧₀, _⊨_, Handed, value, reads, writes, sees, changes, passed, Fit, At, lie}
@@ -66,6 +70,8 @@ pub record EveryCallEnds (vc : Val) : Type 2 where
   pub serieses : (start step : ℕ) (vs vt : Val) (hs : List ℤ) (b o : ℕ) → Returns seriesCode.routine (vc ∷ []) (value u32 start vs ∷ value u32 step vt ∷ writes i64 hs b o ∷ [])
   pub searches : (first last : ℕ) (vf vl : Val) (ms : List ℕ) (b o : ℕ) (hs : List ℤ) (b₁ o₁ : ℕ)
       → Returns turnsCode.routine (vc ∷ []) (value u32 first vf ∷ value u32 last vl ∷ writes u32 ms b o ∷ writes i64 hs b₁ o₁ ∷ [])
+  pub years : (sheet : Sheet) (vs : Val) (ss : List ℤ) (b o : ℕ) (ms : List ℕ) (b₁ o₁ : ℕ) (hs : List ℤ) (b₂ o₂ : ℕ)
+      → Returns yearCode.routine (vc ∷ []) (value SheetType.the-row sheet vs ∷ writes i64 ss b o ∷ writes u32 ms b₁ o₁ ∷ writes i64 hs b₂ o₂ ∷ [])
   pub hands : Returns namesCode.routine (vc ∷ []) []
   pub laid : (σ : Memory) (F : Assertion) → σ ⊨ F → ∥ ((b : ℕ) × (σ′ : Memory) × (σ′ ⊨ ⟦ At ClockType.the-row fullShare vc b 0 ⟧₀ ∗ F)) ∥₁
   pub heldLoads : (b o : ℕ) (file : List ℕ) (q : Share) (b₁ o₁ : ℕ) → Returns heldLoadCode.routine [] (changes ClockType.the-row vc b o ∷ reads u8 q file b₁ o₁ ∷ [])
@@ -78,6 +84,8 @@ pub record EveryCallEnds (vc : Val) : Type 2 where
       → Returns heldSeriesCode.routine [] (sees ClockType.the-row s vc b o ∷ value u32 start vs ∷ value u32 step vt ∷ writes i64 hs b₁ o₁ ∷ [])
   pub heldSearches : (s : Share) (b o first last : ℕ) (vf vl : Val) (ms : List ℕ) (b₁ o₁ : ℕ) (hs : List ℤ) (b₂ o₂ : ℕ)
       → Returns heldTurnsCode.routine [] (sees ClockType.the-row s vc b o ∷ value u32 first vf ∷ value u32 last vl ∷ writes u32 ms b₁ o₁ ∷ writes i64 hs b₂ o₂ ∷ [])
+  pub heldYears : (s : Share) (b o : ℕ) (sheet : Sheet) (vy vs vt vf vl : Val) (ss : List ℤ) (b₁ o₁ : ℕ) (ms : List ℕ) (b₂ o₂ : ℕ) (hs : List ℤ) (b₃ o₃ : ℕ)
+      → Returns heldYearCode.routine [] (sees ClockType.the-row s vc b o ∷ value u32 (sheet .year) vy ∷ value u32 (sheet .start) vs ∷ value u32 (sheet .step) vt ∷ value u32 (sheet .first) vf ∷ value u32 (sheet .last) vl ∷ writes i64 ss b₁ o₁ ∷ writes u32 ms b₂ o₂ ∷ writes i64 hs b₃ o₃ ∷ [])
   pub heldHands : (s : Share) (b o : ℕ) → Returns heldNamesCode.routine [] (sees ClockType.the-row s vc b o ∷ [])
 
 -- `new` returns, and the other `new` on whichever clock it is lent; and after any list of runs each routine returns, on the value of the clock

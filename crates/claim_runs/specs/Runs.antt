@@ -16,6 +16,8 @@ use Rattle.station.specs.declared.records.Rows.{Rows}
 use Rattle.station.specs.Records.{recordsOf}
 use Rattle.station.proofs.records.Record as RecordType
 use Rattle.station.proofs.records.Rows as RowsType
+use Rattle.calls.specs.declared.annual.Sheet.{Sheet}
+use Rattle.calls.proofs.annual.Sheet as SheetType
 use Rattle.clock.specs.declared.Clock.{Clock}
 use Rattle.clock.proofs.Clock as ClockType
 use Rattle.clock.proofs.new.Symbol as newCode
@@ -27,6 +29,7 @@ use Rattle.clock.proofs.height.Symbol as heightCode
 use Rattle.clock.proofs.height_lent.Symbol as lentHeightCode
 use Rattle.clock.proofs.series.Symbol as seriesCode
 use Rattle.clock.proofs.turns.Symbol as turnsCode
+use Rattle.clock.proofs.year.Symbol as yearCode
 use Rattle.clock.proofs.names.Symbol as namesCode
 use Rattle.cuvalimodo_c.proofs.cuvalimodo_new.Symbol as heldNewCode
 use Rattle.cuvalimodo_c.proofs.cuvalimodo_load_cards.Symbol as heldLoadCode
@@ -35,8 +38,9 @@ use Rattle.cuvalimodo_c.proofs.cuvalimodo_set_date.Symbol as heldDateCode
 use Rattle.cuvalimodo_c.proofs.cuvalimodo_height.Symbol as heldHeightCode
 use Rattle.cuvalimodo_c.proofs.cuvalimodo_series.Symbol as heldSeriesCode
 use Rattle.cuvalimodo_c.proofs.cuvalimodo_turns.Symbol as heldTurnsCode
+use Rattle.cuvalimodo_c.proofs.cuvalimodo_year.Symbol as heldYearCode
 use Rattle.cuvalimodo_c.proofs.cuvalimodo_names.Symbol as heldNamesCode
-use Rattle.claim.specs.Document.{Request, Cards, Station, Date, Height, Series, Turns, Names, Gave, told, predicted, wrote, found, named}
+use Rattle.claim.specs.Document.{Request, Cards, Station, Date, Height, Series, Turns, Year, Names, Gave, told, predicted, wrote, found, filled, named}
 use Rattle.claim_runs.specs.Handed.{value, reads, writes, sees, changes, Ran, Leaves}
 use Rattle.claim_runs.specs.Values.{answerIn, heightIn, turnsIn, tableNamesIn, minutesAt, heightsAt, answerPart, clockIn, verdictIn, readingIn, turningsIn, clockAt, zeroMemory}
 
@@ -71,6 +75,9 @@ pub data Run : Val → Request → Val → Type 2 where
   searches : {vc : Val} {first last : ℕ} {vf vl : Val} {ms : List ℕ} {b o : ℕ} {hs : List ℤ} {b₁ o₁ : ℕ}
       → Ran turnsCode.routine (vc ∷ []) (value u32 first vf ∷ value u32 last vl ∷ writes u32 ms b o ∷ writes i64 hs b₁ o₁ ∷ [])
       → Run vc (Turns first last ms hs) vc
+  years : {vc : Val} {sheet : Sheet} {vs : Val} {ss : List ℤ} {b o : ℕ} {ms : List ℕ} {b₁ o₁ : ℕ} {hs : List ℤ} {b₂ o₂ : ℕ}
+      → Ran yearCode.routine (vc ∷ []) (value SheetType.the-row sheet vs ∷ writes i64 ss b o ∷ writes u32 ms b₁ o₁ ∷ writes i64 hs b₂ o₂ ∷ [])
+      → Run vc (Year sheet ss ms hs) vc
   hands : {vc : Val} → Ran namesCode.routine (vc ∷ []) [] → Run vc Names vc
   -- the clock lies in memory and is lent: what lies there at the end is the clock that the call leaves
   heldLoads : {vc : Val} {b o : ℕ} {file : List ℕ} {q : Share} {b₁ o₁ : ℕ}
@@ -94,6 +101,9 @@ pub data Run : Val → Request → Val → Type 2 where
   heldSearches : {vc : Val} {s : Share} {b o : ℕ} {first last : ℕ} {vf vl : Val} {ms : List ℕ} {b₁ o₁ : ℕ} {hs : List ℤ} {b₂ o₂ : ℕ}
       → Ran heldTurnsCode.routine [] (sees ClockType.the-row s vc b o ∷ value u32 first vf ∷ value u32 last vl ∷ writes u32 ms b₁ o₁ ∷ writes i64 hs b₂ o₂ ∷ [])
       → Run vc (Turns first last ms hs) vc
+  heldYears : {vc : Val} {s : Share} {b o : ℕ} {sheet : Sheet} {vy vs vt vf vl : Val} {ss : List ℤ} {b₁ o₁ : ℕ} {ms : List ℕ} {b₂ o₂ : ℕ} {hs : List ℤ} {b₃ o₃ : ℕ}
+      → Ran heldYearCode.routine [] (sees ClockType.the-row s vc b o ∷ value u32 (sheet .year) vy ∷ value u32 (sheet .start) vs ∷ value u32 (sheet .step) vt ∷ value u32 (sheet .first) vf ∷ value u32 (sheet .last) vl ∷ writes i64 ss b₁ o₁ ∷ writes u32 ms b₂ o₂ ∷ writes i64 hs b₃ o₃ ∷ [])
+      → Run vc (Year sheet ss ms hs) vc
   heldHands : {vc : Val} {s : Share} {b o : ℕ} → Ran heldNamesCode.routine [] (sees ClockType.the-row s vc b o ∷ []) → Run vc Names vc
 
 -- What a run gave is g: g is read off the value that it returned and, where it wrote to a buffer, off the memory at its end; and the buffers
@@ -111,6 +121,11 @@ Gives (searches {ms = ms} {b = b} {o = o} {hs = hs} {b₁ = b₁} {o₁ = o₁} 
     let ms′ : List ℕ = minutesAt (x .left) b o (length ms) in
     let hs′ : List ℤ = heightsAt (x .left) b₁ o₁ (length hs) in
     Leaves x (ms′, (hs′, tt)) × (g ≡ found (record { returned = turnsIn (x .value); minutes = ms′; heights = hs′ }))
+Gives (years {ss = ss} {b = b} {o = o} {ms = ms} {b₁ = b₁} {o₁ = o₁} {hs = hs} {b₂ = b₂} {o₂ = o₂} x) g =
+    let ss′ : List ℤ = heightsAt (x .left) b o (length ss) in
+    let ms′ : List ℕ = minutesAt (x .left) b₁ o₁ (length ms) in
+    let hs′ : List ℤ = heightsAt (x .left) b₂ o₂ (length hs) in
+    Leaves x (ss′, (ms′, (hs′, tt))) × (g ≡ filled (record { returned = turnsIn (x .value); series = ss′; minutes = ms′; heights = hs′ }))
 Gives (hands x) g = Leaves x tt × (g ≡ named (tableNamesIn (x .value)))
 Gives (heldLoads {b = b} {o = o} x) g = Leaves x (clockAt (x .left) b o, tt) × (g ≡ told (verdictIn (x .value)))
 Gives (heldStations {b = b} {o = o} x) g = Leaves x (clockAt (x .left) b o, tt) × (g ≡ told (verdictIn (x .value)))
@@ -124,6 +139,11 @@ Gives (heldSearches {ms = ms} {b₁ = b₁} {o₁ = o₁} {hs = hs} {b₂ = b₂
     let ms′ : List ℕ = minutesAt (x .left) b₁ o₁ (length ms) in
     let hs′ : List ℤ = heightsAt (x .left) b₂ o₂ (length hs) in
     Leaves x (ms′, (hs′, tt)) × (g ≡ found (record { returned = turningsIn (x .value); minutes = ms′; heights = hs′ }))
+Gives (heldYears {ss = ss} {b₁ = b₁} {o₁ = o₁} {ms = ms} {b₂ = b₂} {o₂ = o₂} {hs = hs} {b₃ = b₃} {o₃ = o₃} x) g =
+    let ss′ : List ℤ = heightsAt (x .left) b₁ o₁ (length ss) in
+    let ms′ : List ℕ = minutesAt (x .left) b₂ o₂ (length ms) in
+    let hs′ : List ℤ = heightsAt (x .left) b₃ o₃ (length hs) in
+    Leaves x (ss′, (ms′, (hs′, tt))) × (g ≡ filled (record { returned = turningsIn (x .value); series = ss′; minutes = ms′; heights = hs′ }))
 Gives (heldHands x) g = Leaves x tt × (g ≡ named (tableNamesIn (x .value)))
 
 -- the routine that was run
@@ -135,6 +155,7 @@ routineOf (dates x) = dateCode.routine
 routineOf (heights x) = heightCode.routine
 routineOf (serieses x) = seriesCode.routine
 routineOf (searches x) = turnsCode.routine
+routineOf (years x) = yearCode.routine
 routineOf (hands x) = namesCode.routine
 routineOf (heldLoads x) = heldLoadCode.routine
 routineOf (heldStations x) = heldStationCode.routine
@@ -143,6 +164,7 @@ routineOf (lentHeights x) = lentHeightCode.routine
 routineOf (heldHeights x) = heldHeightCode.routine
 routineOf (heldSerieses x) = heldSeriesCode.routine
 routineOf (heldSearches x) = heldTurnsCode.routine
+routineOf (heldYears x) = heldYearCode.routine
 routineOf (heldHands x) = heldNamesCode.routine
 
 -- "Each later one gets the clock as the one before it returned or left it." What is done to the memory between two calls is the caller's.

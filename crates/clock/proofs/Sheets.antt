@@ -34,7 +34,7 @@ use Rattle.turns.specs.declared.search.Summary.{Summary}
 use Rattle.turns.specs.inner.Answers.{givenOf}
 use Rattle.turns.specs.inner.Lists.{Rows}
 use Rattle.calls.specs.Year.{sheetOutside, beside}
-use Rattle.calls.specs.declared.sheets.Sheet.{Sheet}
+use Rattle.calls.specs.declared.annual.Sheet.{Sheet}
 use Rattle.calls.proofs.asked.Passed.{sheet-within}
 use Rattle.calls.proofs.YearSheet.{sheet-too-large, sheet-outside, sheet-given}
 use Rattle.clock.specs.inner.Posts.{SheetPost, SheetWithin, WrittenPost}

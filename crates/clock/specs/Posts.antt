@@ -11,7 +11,7 @@ use Rattle.station.specs.declared.records.Record.{Record}
 use Rattle.calls.specs.State.{emptyState}
 use Rattle.turns.specs.Written.{TurnsFound}
 use Rattle.calls.specs.Calls.{cardsReturns, cardsLeaves, stationReturns, stationLeaves, dateReturns, dateLeaves, heightReturns, seriesGives, turnsGives}
-use Rattle.calls.specs.declared.sheets.Sheet.{Sheet}
+use Rattle.calls.specs.declared.annual.Sheet.{Sheet}
 use Rattle.calls.specs.Year.{yearGives}
 use Rattle.clock.specs.View.{view, Made}
 use Rattle.clock.specs.declared.Clock.{Clock}

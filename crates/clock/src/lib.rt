@@ -22,8 +22,8 @@ mod yearsheet; // a year's sheet, from a table and a station
 
 use calls::asked;
 use calls::settings;
-use calls::sheets;
-use calls::sheets::Sheet;
+use calls::annual;
+use calls::annual::Sheet;
 use card_file::reader;
 use cosine::ENTRIES;
 use limits::RECORDS;
@@ -329,14 +329,14 @@ pub fn series(clock: Clock, start: u32, step: u32, heights: &mut [i64]) -> Answe
     );
     match asked {
         Answer::Accepted => {
-            heights::series::series(
+            heights::months::series(
                 &clock.cosines,
                 &clock.arguments,
                 &clock.lags,
                 &clock.frequencies,
                 &clock.ps,
                 &clock.qs,
-                clock.count,
+                months::one_month(clock.count, clock.last),
                 start as u64,
                 step as u64,
                 heights,
@@ -417,7 +417,7 @@ pub fn year(
     requires { ⌜ Made clock ⌝ }
     ensures { λ r. ⌜ YearPost clock sheet (now (series .entry)) (now (series .exit)) (now (minutes .entry)) (now (minutes .exit)) (now (heights .entry)) (now (heights .exit)) (turnsReturned r) ⌝ }
 {
-    let asked = sheets::year_answer(clock.tabled, clock.stationed, sheet.year);
+    let asked = annual::year_answer(clock.tabled, clock.stationed, sheet.year);
     match asked {
         Answer::Accepted => {
             return yearsheet::sheet(

@@ -9,8 +9,8 @@ ghost use Rattle.turns.specs.inner.Lists.{Rows};
 ghost use Rattle.clock.specs.Returned.{turnsReturned};
 ghost use Rattle.clock.specs.inner.Posts.{SheetPost, SheetWithin, WrittenPost};
 use crate::TurnsAnswer;
-use calls::sheets;
-use calls::sheets::Sheet;
+use calls::annual;
+use calls::annual::Sheet;
 use cosine::ENTRIES;
 use limits::RECORDS;
 use month::Preparation;
@@ -114,7 +114,7 @@ pub fn sheet(
             return TurnsAnswer::Refused(Refusal::TooLarge, place);
         }
         Preparation::Ready => {
-            if sheets::sheet_outside(sheet, series.len()) {
+            if annual::sheet_outside(sheet, series.len()) {
                 return TurnsAnswer::Refused(Refusal::BadMinutes, 0);
             }
             let stride = strides::station_stride(table, station);

@@ -2,12 +2,13 @@
 ghost use mathlib.Core.Path.{_≡_};
 ghost use Rattle.refusals.specs.Outcome.{outcomeOf};
 ghost use Rattle.clock.specs.View.{Made};
-ghost use Rattle.clock.specs.Posts.{CardsPost, StationPost, DatePost, SeriesPost, TurnsPost};
+ghost use Rattle.clock.specs.Posts.{CardsPost, StationPost, DatePost, SeriesPost, TurnsPost, YearPost};
 ghost use Rattle.station.specs.Records.{recordsOf};
 ghost use Rattle.cuvalimodo_c.specs.Answers.{verdictReturned, turningsReturned, Plain, PlainTurnings};
 use crate::answers;
 use crate::answers::Turnings;
 use crate::answers::Verdict;
+use calls::annual::Sheet;
 use clock::After;
 use clock::Clock;
 use station::records::Rows;
@@ -72,4 +73,29 @@ pub fn turns(
     ensures { λ r. ⌜ TurnsPost clock first last (now (minutes .entry)) (now (minutes .exit)) (now (heights .entry)) (now (heights .exit)) (turningsReturned r) × PlainTurnings r ⌝ }
 {
     answers::told_turns(clock::turns(clock, first, last, minutes, heights))
+}
+
+// A year's sheet.
+pub fn year(
+    clock: Clock,
+    year: u32,
+    start: u32,
+    step: u32,
+    first: u32,
+    last: u32,
+    series: &mut [i64],
+    minutes: &mut [u32],
+    heights: &mut [i64],
+) -> Turnings
+    requires { ⌜ Made clock ⌝ }
+    ensures { λ r. ⌜ YearPost clock (record { year = year; start = start; step = step; first = first; last = last }) (now (series .entry)) (now (series .exit)) (now (minutes .entry)) (now (minutes .exit)) (now (heights .entry)) (now (heights .exit)) (turningsReturned r) × PlainTurnings r ⌝ }
+{
+    let sheet = Sheet {
+        year,
+        start,
+        step,
+        first,
+        last,
+    };
+    answers::told_turns(clock::year(clock, sheet, series, minutes, heights))
 }

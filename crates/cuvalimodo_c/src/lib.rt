@@ -12,7 +12,7 @@ ghost use Rattle.refusal_words.specs.Words.{wordsOf, bytesOf, zerosBehind};
 ghost use Rattle.columns.specs.Names.{namesFrom};
 ghost use Rattle.calls.specs.Names.{namesIn};
 ghost use Rattle.clock.specs.View.{view, Made};
-ghost use Rattle.clock.specs.Posts.{NewPost, CardsPost, StationPost, DatePost, HeightPost, SeriesPost, TurnsPost};
+ghost use Rattle.clock.specs.Posts.{NewPost, CardsPost, StationPost, DatePost, HeightPost, SeriesPost, TurnsPost, YearPost};
 ghost use Rattle.cuvalimodo_c.specs.Answers.{verdictReturned, readingReturned, turningsReturned, Plain, PlainReading, PlainTurnings};
 
 mod answers; // what the calls say, in numbers
@@ -121,6 +121,36 @@ pub extern "C" fn cuvalimodo_turns(
     ensures { λ r. ⌜ TurnsPost (now (clock .entry)) first last (now (minutes .entry)) (now (minutes .exit)) (now (heights .entry)) (now (heights .exit)) (turningsReturned r) × PlainTurnings r ⌝ }
 {
     byvalue::turns(*clock, first, last, minutes, heights)
+}
+
+// A year's sheet: a height for each lent place of the series and the high and low waters of the search, minutes counted from 1 January, each
+// month with its own weights; or a refusal. No month need be prepared, and one that is stays.
+#[no_mangle]
+pub extern "C" fn cuvalimodo_year(
+    clock: &Clock,
+    year: u32,
+    start: u32,
+    step: u32,
+    first: u32,
+    last: u32,
+    series: &mut [i64],
+    minutes: &mut [u32],
+    heights: &mut [i64],
+) -> Turnings
+    requires { ⌜ Made (now clock) ⌝ }
+    ensures { λ r. ⌜ YearPost (now (clock .entry)) (record { year = year; start = start; step = step; first = first; last = last }) (now (series .entry)) (now (series .exit)) (now (minutes .entry)) (now (minutes .exit)) (now (heights .entry)) (now (heights .exit)) (turningsReturned r) × PlainTurnings r ⌝ }
+{
+    byvalue::year(
+        *clock,
+        year,
+        start,
+        step,
+        first,
+        last,
+        series,
+        minutes,
+        heights,
+    )
 }
 
 // The names of the clock's frequencies by place, none where it has no table.

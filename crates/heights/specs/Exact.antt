@@ -5,7 +5,8 @@ use mathlib.Core.List.{List, [], _∷_}
 use lib.IntN.{ℤ, pos, natAbs, _+ℤ_, _-ℤ_, _*ℤ_}
 use lib.ListN.{length}
 use Rattle.cosine.specs.Fraction.{whole, cosine, sine}
-use Rattle.month_prepared.specs.Prepared.{Constituent}
+use Rattle.month_prepared.specs.Prepared.{Constituent, Month}
+use Rattle.month_prepared.specs.Months.{ownerOf}
 use Rattle.heights.specs.Angle.{angleAt}
 use Rattle.heights.specs.Height.{heightAt}
 
@@ -31,6 +32,11 @@ abbrev pub Near : List Constituent → ℕ → ℤ → Type 0
 Near cs minute height =
     natAbs (pos (scale * whole) *ℤ height -ℤ pos (scale / 4_096) *ℤ exactSum cs minute)
     ≤ (scale / 2 + scale / 4_096 * length cs + sizes cs) * whole
+
+-- 02, No. 1: "Every height on the sheet keeps the distance from its own month's exact sum that a single month has": of months that follow one
+-- another, the one that owns the minute, at the minute there
+abbrev pub NearOver : List Month → ℕ → ℤ → Type 0
+NearOver months minute height = Near (ownerOf months minute .month .constituents) (ownerOf months minute .minute) height
 
 -- What is proved (proofs/distance/Distance.antt), of every list of constituents and every minute:
 abbrev pub HeightsNear : Type 0

@@ -84,16 +84,29 @@ fn move_on(angles: &mut [u64; RECORDS], ticks: &[u64; RECORDS], count: usize)
     }
 }
 
+// A lent row of weights, copied.
+fn weights_of(row: &[i32]) -> [i32; RECORDS]
+    requires { ⌜ length (now row) ≡ mostRecords ⌝ }
+    ensures { λ r. ⌜ r ≡ now (row .entry) ⌝ }
+{
+    let mut weights = [0i32; RECORDS];
+    let mut k: usize = 0;
+    while k < RECORDS {
+        weights[k] = row[k];
+        k = k + 1;
+    }
+    weights
+}
+
 // The height of the first `count` constituents at the minute that the angles are for.
 fn height_of<'a>(
     table: &'a [u32; ENTRIES],
     angles: &'a [u64; RECORDS],
-    ps: &'a [i32],
-    qs: &'a [i32],
+    ps: &'a [i32; RECORDS],
+    qs: &'a [i32; RECORDS],
     count: usize,
 ) -> i64
     requires { ⌜ IsTable (now table) × (count ≤ mostRecords) ⌝ }
-    requires { ⌜ (length (now ps) ≡ mostRecords) × (length (now qs) ≡ mostRecords) ⌝ }
     ensures { λ r. ⌜ HeightOf (now (angles .entry)) (now (ps .entry)) (now (qs .entry)) count r ⌝ }
     ensures { λ r. ⌜ natAbs r ≤ 2 ^ 28 ⌝ }
 {
@@ -125,9 +138,11 @@ pub fn series<'a>(
 {
     let mut angles = angles_at(arguments, lags, frequencies, count, start);
     let ticks = advances(frequencies, count, step);
+    let ps_copied = weights_of(ps);
+    let qs_copied = weights_of(qs);
     let mut n: usize = 0;
     while n < out.len() {
-        out[n] = height_of(table, &angles, ps, qs, count);
+        out[n] = height_of(table, &angles, &ps_copied, &qs_copied, count);
         move_on(&mut angles, &ticks, count);
         n = n + 1;
     }

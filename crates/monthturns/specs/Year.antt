@@ -3,7 +3,7 @@ use Prim.Native.Nat.{ℕ}
 use mathlib.Core.List.{List}
 use lib.IntN.{ℤ}
 use Rattle.calendar.specs.Calendar.{yearMinutes}
-use Rattle.calls.specs.declared.sheets.Sheet.{Sheet}
+use Rattle.calls.specs.declared.annual.Sheet.{Sheet}
 use Rattle.clock.specs.declared.Clock.{Clock}
 use Rattle.clock.specs.declared.TurnsAnswer.{TurnsAnswer}
 use Rattle.clock.specs.Returned.{turnsReturned}

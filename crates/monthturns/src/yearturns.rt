@@ -7,7 +7,7 @@ use crate::Turn;
 use crate::end_from;
 use crate::last_found;
 use crate::with_ends;
-use calls::sheets::Sheet;
+use calls::annual::Sheet;
 use clock::Clock;
 use clock::TurnsAnswer;
 

@@ -5,7 +5,7 @@ ghost use mathlib.Core.Path.{_≡_};
 ghost use lib.ListN.{length};
 ghost use Rattle.clock.specs.View.{Made};
 ghost use Rattle.transcript.specs.inner.Posts.{Lent};
-use calls::sheets::Sheet;
+use calls::annual::Sheet;
 use clock::After;
 use clock::Clock;
 use clock::HeightAnswer;

@@ -28,36 +28,31 @@ module _ {A : Type 0} (f : ℕ → A) (ks : List ℕ) (l : List A) where
   pub stored : length ks ≤ length l → sets l 0 (map f ks) ≡ fromFront (map f ks) l
   stored h = let e = length-map ks f in stored-all (map f ks) l (omega arith)
 
--- ---- what a search keeps, where there is room for all
+-- ---- the minutes of turns in front of others, and kept by a search that has room for all
 
-module _ {turns : List Turn} {before after : List ℕ} {r : Summary} (p : FoundPost turns before after r) (room : r .count ≤ length before) where
-  many : length (minutesOf turns) ≡ r .count
-  many = length-map turns (λ (t : Turn). t .minute) ∙ sym (p .count)
-
-  pub all-kept : after ≡ fromFront (minutesOf turns) before
-  all-kept = let m = many in p .kept ∙ all-in-front (minutesOf turns) before (omega arith)
-
-  pub kept-front : take (r .count) after ≡ minutesOf turns
-  kept-front = ap (λ (l : List ℕ). take (r .count) l) all-kept ∙ taken-from-front (minutesOf turns) before many
-
-  pub kept-length : length (take (r .count) after) ≡ r .count
-  kept-length = ap length kept-front ∙ many
-
--- the minutes of turns at the front of others
 module _ (turns : List Turn) (minutes : List ℕ) {after : List ℕ} {n : ℕ} (is : after ≡ fromFront (minutesOf turns) minutes) (all : n ≡ length turns) where
-  many' : length (minutesOf turns) ≡ n
-  many' = length-map turns (λ (t : Turn). t .minute) ∙ sym all
+  many : length (minutesOf turns) ≡ n
+  many = length-map turns (λ (t : Turn). t .minute) ∙ sym all
 
   pub front-minutes : take n after ≡ minutesOf turns
-  front-minutes = ap (λ (l : List ℕ). take n l) is ∙ taken-from-front (minutesOf turns) minutes many'
+  front-minutes = ap (λ (l : List ℕ). take n l) is ∙ taken-from-front (minutesOf turns) minutes many
 
   pub front-count : length (take n after) ≡ n
-  front-count = ap length front-minutes ∙ many'
+  front-count = ap length front-minutes ∙ many
 
   pub front-length : n ≤ length minutes → length after ≡ length minutes
-  front-length h =
-      let m = many' in
-      ap length is ∙ simp (length-append, length-drop) (omega arith)
+  front-length h = let m = many in ap length is ∙ simp (length-append, length-drop) (omega arith)
+
+module _ {turns : List Turn} {before after : List ℕ} {r : Summary} (p : FoundPost turns before after r) (room : r .count ≤ length before) where
+  pub all-kept : after ≡ fromFront (minutesOf turns) before
+  all-kept =
+      p .kept ∙ all-in-front (minutesOf turns) before (omega (arith, p .count, length-map turns (λ (t : Turn). t .minute)))
+
+  pub kept-front : take (r .count) after ≡ minutesOf turns
+  kept-front = front-minutes turns before all-kept (p .count)
+
+  pub kept-length : length (take (r .count) after) ≡ r .count
+  kept-length = front-count turns before all-kept (p .count)
 
 -- ---- what is given, by the buffers' room
 

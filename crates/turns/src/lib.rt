@@ -26,7 +26,7 @@ pub use search::Reach;
 
 // How many turns are kept while they are counted. (A year of two high and two low waters a day has 1,411; one with more than these is
 // searched a second time.)
-const KEPT: usize = 4_096;
+const KEPT: usize = 8_192;
 
 // What a search returns: what it found, or that there are more turns than a lent buffer holds.
 pub enum Searched {

@@ -11,7 +11,7 @@ use Rattle.refusals.specs.Outcome.{accepted}
 use Rattle.refusals.proofs.Laws.{not-both}
 use Rattle.calls.specs.Asked.{minuteOutside, seriesOutside, turnsOutside, stepOutside, lastMinute}
 use Rattle.calls.specs.Year.{sheetOutside}
-use Rattle.calls.specs.declared.sheets.Sheet.{Sheet}
+use Rattle.calls.specs.declared.annual.Sheet.{Sheet}
 use Rattle.calls.specs.inner.Flags.{minutesBy}
 
 -- a table is there, and the minutes are not outside

@@ -1,17 +1,15 @@
 -- `clock::turns` meets its contract: refused by what is asked first, or what the search gives, 10 or the turns (`Asked` in calls). Assumes nothing.
-use borrow.Author.Needs.{needs, length-unmapped}
-use Rattle.limits.specs.Limits.{mostRecords}
+use borrow.Author.Needs.{needs}
 use Rattle.clock.proofs.turns.Statement.{statement}
 use Rattle.clock.proofs.turns.Tie as tie
 use mathlib.Core.Path.{sym, ap, _∙_}
 use Rattle.refusals.specs.Outcome.{outcomeOf}
 use Rattle.table.specs.inner.View.{tableOf}
 use Rattle.station.specs.inner.Station.{stationOf}
-use Rattle.month_prepared.specs.inner.Rows.{IsRow}
 use Rattle.calls.proofs.asked.Passed.{turns-within}
 use Rattle.calls.proofs.Posed.{turns-refused, turns-given}
 use Rattle.clock.specs.View.{view, monthIn}
-use Rattle.clock.proofs.OneMonth.{one-rows, one-end, one-heights, one-slopes}
+use Rattle.clock.proofs.OneMonth.{lent-row, one-rows, one-end, one-heights, one-slopes}
 
 turns-answer-requires : tie.Need-turns-answer-requires
 turns-answer-requires c κs = search needs
@@ -32,12 +30,7 @@ turns-requires c κs =
     let stride = c .before .before .before .before .before .before .before .before .before .before .before .before .before .station-stride .ensures .1 in
     let one = c .before .before .one-month in
     let w = turns-within (k .tabled) (k .stationed) (k .dated) (k .last) (s .args .first) (s .args .last) (sym (c .before .before .before .before .before .before .before .before .before .before .before .before .before .before .before .before .before .before .turns-answer .ensures) ∙ ap outcomeOf (c .before .before .before .before .before .before .before .before .before .before .before .before .before .before .before .before .enum-told .given .1)) in
-    let clock = s .good .0 in
-    let row : IsRow (k .arguments) (k .ps) (k .qs) = record {
-      arguments = length-unmapped _ (k .arguments) mostRecords (clock .1 .1 .1 .1 .1 .1 .1 .1 .1 .1 .0 .1 .0 .1);
-      cosines = length-unmapped _ (k .ps) mostRecords (clock .1 .1 .1 .1 .1 .1 .1 .1 .1 .1 .1 .1 .1 .0 .1 .0 .1);
-      sines = length-unmapped _ (k .qs) mostRecords (clock .1 .1 .1 .1 .1 .1 .1 .1 .1 .1 .1 .1 .1 .1 .0 .1 .0 .1);
-    } in
+    let row = lent-row k (s .good .0) in
     let end = one-end k (one .result) (one .ensures) row in
     (one-rows k (one .result) (one .ensures) row (s .pre (w .0)), record { some = stride .0; short = stride .1; order = w .2; within = rw end (w .1) })
 
@@ -56,12 +49,7 @@ returns c =
     let s = c .before .before .before .before .before .before .before .before .before .before .before .before .before .before .before .before .before .before .before .before .before .before .before .before .before in
     let k = s .args .t1 in
     let one = c .before .before .before .before .before .before .before .one-month in
-    let clock = s .good .0 in
-    let row : IsRow (k .arguments) (k .ps) (k .qs) = record {
-      arguments = length-unmapped _ (k .arguments) mostRecords (clock .1 .1 .1 .1 .1 .1 .1 .1 .1 .1 .0 .1 .0 .1);
-      cosines = length-unmapped _ (k .ps) mostRecords (clock .1 .1 .1 .1 .1 .1 .1 .1 .1 .1 .1 .1 .1 .0 .1 .0 .1);
-      sines = length-unmapped _ (k .qs) mostRecords (clock .1 .1 .1 .1 .1 .1 .1 .1 .1 .1 .1 .1 .1 .1 .0 .1 .0 .1);
-    } in
+    let row = lent-row k (s .good .0) in
     let law = turns-given (k .tabled) (tableOf (k .table)) (k .stationed) (stationOf (k .station)) (k .dated) (monthIn k) (s .args .first) (s .args .last) _ _ (sym (c .before .before .before .before .before .before .before .before .before .before .before .before .before .before .before .before .before .before .before .before .before .before .before .turns-answer .ensures) ∙ ap outcomeOf (c .before .before .before .before .before .before .before .before .before .before .before .before .before .before .before .before .before .before .before .before .before .enum-told .given .1)) in
     let found = rw (c .before .before .before .before .before .before .before .before .before .before .before .before .before .before .before .before .before .before .station-stride .ensures .0, one-heights k (one .result) (one .ensures) row, one-slopes k (one .result) (one .ensures) row) at (c .before .before .before .before .turns .ensures) in
     record { gives = rw (c .found-turns .ensures) (found ∙ law) }

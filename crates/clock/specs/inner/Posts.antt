@@ -22,7 +22,7 @@ use Rattle.heights.specs.inner.Places.{SeriesWithin}
 use Rattle.turns.specs.Written.{TurnsFound}
 use Rattle.turns.specs.inner.Search.{Reaches}
 use Rattle.station.specs.declared.Station as declaredStation
-use Rattle.calls.specs.declared.sheets.Sheet.{Sheet}
+use Rattle.calls.specs.declared.annual.Sheet.{Sheet}
 use Rattle.calls.specs.Year.{sheetOver, yearGives}
 use Rattle.calls.specs.State.{Maybe, some}
 use Rattle.calls.specs.Calls.{heightReturns}
@@ -67,6 +67,6 @@ pub record SheetWithin (end stride : ℕ) (sheet : Sheet) (places : ℕ) : Type 
   pub series : SeriesWithin end (sheet .start) (sheet .step) places
   pub search : Reaches end (record { stride = stride; first = sheet .first; last = sheet .last })
 
--- the sheet of the months whose rows five lists hold
+-- the sheet of months that follow one another, by strides of so many minutes
 pub record WrittenPost (months : List Month) (stride : ℕ) (sheet : Sheet) (series seriesLeft : List ℤ) (minutes minutesLeft : List ℕ) (heights heightsLeft : List ℤ) (returned : Outcome TurnsFound) : Type 0 where
   pub gives : record { returned = returned; series = seriesLeft; minutes = minutesLeft; heights = heightsLeft } ≡ sheetOver months stride sheet series minutes heights

@@ -1,5 +1,6 @@
--- `replay::answer_call` meets its contract: what the call asks to be lent can be lent, as the reader of calls says. Assumes nothing.
+-- `replay::answer_call` meets its contract: what the call asks to be lent can be lent, as the reader of calls says, and a series has as many places as the heights. Assumes nothing.
 use mathlib.Core.Path.{sym, subst}
+use Prim.Native.Nat.{ℕ, _≤_}
 use lib.Seq.{length-take-le}
 use Rattle.transcript.specs.inner.Posts.{Lent}
 use borrow.Author.Needs.{needs}
@@ -10,13 +11,13 @@ enum-known-asked : tie.Need-enum-known-asked
 enum-known-asked c = search needs
 
 sub-cards-call : tie.Need-sub-cards-call
-sub-cards-call c = (subst (Lent _ _ _) (c .before .asked .given .1) (c .before .before .before .before .before .before .pre .1)) .fits .0
+sub-cards-call c = (subst (Lent _ _ _) (c .before .asked .given .1) (c .before .before .before .before .before .before .pre .1 .0)) .fits .0
 
 part-cards-call-start : tie.Need-part-cards-call-start
 part-cards-call-start c = sub-cards-call c
 
 part-cards-call-end : tie.Need-part-cards-call-end
-part-cards-call-end c = (subst (Lent _ _ _) (c .before .asked .given .1) (c .before .before .before .before .before .before .pre .1)) .fits .1
+part-cards-call-end c = (subst (Lent _ _ _) (c .before .asked .given .1) (c .before .before .before .before .before .before .pre .1 .0)) .fits .1
 
 cards-call-requires : tie.Need-cards-call-requires
 cards-call-requires c κs = search needs
@@ -70,7 +71,7 @@ enum-known-asked-5 : tie.Need-enum-known-asked-5
 enum-known-asked-5 c = search needs
 
 slice-relend-prefix-series-call : tie.Need-slice-relend-prefix-series-call
-slice-relend-prefix-series-call c = (subst (Lent _ _ _) (c .before .asked5 .given .1) (c .before .before .before .before .before .before .pre .1)) .fits
+slice-relend-prefix-series-call c = (subst (Lent _ _ _) (c .before .asked5 .given .1) (c .before .before .before .before .before .before .pre .1 .0)) .fits
 
 slice-aggregate-series-call : tie.Need-slice-aggregate-series-call
 slice-aggregate-series-call c = sym (length-take-le _ _ (slice-relend-prefix-series-call (c .before)))
@@ -94,13 +95,13 @@ enum-known-asked-6 : tie.Need-enum-known-asked-6
 enum-known-asked-6 c = search needs
 
 slice-relend-prefix-turns-call : tie.Need-slice-relend-prefix-turns-call
-slice-relend-prefix-turns-call c = (subst (Lent _ _ _) (c .before .asked6 .given .1) (c .before .before .before .before .before .before .pre .1)) .fits .0
+slice-relend-prefix-turns-call c = (subst (Lent _ _ _) (c .before .asked6 .given .1) (c .before .before .before .before .before .before .pre .1 .0)) .fits .0
 
 slice-aggregate-turns-call : tie.Need-slice-aggregate-turns-call
 slice-aggregate-turns-call c = sym (length-take-le _ _ (slice-relend-prefix-turns-call (c .before)))
 
 slice-relend-prefix-turns-call-2 : tie.Need-slice-relend-prefix-turns-call-2
-slice-relend-prefix-turns-call-2 c = (subst (Lent _ _ _) (c .before .before .asked6 .given .1) (c .before .before .before .before .before .before .before .pre .1)) .fits .1
+slice-relend-prefix-turns-call-2 c = (subst (Lent _ _ _) (c .before .before .asked6 .given .1) (c .before .before .before .before .before .before .before .pre .1 .0)) .fits .1
 
 slice-aggregate-turns-call-2 : tie.Need-slice-aggregate-turns-call-2
 slice-aggregate-turns-call-2 c = sym (length-take-le _ _ (slice-relend-prefix-turns-call-2 (c .before)))
@@ -123,11 +124,68 @@ same-length-9 c = search needs
 returns-6 : tie.Need-returns-6
 returns-6 c = search needs
 
-enum-told : tie.Need-enum-told
-enum-told c = search needs
+enum-known-asked-7 : tie.Need-enum-known-asked-7
+enum-known-asked-7 c = search needs
+
+cast-n : tie.Need-cast-n
+cast-n c = search needs
+
+cast-m : tie.Need-cast-m
+cast-m c = search needs
+
+cast-h : tie.Need-cast-h
+cast-h c = search needs
+
+sheet-of-requires : tie.Need-sheet-of-requires
+sheet-of-requires c κs = search needs
+
+slice-relend-prefix-year-call : tie.Need-slice-relend-prefix-year-call
+slice-relend-prefix-year-call c =
+    let p = c .before .before .before .before .before .before .before .before .before .before .pre .1 in
+    let a = c .before .before .before .before .before .asked7 .given in
+    subst (λ (k : ℕ). a .0 .0 .count ≤ k) (sym (p .1)) ((subst (Lent _ _ _) (a .1) (p .0)) .fits .0)
+
+slice-aggregate-year-call : tie.Need-slice-aggregate-year-call
+slice-aggregate-year-call c = sym (length-take-le _ _ (slice-relend-prefix-year-call (c .before)))
+
+slice-relend-prefix-year-call-2 : tie.Need-slice-relend-prefix-year-call-2
+slice-relend-prefix-year-call-2 c = (subst (Lent _ _ _) (c .before .before .before .before .before .before .asked7 .given .1) (c .before .before .before .before .before .before .before .before .before .before .before .pre .1 .0)) .fits .1
+
+slice-aggregate-year-call-2 : tie.Need-slice-aggregate-year-call-2
+slice-aggregate-year-call-2 c = sym (length-take-le _ _ (slice-relend-prefix-year-call-2 (c .before)))
+
+slice-relend-prefix-year-call-3 : tie.Need-slice-relend-prefix-year-call-3
+slice-relend-prefix-year-call-3 c = (subst (Lent _ _ _) (c .before .before .before .before .before .before .before .asked7 .given .1) (c .before .before .before .before .before .before .before .before .before .before .before .before .pre .1 .0)) .fits .2
+
+slice-aggregate-year-call-3 : tie.Need-slice-aggregate-year-call-3
+slice-aggregate-year-call-3 c = sym (length-take-le _ _ (slice-relend-prefix-year-call-3 (c .before)))
+
+year-call-requires : tie.Need-year-call-requires
+year-call-requires c κs = search needs
+
+left-requires-4 : tie.Need-left-requires-4
+left-requires-4 c κs = c .before .before .before .before .before .before .before .before .before .before .before .before .before .before .before .before .before .before .before .before .before .pre .0
+
+same-length-10 : tie.Need-same-length-10
+same-length-10 c = search needs
+
+same-length-11 : tie.Need-same-length-11
+same-length-11 c = search needs
+
+same-length-12 : tie.Need-same-length-12
+same-length-12 c = search needs
+
+same-length-13 : tie.Need-same-length-13
+same-length-13 c = search needs
 
 returns-7 : tie.Need-returns-7
 returns-7 c = search needs
+
+enum-told : tie.Need-enum-told
+enum-told c = search needs
+
+returns-8 : tie.Need-returns-8
+returns-8 c = search needs
 
 enum-told-2 : tie.Need-enum-told-2
 enum-told-2 c = search needs
@@ -135,11 +193,11 @@ enum-told-2 c = search needs
 stop-requires : tie.Need-stop-requires
 stop-requires c κs = search needs
 
-same-length-10 : tie.Need-same-length-10
-same-length-10 c = search needs
+same-length-14 : tie.Need-same-length-14
+same-length-14 c = search needs
 
-returns-8 : tie.Need-returns-8
-returns-8 c = search needs
+returns-9 : tie.Need-returns-9
+returns-9 c = search needs
 
 pub answer-call-spec : {M : Type 1} → statement M
 answer-call-spec =
@@ -184,9 +242,27 @@ answer-call-spec =
     same-length-8
     same-length-9
     returns-6
-    enum-told
+    enum-known-asked-7
+    cast-n
+    cast-m
+    cast-h
+    sheet-of-requires
+    slice-relend-prefix-year-call
+    slice-aggregate-year-call
+    slice-relend-prefix-year-call-2
+    slice-aggregate-year-call-2
+    slice-relend-prefix-year-call-3
+    slice-aggregate-year-call-3
+    year-call-requires
+    left-requires-4
+    same-length-10
+    same-length-11
+    same-length-12
+    same-length-13
     returns-7
+    enum-told
+    returns-8
     enum-told-2
     stop-requires
-    same-length-10
-    returns-8)
+    same-length-14
+    returns-9)

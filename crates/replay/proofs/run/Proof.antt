@@ -11,10 +11,10 @@ use Rattle.replay.proofs.run.Statement.{statement}
 use Rattle.replay.proofs.run.Tie as tie
 
 abbrev Inv-loop : tie.InvT-loop
-Inv-loop buffer₀ minutes₀ heights₀ page₀ step₀ window₀ calls₀ buffer minutes heights page step window calls = (length buffer ≡ length buffer₀) × (length minutes ≡ length minutes₀) × (length heights ≡ length heights₀) × (length page ≡ length page₀) × Made (step .clock) × Within (length buffer₀) window
+Inv-loop buffer₀ series₀ minutes₀ heights₀ page₀ step₀ window₀ calls₀ buffer series minutes heights page step window calls = (length buffer ≡ length buffer₀) × (length series ≡ length series₀) × (length minutes ≡ length minutes₀) × (length heights ≡ length heights₀) × (length page ≡ length page₀) × Made (step .clock) × Within (length buffer₀) window
 
 abbrev μ-loop : tie.MeasureT-loop
-μ-loop buffer₀ minutes₀ heights₀ page₀ step₀ window₀ calls₀ buffer minutes heights page step window calls = calls
+μ-loop buffer₀ series₀ minutes₀ heights₀ page₀ step₀ window₀ calls₀ buffer series minutes heights page step window calls = calls
 
 first-requires : tie.Need-first-requires Inv-loop μ-loop
 first-requires c κs = tt
@@ -23,16 +23,16 @@ start-requires : tie.Need-start-requires Inv-loop μ-loop
 start-requires c κs = tt
 
 loop-holds : tie.Need-loop-holds Inv-loop μ-loop
-loop-holds c = (refl, refl, refl, refl, c .before .first .ensures, record { ordered = c .start .ensures .ordered; inside = omega (arith, c .start .ensures .inside) })
+loop-holds c = (refl, refl, refl, refl, refl, c .before .first .ensures, record { ordered = c .start .ensures .ordered; inside = omega (arith, c .start .ensures .inside) })
 
 next-call-requires : tie.Need-next-call-requires Inv-loop μ-loop
 next-call-requires c κs = search needs
 
 answer-call-requires : tie.Need-answer-call-requires Inv-loop μ-loop
 answer-call-requires c κs =
-    let s = c .before .before .before .before .before .before .before .before .before .before .before .loop in
-    let n = c .before .before .before .before .before .before .before .next-call in
-    (s .inv .4, subst (λ (k : ℕ). Lent k (length (s .minutes)) (length (s .heights)) (n .result .asked)) (sym (n .kept .0)) (n .ensures .lent))
+    let s = c .before .before .before .before .before .before .before .before .before .before .before .before .loop in
+    let n = c .before .before .before .before .before .before .before .before .next-call in
+    (s .inv .5, (subst (λ (k : ℕ). Lent k (length (s .minutes)) (length (s .heights)) (n .result .asked)) (sym (n .kept .0)) (n .ensures .lent), s .inv .1 ∙ c .before .before .before .before .before .before .before .before .before .before .before .before .before .before .before .before .before .before .pre ∙ sym (s .inv .3)))
 
 sub-calls : tie.Need-sub-calls Inv-loop μ-loop
 sub-calls c = search needs
@@ -42,10 +42,10 @@ loop-less c = search needs
 
 loop-again : tie.Need-loop-again Inv-loop μ-loop
 loop-again c =
-    let s = c .before .before .before .before .before .before .before .before .before .before .before .before .before .before .before .before .before .loop .inv in
-    let n = c .before .before .before .before .before .before .before .before .before .before .before .before .before .next-call in
-    let a = c .before .before .before .before .before .answer-call in
-    (n .kept .0 ∙ s .0, a .kept .1 .1 .1 .0 ∙ s .1, a .kept .1 .1 .1 .1 .0 ∙ s .2, a .kept .1 .1 .1 .1 .1 .0 ∙ s .3, a .ensures, subst (λ (k : ℕ). Within k (n .result .window)) (s .0) (n .ensures .within))
+    let s = c .before .before .before .before .before .before .before .before .before .before .before .before .before .before .before .before .before .before .before .loop .inv in
+    let n = c .before .before .before .before .before .before .before .before .before .before .before .before .before .before .before .next-call in
+    let a = c .before .before .before .before .before .before .answer-call in
+    (n .kept .0 ∙ s .0, a .kept .1 .1 .1 .0 ∙ s .1, a .kept .1 .1 .1 .1 .0 ∙ s .2, a .kept .1 .1 .1 .1 .1 .0 ∙ s .3, a .kept .1 .1 .1 .1 .1 .1 .0 ∙ s .4, a .ensures, subst (λ (k : ℕ). Within k (n .result .window)) (s .0) (n .ensures .within))
 
 flush-requires : tie.Need-flush-requires Inv-loop μ-loop
 flush-requires c κs = search needs
@@ -61,6 +61,9 @@ same-length-3 c = search needs
 
 same-length-4 : tie.Need-same-length-4 Inv-loop μ-loop
 same-length-4 c = search needs
+
+same-length-5 : tie.Need-same-length-5 Inv-loop μ-loop
+same-length-5 c = search needs
 
 returns : tie.Need-returns Inv-loop μ-loop
 returns c = search needs
@@ -84,4 +87,5 @@ run-spec =
     same-length-2
     same-length-3
     same-length-4
+    same-length-5
     returns)

@@ -2,7 +2,7 @@
 use Rattle.turns.proofs.put_heights.Statement.{statement}
 use Rattle.turns.proofs.put_heights.Tie as tie
 use borrow.Author.Needs.{needs}
-use Prim.Native.Nat.{ℕ, _-_, _≤_}
+use Prim.Native.Nat.{_-_, _≤_}
 use native.Mathlib.Omega.{arith}
 use mathlib.Core.Path.{_≡_, refl, sym, _∙_}
 use mathlib.Core.List.{map}

@@ -44,7 +44,7 @@ loop-less c = search needs
 
 loop-again : tie.Need-loop-again Inv-loop μ-loop
 loop-again c = let s = c .before .before .before .loop in let a = c .before .before .before .before .args in let l : s .k < length (s .ticks) = omega arith in
-    (omega arith, (length-set (s .ticks) (s .k) (c .advance .result) ∙ s .inv .1 .0, filled-more (s .ticks) (s .k) (c .advance .result) (λ k. 1_314 * getD (a .frequencies .now) k 0 * a .step % turn) l (s .inv .1 .1) (c .advance .ensures)))
+    (omega arith, (length-set (s .ticks) (s .k) (c .advance .result) ∙ s .inv .1 .0, filled-more 0 (s .ticks) (s .k) (c .advance .result) (λ k. 1_314 * getD (a .frequencies .now) k 0 * a .step % turn) l (s .inv .1 .1) (c .advance .ensures)))
 
 returns : tie.Need-returns Inv-loop μ-loop
 returns c = λ k h. c .before .loop .inv .1 .1 k (omega arith)

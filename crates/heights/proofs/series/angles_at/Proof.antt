@@ -56,7 +56,7 @@ loop-less c = search needs
 
 loop-again : tie.Need-loop-again Inv-loop μ-loop
 loop-again c = let s = c .before .before .before .before .before .loop in let a = c .before .before .before .before .before .before .before .args in let l : s .k < length (s .angles) = omega arith in
-    (omega arith, (length-set (s .angles) (s .k) (c .angle-at .result) ∙ s .inv .1 .0, filled-more (s .angles) (s .k) (c .angle-at .result) (λ k. angle (getD (a .arguments .now) k 0) (getD (a .lags .now) k 0) (getD (a .frequencies .now) k 0) (a .minute)) l (s .inv .1 .1) (c .angle-at .ensures)))
+    (omega arith, (length-set (s .angles) (s .k) (c .angle-at .result) ∙ s .inv .1 .0, filled-more 0 (s .angles) (s .k) (c .angle-at .result) (λ k. angle (getD (a .arguments .now) k 0) (getD (a .lags .now) k 0) (getD (a .frequencies .now) k 0) (a .minute)) l (s .inv .1 .1) (c .angle-at .ensures)))
 
 returns : tie.Need-returns Inv-loop μ-loop
 returns c = λ k h. c .before .loop .inv .1 .1 k (omega arith)

@@ -53,14 +53,14 @@ element-copy-out-share-at c = search needs
 mul-share-at-2 : tie.Need-mul-share-at-2 Inv-loop μ-loop
 mul-share-at-2 c = search needs
 
-shared-slice-copy-out-share-at : tie.Need-shared-slice-copy-out-share-at Inv-loop μ-loop
-shared-slice-copy-out-share-at c = search needs
+element-copy-out-share-at-2 : tie.Need-element-copy-out-share-at-2 Inv-loop μ-loop
+element-copy-out-share-at-2 c = search needs
 
 mul-share-at-3 : tie.Need-mul-share-at-3 Inv-loop μ-loop
 mul-share-at-3 c = search needs
 
-shared-slice-copy-out-share-at-2 : tie.Need-shared-slice-copy-out-share-at-2 Inv-loop μ-loop
-shared-slice-copy-out-share-at-2 c = search needs
+element-copy-out-share-at-3 : tie.Need-element-copy-out-share-at-3 Inv-loop μ-loop
+element-copy-out-share-at-3 c = search needs
 
 share-at-requires : tie.Need-share-at-requires Inv-loop μ-loop
 share-at-requires c κs = search needs
@@ -125,9 +125,9 @@ height-of-spec =
     mul-share-at
     element-copy-out-share-at
     mul-share-at-2
-    shared-slice-copy-out-share-at
+    element-copy-out-share-at-2
     mul-share-at-3
-    shared-slice-copy-out-share-at-2
+    element-copy-out-share-at-3
     share-at-requires
     add-sum
     add-k

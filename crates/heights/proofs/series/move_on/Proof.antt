@@ -69,8 +69,8 @@ loop-again c =
     record {
       within = omega arith;
       room = length-set (s .angles) (s .k) (r .result) ∙ s .inv .room;
-      moved = filled-more (s .angles) (s .k) (r .result) (λ j. (getD (a .angles .now) j 0 + getD (a .ticks .now) j 0) % turn) l (s .inv .moved) e;
-      others = unreached (s .angles) (s .k) (r .result) (λ j. getD (a .angles .now) j 0) (s .inv .others);
+      moved = filled-more 0 (s .angles) (s .k) (r .result) (λ j. (getD (a .angles .now) j 0 + getD (a .ticks .now) j 0) % turn) l (s .inv .moved) e;
+      others = unreached 0 (s .angles) (s .k) (r .result) (λ j. getD (a .angles .now) j 0) (s .inv .others);
     }
 
 returns : tie.Need-returns Inv-loop μ-loop

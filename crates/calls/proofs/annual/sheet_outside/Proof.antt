@@ -1,7 +1,7 @@
--- `calls::sheets::sheet_outside` meets its contract: the series' question, and then the search's, of the year's last minute. Assumes nothing.
+-- `calls::annual::sheet_outside` meets its contract: the series' question, and then the search's, of the year's last minute. Assumes nothing.
 use borrow.Author.Needs.{needs}
-use Rattle.calls.proofs.sheets.sheet_outside.Statement.{statement}
-use Rattle.calls.proofs.sheets.sheet_outside.Tie as tie
+use Rattle.calls.proofs.annual.sheet_outside.Statement.{statement}
+use Rattle.calls.proofs.annual.sheet_outside.Tie as tie
 
 year-minutes-requires : tie.Need-year-minutes-requires
 year-minutes-requires c κs = search needs

@@ -1,7 +1,7 @@
--- `calls::sheets::year_answer` meets its contract: the state first, and then 8. Assumes nothing.
+-- `calls::annual::year_answer` meets its contract: the state first, and then 8. Assumes nothing.
 use borrow.Author.Needs.{needs}
-use Rattle.calls.proofs.sheets.year_answer.Statement.{statement}
-use Rattle.calls.proofs.sheets.year_answer.Tie as tie
+use Rattle.calls.proofs.annual.year_answer.Statement.{statement}
+use Rattle.calls.proofs.annual.year_answer.Tie as tie
 use borrow.Author.Tests.{not-true, not-false}
 use mathlib.Core.Path.{sym, _∙_}
 use Rattle.calls.proofs.asked.States.{year-by}

@@ -1,0 +1,105 @@
+-- `cuvalimodo_year` meets its contract: a walk of its MIR. The clock is copied (`Copied`), the three slices are lent on, and all goes to `byvalue::year` (`PassedOn`). Assumes nothing.
+use Rattle.cuvalimodo_c.proofs.Walking.{refl, ℕ, _<_, _^_, List, [], _∷_, length, URA, named, w32, Val, vint, SProp, ent, emp, id⊢, Lft, Share, flft, Memory, Routine, Heap, Calls, Loops, WpFn, Atoms, Fun, factI, givenOf, tablesOf, Given, ‵, raw, _⊛_, _$_, _∵_, !, qed, move, split, join, fsplit, suffices, frame, done, whole, sub, look-in, look, init, forget, stop, hop, fld, from, load, and-then, no-more, assigns, land, returns, enter, alloc1, alloc0, params1, pass1, pass0, free1, free0, FmC, owns, Is, shows, uint-vals, uint-tells, u32, RefT, ptr-vals, peeks, Vals, Contract, Triple, cited, says, needs, Stays, walkOf, Walks, ends-at, walked, Met, asks, walks-meet}
+use lib.IntN.{ℤ}
+use contract.Lifetimes.{toks}
+use types.Part.{agg}
+use types.Run.{addr}
+use denote.Builtin.{i64}
+use denote.Ref.{ShrRef, shr-tells}
+use denote.Slice.{sliceVal, MutSlice, Room, slice-vals, mut-slice-tells}
+use denote.Struct.Laws as LL
+use Rattle.clock.specs.declared.Clock.{Clock}
+use Rattle.clock.specs.View.{Made}
+use Rattle.clock.specs.Posts.{YearPost}
+use Rattle.clock.proofs.Clock as T
+use Rattle.cuvalimodo_c.specs.declared.answers.Turnings.{Turnings}
+use Rattle.cuvalimodo_c.specs.Answers.{turningsReturned, PlainTurnings}
+use Rattle.cuvalimodo_c.proofs.Stored.{clockVal}
+use Rattle.cuvalimodo_c.proofs.Copied.{copied}
+use Rattle.cuvalimodo_c.proofs.PassedOn.{all-passed, all-go}
+use Rattle.cuvalimodo_c.proofs.answers.Turnings as R
+use Rattle.cuvalimodo_c.proofs.answers.Turnings.Laws as R′
+use Rattle.cuvalimodo_c.proofs.byvalue.year as inner
+use Rattle.cuvalimodo_c.proofs.byvalue.year.Symbol as inner-def
+use Rattle.cuvalimodo_c.proofs.byvalue.year.Symbol.{name as #inner}
+use Rattle.cuvalimodo_c.proofs.byvalue.year.Met as inner-thm
+use Rattle.cuvalimodo_c.proofs.cuvalimodo_year.Key.{name as #it}
+use Rattle.cuvalimodo_c.proofs.cuvalimodo_year as it
+use Rattle.cuvalimodo_c.proofs.cuvalimodo_year.Statement as stated
+use Rattle.cuvalimodo_c.proofs.cuvalimodo_year.Code as code
+
+abbrev stayed : Stays (it.ended .signature .params) (it.ended .kept)
+stayed = all-passed (it.ended .signature .params) (it.ended .kept)
+
+module _ {M : Type 1} (𝓤 : URA M) (H : Heap 𝓤) (A : Atoms 𝓤) (W : Given 𝓤 H A) (at-mem : Memory → SProp 𝓤) (run : Routine → Fun 𝓤) (𝓒 : Calls 𝓤 H) (Λ : Loops 𝓤 H) (fm : FmC 𝓤 H (W .laws) 𝓒)
+    (known : Triple 𝓤 (𝓒 #inner) (Met 𝓤 H A inner.ended (inner.clauses 𝓤 H A at-mem run))) where
+  abbrev Walk : Contract 𝓤
+  Walk = walkOf 𝓤 H A it.ended stayed (it.clauses 𝓤 H A at-mem run)
+
+  module _ (κ κ₁ κ₂ κ₃ : Lft) (q q₁ q₂ q₃ : Share) (x : RefT Clock) (year start step first last : ℕ) (series : RefT (List ℤ)) (minutes : RefT (List ℕ)) (heights : RefT (List ℤ)) where
+    abbrev sv : Val
+    sv = sliceVal (series .ptr) (length (series .now))
+
+    abbrev mv : Val
+    mv = sliceVal (minutes .ptr) (length (minutes .now))
+
+    abbrev hv : Val
+    hv = sliceVal (heights .ptr) (length (heights .now))
+
+    abbrev at : Vals it.signature (κ, (κ₁, (κ₂, (κ₃, tt))))
+    at = (ptr-vals x, (vint w32 year ∷ [], (vint w32 start ∷ [], (vint w32 step ∷ [], (vint w32 first ∷ [], (vint w32 last ∷ [], (sv ∷ [], (mv ∷ [], (hv ∷ [], tt)))))))))
+
+    abbrev Said : Turnings → List ℤ → List ℕ → List ℤ → Type 0
+    Said r seriesLeft minutesLeft heightsLeft = YearPost (x .now) (record { year = year; start = start; step = step; first = first; last = last }) (series .now) seriesLeft (minutes .now) minutesLeft (heights .now) heightsLeft (turningsReturned r) × PlainTurnings r
+
+    abbrev ghosts : Walk .Ghost
+    ghosts = (((κ, (κ₁, (κ₂, (κ₃, tt)))), (q, (q₁, (q₂, (q₃, tt)))), tt, (x, (year, (start, (step, (first, (last, (series, (minutes, (heights, tt))))))))), at), tt)
+
+    walk : year < 2 ^ 32 → start < 2 ^ 32 → step < 2 ^ 32 → first < 2 ^ 32 → last < 2 ^ 32 → Room i64 (length (series .now)) → Room u32 (length (minutes .now)) → Room i64 (length (heights .now))
+        → ent 𝓤 (Walk .pre ghosts) (WpFn 𝓤 H 𝓒 Λ code.function (Walk .args ghosts) (Walk .post ghosts))
+    walk gy gs gt gf gl gk gm gn = needs 𝓤 (Made (x .now)) _ (λ made.
+        qed W ((‵ (flft κ q) ⊛ raw (toks 𝓤 A 3 (κ₁, (κ₂, (κ₃, tt))) (q₁, (q₂, (q₃, tt))))) ∷ ‵ (owns (ShrRef (named 0) κ T.the-row ∷ u32 ∷ u32 ∷ u32 ∷ u32 ∷ u32 ∷ MutSlice (named 1) κ₁ i64 ∷ MutSlice (named 2) κ₂ u32 ∷ MutSlice (named 3) κ₃ i64 ∷ []) (x, (year, (start, (step, (first, (last, (series, (minutes, (heights, tt))))))))) at) ∷ []) ∵ enter ! 𝓒 Λ code.function (Walk .args ghosts) _ $
+        alloc1 ! (λ l₀. alloc1 ! (λ l₁. alloc1 ! (λ l₂. alloc1 ! (λ l₃. alloc1 ! (λ l₄. alloc1 ! (λ l₅. alloc1 ! (λ l₆. alloc1 ! (λ l₇. alloc1 ! (λ l₈. alloc1 ! (λ l₉. alloc1 ! (λ l₁₀. alloc1 ! (λ l₁₁. alloc1 ! (λ l₁₂. alloc1 ! (λ l₁₃. alloc1 ! (λ l₁₄. alloc1 ! (λ l₁₅. alloc1 ! (λ l₁₆. alloc0 ! $ params1 ! $
+        pass1 ! (init ! 30 refl (tt, tt)) $ pass1 ! (init ! 28 refl (tt, record { fits = gy })) $ pass1 ! (init ! 26 refl (tt, record { fits = gs })) $ pass1 ! (init ! 24 refl (tt, record { fits = gt })) $ pass1 ! (init ! 22 refl (tt, record { fits = gf })) $ pass1 ! (init ! 20 refl (tt, record { fits = gl })) $
+        pass1 ! (init ! 18 refl (tt, (tt, (record { fits = gk .0 }, tt)))) $ pass1 ! (init ! 16 refl (tt, (tt, (record { fits = gm .0 }, tt)))) $ pass1 ! (init ! 14 refl (tt, (tt, (record { fits = gn .0 }, tt)))) $ pass0 ! $
+        move ! (34 ∷ []) $ split ! $ move ! (36 ∷ []) $ fsplit ! $ move ! (0 ∷ 1 ∷ 2 ∷ 16 ∷ 34 ∷ []) $
+        copied 𝓤 H A W κ q x _ l₀ l₁ 10 l₁₀ _ _ _ (λ _. from ! (stop !)) $
+        -- [what the call's parameters own; the clock's token; the copy; _1; the slices' tokens; _16; …; _15; …; _14; …; _13; …; _12; …; _11; …; …; _9; …; _8; …; _7; …; _6; …; _5; …; _4; …; _3; …; _2; …; …; _0; …]
+        assigns ! (addr ! (from ! (fld ! refl (hop ! (look-in ! 22 (sub ! 0 refl (whole !))) (stop !))))) (from ! (stop !)) (init ! 15 refl (tt, tt)) $
+        assigns ! (agg ! (and-then ! (load ! (from ! (stop !)) (look ! 15 refl)) (and-then ! (load ! (from ! (fld ! refl (stop !))) (look-in ! 22 (sub ! 1 refl (whole !)))) (no-more !)))) (from ! (stop !)) (init ! 13 refl (tt, (tt, (record { fits = gk .0 }, tt)))) $
+        assigns ! (addr ! (from ! (fld ! refl (hop ! (look-in ! 20 (sub ! 0 refl (whole !))) (stop !))))) (from ! (stop !)) (init ! 11 refl (tt, tt)) $
+        assigns ! (agg ! (and-then ! (load ! (from ! (stop !)) (look ! 11 refl)) (and-then ! (load ! (from ! (fld ! refl (stop !))) (look-in ! 20 (sub ! 1 refl (whole !)))) (no-more !)))) (from ! (stop !)) (init ! 9 refl (tt, (tt, (record { fits = gm .0 }, tt)))) $
+        assigns ! (addr ! (from ! (fld ! refl (hop ! (look-in ! 18 (sub ! 0 refl (whole !))) (stop !))))) (from ! (stop !)) (init ! 7 refl (tt, tt)) $
+        assigns ! (agg ! (and-then ! (load ! (from ! (stop !)) (look ! 7 refl)) (and-then ! (load ! (from ! (fld ! refl (stop !))) (look-in ! 18 (sub ! 1 refl (whole !)))) (no-more !)))) (from ! (stop !)) (init ! 5 refl (tt, (tt, (record { fits = gn .0 }, tt)))) $
+        move ! (4 ∷ 0 ∷ []) $
+        asks 𝓤 H A inner.ended (inner.clauses 𝓤 H A at-mem run) W ((κ₁, (κ₂, (κ₃, tt))), (q₁, (q₂, (q₃, tt))), tt, (x .now, (year, (start, (step, (first, (last, (series, (minutes, (heights, tt))))))))), (clockVal (x .now) ∷ [], at .1)) tt
+        (λ r ws. Said r (ws .1 .1 .1 .1 .1 .1 .0) (ws .1 .1 .1 .1 .1 .1 .1 .0) (ws .1 .1 .1 .1 .1 .1 .1 .1 .0)) (factI 𝓤 (Made (x .now)) (emp 𝓤) made) (λ r ws. id⊢ 𝓤 _) fm known
+        (and-then ! (load ! (from ! (stop !)) (look ! 2 refl)) (and-then ! (load ! (from ! (stop !)) (look ! 31 refl)) (and-then ! (load ! (from ! (stop !)) (look ! 29 refl)) (and-then ! (load ! (from ! (stop !)) (look ! 27 refl)) (and-then ! (load ! (from ! (stop !)) (look ! 25 refl)) (and-then ! (load ! (from ! (stop !)) (look ! 23 refl))
+        (and-then ! (load ! (from ! (stop !)) (look ! 12 refl)) (and-then ! (load ! (from ! (stop !)) (look ! 8 refl)) (and-then ! (load ! (from ! (stop !)) (look ! 4 refl)) (no-more !))))))))))
+        (λ v r ws p. peeks ! R.the-row (Is R.the-row) (shows 𝓤 H A R.the-row) r (v ∷ []) (λ is.
+        -- [the turnings; the slices' tokens; what is said of the last series, minutes and heights; the clock's token; the copy; _1; _16; …; _15; …; _14; …; _13; …; _12; …; _11; …; …; _9; …; _8; …; _7; …; _6; …; _5; …; _4; …; _3; …; _2; …; …; _0; …]
+        land ! (from ! (stop !)) (init ! 36 refl (LL.lawful R.the-type R′.the-laws 𝓤 H A W .typed r _ is .0)) $
+        returns ! (look ! 36 refl) $ forget ! 4 refl $ forget ! 5 refl $ forget ! 6 refl $ forget ! 8 refl $ forget ! 10 refl $ forget ! 12 refl $ forget ! 14 refl $ forget ! 16 refl $
+        forget ! 19 refl $ forget ! 21 refl $ forget ! 23 refl $ forget ! 25 refl $ forget ! 27 refl $ forget ! 29 refl $ forget ! 31 refl $ forget ! 33 refl $ forget ! 36 refl $
+        move ! (36 ∷ 37 ∷ []) $ free1 ! $ move ! (5 ∷ 35 ∷ []) $ free1 ! $ move ! (32 ∷ 33 ∷ []) $ free1 ! $ move ! (30 ∷ 31 ∷ []) $ free1 ! $ move ! (28 ∷ 29 ∷ []) $ free1 ! $ move ! (26 ∷ 27 ∷ []) $ free1 ! $ move ! (24 ∷ 25 ∷ []) $ free1 ! $
+        move ! (22 ∷ 23 ∷ []) $ free1 ! $ move ! (20 ∷ 21 ∷ []) $ free1 ! $ move ! (18 ∷ 19 ∷ []) $ free1 ! $ move ! (4 ∷ 17 ∷ []) $ free1 ! $
+        move ! (14 ∷ 15 ∷ []) $ free1 ! $ move ! (12 ∷ 13 ∷ []) $ free1 ! $ move ! (10 ∷ 11 ∷ []) $ free1 ! $ move ! (8 ∷ 9 ∷ []) $ free1 ! $ move ! (6 ∷ 7 ∷ []) $ free1 ! $ move ! (4 ∷ 5 ∷ []) $ free1 ! $ free0 ! $
+        suffices ! _ (ends-at 𝓤 H A it.ended stayed (it.clauses 𝓤 H A at-mem run) W ghosts v r ws (tt, (tt, (tt, (tt, (tt, (tt, (tt, (tt, (tt, tt)))))))))) $ says ! p $
+        move ! (3 ∷ 1 ∷ []) $ join ! $ frame ! $ move ! (1 ∷ []) $ frame ! $ done !))))))))))))))))))))
+
+  walks : Walks 𝓤 H A it.ended stayed (WpFn 𝓤 H 𝓒 Λ code.function) (it.clauses 𝓤 H A at-mem run)
+  walks = walked 𝓤 H A it.ended stayed (it.clauses 𝓤 H A at-mem run) (WpFn 𝓤 H 𝓒 Λ code.function)
+      (λ κs. (ptr-vals, (uint-vals w32, (uint-vals w32, (uint-vals w32, (uint-vals w32, (uint-vals w32, (slice-vals, (slice-vals, (slice-vals, tt))))))))))
+      (λ κs. (shr-tells (named 0) (κs .0) T.the-row, (uint-tells w32, (uint-tells w32, (uint-tells w32, (uint-tells w32, (uint-tells w32, (mut-slice-tells (named 1) (κs .1 .0) i64, (mut-slice-tells (named 2) (κs .1 .1 .0) u32, (mut-slice-tells (named 3) (κs .1 .1 .1 .0) i64, tt))))))))))
+      (λ κs qs bounds a g are. walk (κs .0) (κs .1 .0) (κs .1 .1 .0) (κs .1 .1 .1 .0) (qs .0) (qs .1 .0) (qs .1 .1 .0) (qs .1 .1 .1 .0) (a .0) (a .1 .0) (a .1 .1 .0) (a .1 .1 .1 .0) (a .1 .1 .1 .1 .0) (a .1 .1 .1 .1 .1 .0) (a .1 .1 .1 .1 .1 .1 .0) (a .1 .1 .1 .1 .1 .1 .1 .0) (a .1 .1 .1 .1 .1 .1 .1 .1 .0)
+      (are .1 .0 .1) (are .1 .1 .0 .1) (are .1 .1 .1 .0 .1) (are .1 .1 .1 .1 .0 .1) (are .1 .1 .1 .1 .1 .0 .1) (are .1 .1 .1 .1 .1 .1 .0 .0 .1) (are .1 .1 .1 .1 .1 .1 .1 .0 .0 .1) (are .1 .1 .1 .1 .1 .1 .1 .1 .0 .0 .1))
+
+pub cuvalimodo-year-spec : {M : Type 1} → stated.statement M
+unfolding code.routine tablesOf
+cuvalimodo-year-spec 𝓤 H 𝓜 𝓖 𝓡 =
+    let A = 𝓖 .A in
+    let W = givenOf 𝓤 H 𝓜 𝓖 in
+    walks-meet 𝓤 H 𝓜 𝓖 𝓡 code.env it.ended stayed (it.clauses 𝓤 H A (𝓜 .mem) (𝓡 .run)) #it code.function (code.unfolded 𝓤 H 𝓜 𝓡)
+    (all-go 𝓤 H A W 4 (it.ended .signature .params) (it.ended .kept))
+    (λ fm. walks 𝓤 H A W (𝓜 .mem) (𝓡 .run) _ _ fm
+    (cited 𝓤 H _ 𝓜 𝓡 code.env #inner inner-def.routine code.calls-cuvalimodo-c·byvalue·year (inner-thm.met 𝓤 H 𝓜 𝓖 𝓡)))
