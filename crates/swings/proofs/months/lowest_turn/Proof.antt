@@ -43,9 +43,9 @@ loop-again c =
       omega arith,
       omega arith,
       ⊎-elim
-      (λ w. w .1 ∙ lowest-new (a .heights .now) (a .from) (s .loop .i) (omega arith) (s .loop .inv .2) x y (w .0 .taken))
-      (λ w. w .1 ∙ lowest-kept (a .heights .now) (a .from) (s .loop .i) (omega arith) (s .loop .inv .2) x y (w .0 .left))
-      (c .if1 .came),
+          (λ w. w .1 ∙ lowest-new (a .heights .now) (a .from) (s .loop .i) (omega arith) (s .loop .inv .2) x y (w .0 .taken))
+          (λ w. w .1 ∙ lowest-kept (a .heights .now) (a .from) (s .loop .i) (omega arith) (s .loop .inv .2) x y (w .0 .left))
+          (c .if1 .came),
     )
 
 returns : tie.Need-returns Inv-loop μ-loop
