@@ -195,11 +195,11 @@ static void time_two(const char *what, repeated *ours, repeated *theirs, uint32_
 
 // A year's sheet beside our own of its months, which are prepared before: the year's turns, and every minute of it. A year that has more turns
 // than are kept while they are counted (turns::KEPT) is searched twice: it has no target.
-static void time_year(int count, double target) {
+static void time_year(int count) {
     char what[80];
     set_year(&y, &w);
     snprintf(what, sizeof what, "turns of a year, %d constituents", count);
-    time_beside(what, "ours, twelve months", our_year_search, twelve_searches, count > 20 ? 1 : 4, target);
+    time_beside(what, "ours, twelve months", our_year_search, twelve_searches, count > 20 ? 1 : 4, 1.25);
     snprintf(what, sizeof what, "series, a year, %d constituents", count);
     time_beside(what, "ours, twelve months", our_year_series, twelve_serieses, 1, 1.1);
 }
@@ -222,13 +222,13 @@ void print_times(const char *file, size_t length) {
     time_two("a single height, 11 constituents", our_heights, peer_heights, 20000, 1.1);
     time_two("turns of a month, 11 constituents", our_turns, peer_turn_searches, 20, 1.1);
     time_two("preparing a month, 11 constituents", our_dates, peer_dates, 2000, 1.2);
-    time_year(11, 1.25);
+    time_year(11);
     set(file, length, 37);
-    time_year(37, 1.25);
+    time_year(37);
     set(file, length, 145);
     time_two("turns of a month, 145 constituents", our_turns, peer_turn_searches, 2, 1.1);
     time_two("preparing a month, 145 constituents", our_dates, peer_dates, 500, 1.2);
-    time_year(145, 0);
+    time_year(145);
     time_two("reading the standard card file", our_cards, peer_cards, 20, 1.5);
 }
 
