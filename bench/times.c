@@ -193,8 +193,7 @@ static void time_two(const char *what, repeated *ours, repeated *theirs, uint32_
     time_beside(what, "(a) whole numbers in C", ours, theirs, repeats, target);
 }
 
-// A year's sheet beside our own of its months, which are prepared before: the year's turns, and every minute of it. A year that has more turns
-// than are kept while they are counted (turns::KEPT) is searched twice: it has no target.
+// A year's sheet beside our own of its months, which are prepared before: the year's turns, and every minute of it.
 static void time_year(int count) {
     char what[80];
     set_year(&y, &w);
