@@ -59,8 +59,8 @@ pub fn month_minutes(year: u32, month: u32) -> u32
     month_days(year, month) * 1440
 }
 
-// The days of the months before a month.
-fn days_before(year: u32, month: u32) -> u64
+// The days of the months before a month; before month 13 lie the year's.
+pub fn days_before(year: u32, month: u32) -> u64
     ensures is { λ r. ⌜ r ≡ monthsDays year (month - 1) ⌝ }
     ensures small { λ r. ⌜ r ≤ 12 * 31 ⌝ }
 {

@@ -24,13 +24,7 @@ pub fn days_before(year: u32, month: u32) -> u32
     ensures is { λ r. ⌜ r ≡ monthsDays year (month - 1) ⌝ }
     ensures small { λ r. ⌜ r ≤ 12 * 31 ⌝ }
 {
-    let mut days: u32 = 0;
-    let mut passed: u32 = 0;
-    while passed < 12 && passed + 1 < month {
-        days += calendar::month_days(year, passed + 1);
-        passed += 1;
-    }
-    days
+    calendar::days_before(year, month) as u32
 }
 
 // A turn's height, counted as a drawing counts it.
