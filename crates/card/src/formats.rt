@@ -17,6 +17,9 @@ pub const MAIN_NAME: usize = 6;
 
 pub const SHALLOW_NAME: usize = 6;
 
+// "ratio, 0 to 2.0000", in ten-thousandths.
+pub const RATIO: u32 = 20_000;
+
 // A number field: what it holds and which of several, from 1 (0: there is one only); its first column, width and format; its range.
 pub struct NumberField {
     pub what: What,
@@ -178,7 +181,7 @@ pub fn ratio(j: usize) -> NumberField
         width: 7,
         format: Format::Fixed(4),
         low: 0,
-        high: 20_000,
+        high: RATIO as i64,
     }
 }
 

@@ -1,13 +1,14 @@
 // One card of the card file: the columns and ranges of its number fields, what is wrong with it, its numbers narrowed to the types that the
 // table keeps, how it opens, and the places of its names.
 ghost use mathlib.Core.Path.{_≡_};
-ghost use Prim.Native.Nat.{_≤_};
+ghost use Prim.Native.Nat.{_≤_, _<_};
 ghost use lib.ListN.{length, take};
 ghost use lib.IntN.{natAbs};
+ghost use Rattle.limits.specs.Limits.{satellitesACard};
 ghost use Rattle.card.specs.Formats as spec;
 ghost use Rattle.card.specs.Card.{fieldOn, number, numbers};
 ghost use Rattle.card.specs.inner.Fields.{IsSmall, IsNatural, RowGood};
-ghost use Rattle.card.specs.inner.Answers.{smallGives, naturalGives, NaturalWithin, checkGives};
+ghost use Rattle.card.specs.inner.Answers.{smallGives, naturalGives, NaturalWithin, ratioGives, RatioWithin, checkGives};
 
 pub mod faults; // what is wrong with a card
 pub mod formats; // the columns of each card
@@ -17,7 +18,9 @@ pub mod places; // the places of constituents
 use faults::Fault;
 use faults::Trouble;
 use fields::Field;
+use fields::Narrow;
 use formats::NumberField;
+use formats::RATIO;
 use formats::Row;
 use formats::fault_in;
 
@@ -30,6 +33,12 @@ pub enum Small {
 // A number of a card that is not below 0, or what is wrong with it.
 pub enum Natural {
     Value(u64),
+    Bad(Fault),
+}
+
+// A satellite's ratio on a card, in ten-thousandths, or what is wrong with it.
+pub enum Ratio {
+    Value(u32),
     Bad(Fault),
 }
 
@@ -69,6 +78,21 @@ pub fn natural_field(line: &[u8], f: NumberField) -> Natural
         Field::Value(v) => Natural::Value(v as u64),
         Field::Malformed => Natural::Bad(fault_in(f, Trouble::Malformed)),
         Field::OutOfRange => Natural::Bad(fault_in(f, Trouble::OutOfRange)),
+    }
+}
+
+// The ratio of a card's satellite j: its range check hands it out in the 32 bits that it keeps.
+pub fn ratio_on(line: &[u8], j: usize) -> Ratio
+    requires { ⌜ j < satellitesACard ⌝ }
+    ensures { λ r. ⌜ ratioGives r ≡ number (now (line .entry)) (spec.ratioField j) ⌝ }
+    ensures { λ r. ⌜ RatioWithin r 20_000 ⌝ }
+{
+    let f = formats::ratio(j);
+    let format = f.format;
+    match fields::narrow_field(line, f.from, f.width, format, RATIO) {
+        Narrow::Value(ratio) => Ratio::Value(ratio),
+        Narrow::Malformed => Ratio::Bad(fault_in(f, Trouble::Malformed)),
+        Narrow::OutOfRange => Ratio::Bad(fault_in(f, Trouble::OutOfRange)),
     }
 }
 

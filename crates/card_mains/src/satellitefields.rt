@@ -7,12 +7,12 @@ ghost use Rattle.refusals.specs.Checked.{bad};
 ghost use Rattle.card_mains.specs.Satellite.{satellite};
 ghost use Rattle.card_mains.specs.inner.Satellite.{satelliteGives};
 use card::Check;
-use card::Natural;
+use card::Ratio;
 use card::Small;
 use card::faults::Fault;
 use card::formats;
 use card::formats::Row;
-use card::natural_field;
+use card::ratio_on;
 use card::small_field;
 use card::small_row;
 
@@ -48,18 +48,18 @@ pub fn satellite_fields(line: &[u8], j: usize) -> SatelliteRead
     let differences = row.values;
     match check {
         Check::Clear => match small_field(line, formats::satellite_phase(j)) {
-            Small::Value(phase) => match natural_field(line, formats::ratio(j)) {
-                Natural::Value(ratio) => {
+            Small::Value(phase) => match ratio_on(line, j) {
+                Ratio::Value(ratio) => {
                     let mark = columns::column(line, formats::mark_column(j));
                     SatelliteRead {
                         check: Check::Clear,
                         differences: differences,
                         phase: phase,
-                        ratio: ratio as u32,
+                        ratio: ratio,
                         mark: mark,
                     }
                 }
-                Natural::Bad(fault) => failed(fault),
+                Ratio::Bad(fault) => failed(fault),
             },
             Small::Bad(fault) => failed(fault),
         },

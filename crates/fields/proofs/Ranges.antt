@@ -5,6 +5,7 @@ use Prim.Native.Nat.{ℕ, zero, suc, _≤_, _<_, min}
 use mathlib.Core.List.{List}
 use mathlib.Core.Bool.{Bool, true, false, cond, not, and-false}
 use lib.IntN.{ℤ, pos, negsuc, negℤ, _-ℤ_}
+use lib.ListN.{drop}
 use lib.Signed.{ltZ, leZ}
 use lib.Dec.{leb, ltb}
 use native.Mathlib.Nat.{zero-add}
@@ -13,14 +14,16 @@ use borrow.Author.Tests.{ltb-true, ltb-false, le-leb, lt-leb}
 use mir.Syntax.{w64}
 use mir.Val.{SFits, toZ}
 use mir.ValLaws.{toZ-pos}
-use Rattle.fields.specs.Numerals.{wholeGood, wholeSize, fixedGood, fixedSize}
-use Rattle.fields.specs.Number.{numeric, malformed, signed, ranged, unsigned}
+use Rattle.columns.specs.Bytes.{blank, behind}
+use Rattle.fields.specs.Numerals.{begins, wholeGood, wholeSize, fixedGood, fixedSize}
+use Rattle.fields.specs.Number.{numeric, malformed, signed, ranged, unsigned, unblanked, contentsOf}
 use Rattle.fields.specs.inner.Cap.{cap, kept}
-use Rattle.fields.specs.inner.Kept.{keptOf}
+use Rattle.fields.specs.inner.Kept.{keptOf, writtenIn}
 use Rattle.fields.specs.declared.Format.{Format}
 use Rattle.fields.specs.declared.Format.the-variants.{Whole, Fixed}
 use Rattle.fields.specs.declared.numerals.Size.the-variants.{Of, Bad}
-use Rattle.fields.specs.declared.Field.the-variants.{Malformed, OutOfRange}
+use Rattle.fields.specs.declared.Written.{Written}
+use Rattle.fields.specs.declared.Field.the-variants.{Value, Malformed, OutOfRange}
 
 leb-ltb : (a b : ℕ) → leb a b ≡ not (ltb b a)
 leb-ltb a b = go (ltb b a) refl
@@ -69,26 +72,66 @@ module _ (low high : ℤ) (fl : SFits w64 low) (fh : SFits w64 high) where
           out-above (min cap size) b ∙ sym (out-above size a)
 
   -- so a size that is kept has the answer of the field, and none is kept of a malformed one
-  pub kept-of : (negative good : Bool) (size n : ℕ) → kept good size ≡ Of n
+  kept-of : (negative good : Bool) (size n : ℕ) → kept good size ≡ Of n
       → ranged low high (numeric (signed negative n)) ≡ ranged low high (cond good (numeric (signed negative size)) malformed)
   kept-of negative true size n h = let e : n ≡ min cap size = cc in rw e (cap-loses-nothing negative size)
   kept-of negative false size n h = let z : _≡_ {A = ℕ} 0 1 = cc in absurd (omega arith)
 
-  pub kept-bad : (negative good : Bool) (size : ℕ) → kept good size ≡ Bad → Malformed ≡ ranged low high (cond good (numeric (signed negative size)) malformed)
+  kept-bad : (negative good : Bool) (size : ℕ) → kept good size ≡ Bad → Malformed ≡ ranged low high (cond good (numeric (signed negative size)) malformed)
   unfolding ranged
   kept-bad negative true size h = let z : _≡_ {A = ℕ} 0 1 = cc in absurd (omega arith)
   kept-bad negative false size h = refl
 
-  pub sized-of : (format : Format) (negative : Bool) (bs : List ℕ) (n : ℕ) → keptOf format bs ≡ Of n
+  sized-of : (format : Format) (negative : Bool) (bs : List ℕ) (n : ℕ) → keptOf format bs ≡ Of n
       → ranged low high (numeric (signed negative n)) ≡ ranged low high (unsigned format negative bs)
   unfolding keptOf unsigned
   sized-of Whole negative bs n h = kept-of negative (wholeGood bs) (wholeSize bs) n h
   sized-of (Fixed decimals) negative bs n h = kept-of negative (fixedGood decimals bs) (fixedSize decimals bs) n h
 
-  pub sized-bad : (format : Format) (negative : Bool) (bs : List ℕ) → keptOf format bs ≡ Bad → Malformed ≡ ranged low high (unsigned format negative bs)
+  sized-bad : (format : Format) (negative : Bool) (bs : List ℕ) → keptOf format bs ≡ Bad → Malformed ≡ ranged low high (unsigned format negative bs)
   unfolding keptOf unsigned
   sized-bad Whole negative bs h = kept-bad negative (wholeGood bs) (wholeSize bs) h
   sized-bad (Fixed decimals) negative bs h = kept-bad negative (fixedGood decimals bs) (fixedSize decimals bs) h
+
+  -- the same of a whole field, its sign in front
+  pub written-of : (format : Format) (field : List ℕ) (w : Written) (n : ℕ) → w ≡ writtenIn format (behind blank field) → w .size ≡ Of n
+      → ranged low high (numeric (signed (w .negative) n)) ≡ ranged low high (contentsOf format field)
+  unfolding contentsOf unblanked writtenIn
+  written-of format field w n e h = go (begins 45 (behind blank field)) w e h
+    where
+      bs : List ℕ
+      bs = behind blank field
+
+      go : (t : Bool) (w : Written) → w ≡ cond t (record { negative = true; size = keptOf format (drop 1 bs) }) (record { negative = false; size = keptOf format bs }) → w .size ≡ Of n
+          → ranged low high (numeric (signed (w .negative) n)) ≡ ranged low high (cond t (unsigned format true (drop 1 bs)) (unsigned format false bs))
+      go true w e h = rw e (sized-of format true (drop 1 bs) n (rw e at h))
+      go false w e h = rw e (sized-of format false bs n (rw e at h))
+
+  pub written-bad : (format : Format) (field : List ℕ) (w : Written) → w ≡ writtenIn format (behind blank field) → w .size ≡ Bad → Malformed ≡ ranged low high (contentsOf format field)
+  unfolding contentsOf unblanked writtenIn
+  written-bad format field w e h = go (begins 45 (behind blank field)) w e h
+    where
+      bs : List ℕ
+      bs = behind blank field
+
+      go : (t : Bool) (w : Written) → w ≡ cond t (record { negative = true; size = keptOf format (drop 1 bs) }) (record { negative = false; size = keptOf format bs }) → w .size ≡ Bad
+          → Malformed ≡ ranged low high (cond t (unsigned format true (drop 1 bs)) (unsigned format false bs))
+      go true w e h = sized-bad format true (drop 1 bs) (rw e at h)
+      go false w e h = sized-bad format false bs (rw e at h)
+
+-- a range from 0 on: nothing with a minus but 0, and nothing above its end
+pub minus-out : (high size : ℕ) → 0 < size → OutOfRange ≡ ranged (pos 0) (pos high) (numeric (signed true size))
+unfolding ranged
+minus-out high zero h = absurd (omega arith)
+minus-out high (suc m) h = refl
+
+pub above-out : (high size : ℕ) → high < size → OutOfRange ≡ ranged (pos 0) (pos high) (numeric (pos size))
+unfolding ranged
+above-out high size h = rw (lt-leb size high h, and-false)
+
+pub natural-in : (high size : ℕ) → size ≤ high → Value (pos size) ≡ ranged (pos 0) (pos high) (numeric (pos size))
+unfolding ranged
+natural-in high size h = rw (le-leb 0 size (omega arith), le-leb size high h)
 
 -- the number below 0 that the reader makes of a size
 pub small-pos : (n : ℕ) → n < 9223372036854775808 → toZ w64 n ≡ pos n

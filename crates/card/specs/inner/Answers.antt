@@ -7,6 +7,8 @@ use Rattle.card.specs.declared.Small.{Small}
 use Rattle.card.specs.declared.Small.the-variants as small
 use Rattle.card.specs.declared.Natural.{Natural}
 use Rattle.card.specs.declared.Natural.the-variants as natural
+use Rattle.card.specs.declared.Ratio.{Ratio}
+use Rattle.card.specs.declared.Ratio.the-variants as ratio
 use Rattle.card.specs.declared.Check.{Check}
 use Rattle.card.specs.declared.Check.the-variants as check
 
@@ -24,6 +26,16 @@ naturalGives (natural.Bad fault) = bad fault
 abbrev pub NaturalWithin : Natural → ℕ → Type 0
 NaturalWithin (natural.Value n) most = n ≤ most
 NaturalWithin (natural.Bad fault) most = Unit
+
+-- a satellite's ratio
+abbrev pub ratioGives : Ratio → Card ℤ
+ratioGives (ratio.Value n) = good (pos n)
+ratioGives (ratio.Bad fault) = bad fault
+
+-- 02, No. 2: "it never passes 20,000 ten-thousandths"
+abbrev pub RatioWithin : Ratio → ℕ → Type 0
+RatioWithin (ratio.Value n) most = n ≤ most
+RatioWithin (ratio.Bad fault) most = Unit
 
 -- something on a card, unless it has a fault
 abbrev pub checkGives : {A : Type 0} → Check → A → Card A

@@ -1,63 +1,41 @@
--- `fields::ranged_field` meets its contract. A field is blanks and what is behind them: `field-behind`; the two ways of the sign. Assumes nothing.
-use native.Mathlib.Omega.{arith}
+-- `fields::ranged_field` meets its contract. What is kept of a size has the field's answer: `written-of`, `written-bad`. Assumes nothing.
 use borrow.Author.Needs.{needs}
 use Rattle.fields.proofs.ranged_field.Statement.{statement}
 use Rattle.fields.proofs.ranged_field.Tie as tie
-use mathlib.Core.Path.{sym, _∙_}
+use mathlib.Core.Path.{_∙_}
 use mir.Syntax.{w64}
 use mir.ValLaws.{toZ-ofZ}
-use Rattle.columns.proofs.Columns.{padded-next}
-use Rattle.fields.specs.Number.{contentsOf, unblanked}
-use Rattle.fields.proofs.numerals.Digits.{begins-within}
-use Rattle.fields.proofs.numerals.Sizes.{field-behind}
+use Rattle.columns.specs.Columns.{columns}
+use Rattle.fields.proofs.Ranges.{written-of, written-bad}
 
-part-requires : tie.Need-part-requires
-part-requires c κs = search needs
+written-in-requires : tie.Need-written-in-requires
+written-in-requires c κs = search needs
 
-run-end-requires : tie.Need-run-end-requires
-run-end-requires c κs = search needs
+enum-known-size : tie.Need-enum-known-size
+enum-known-size c = search needs
 
-begins-requires : tie.Need-begins-requires
-begins-requires c κs = search needs
+ranged-requires : tie.Need-ranged-requires
+ranged-requires c κs = search needs
 
-add-unsigned : tie.Need-add-unsigned
-add-unsigned c = let f = c .before .before .before .part .result .now in omega (arith, begins-within _ f (c .before .before .run-end .result) (c .before .before .before .before .before .args .width) (sym (c .before .begins .ensures) ∙ c .if1 .taken))
-
-unsigned-requires : tie.Need-unsigned-requires
-unsigned-requires c κs = search needs
+enum-told : tie.Need-enum-told
+enum-told c = search needs
 
 returns : tie.Need-returns
-unfolding contentsOf unblanked
 returns c =
     let s = c .before .before .before .before .before .before in
     let a = s .args in
-    let f = c .before .before .before .before .part .result .now in
-    let k = c .before .before .before .run-end .result in
-    let e = field-behind (a .line .now) f (a .from) (a .width) k (c .before .before .before .before .part .ensures) (c .before .before .before .run-end .ensures) in
-    rw (e, ← c .before .before .begins .ensures, c .before .if1 .taken, padded-next 32 f k (a .width)) (simp (toZ-ofZ w64 (a .low) (s .fits .low), toZ-ofZ w64 (a .high) (s .fits .high)) at (c .unsigned .ensures))
-
-unsigned-requires-2 : tie.Need-unsigned-requires-2
-unsigned-requires-2 c κs = search needs
+    let w = c .before .before .before .before .written-in in
+    (simp (toZ-ofZ w64 (a .low) (s .fits .low), toZ-ofZ w64 (a .high) (s .fits .high)) at (c .ranged .ensures))
+    ∙ written-of (a .low) (a .high) (s .fits .low) (s .fits .high) (a .format) (columns (a .line .now) (a .from) (a .width)) (w .result) (c .before .before .size .given .0 .0) (w .ensures) (c .before .before .size .given .1)
 
 returns-2 : tie.Need-returns-2
-unfolding contentsOf unblanked
 returns-2 c =
-    let s = c .before .before .before .before .before .before in
+    let s = c .before .before .before .before in
     let a = s .args in
-    let f = c .before .before .before .before .part .result .now in
-    let k = c .before .before .before .run-end .result in
-    let e = field-behind (a .line .now) f (a .from) (a .width) k (c .before .before .before .before .part .ensures) (c .before .before .before .run-end .ensures) in
-    rw (e, ← c .before .before .begins .ensures, c .before .if1 .left) (simp (toZ-ofZ w64 (a .low) (s .fits .low), toZ-ofZ w64 (a .high) (s .fits .high)) at (c .unsigned2 .ensures))
+    let w = c .before .before .written-in in
+    written-bad (a .low) (a .high) (s .fits .low) (s .fits .high) (a .format) (columns (a .line .now) (a .from) (a .width)) (w .result) (w .ensures) (c .enum-told .given .1)
 
 pub ranged-field-spec : {M : Type 1} → statement M
 ranged-field-spec =
     tie.close
-    (tie.spec
-    part-requires
-    run-end-requires
-    begins-requires
-    add-unsigned
-    unsigned-requires
-    returns
-    unsigned-requires-2
-    returns-2)
+    (tie.spec written-in-requires enum-known-size ranged-requires enum-told returns returns-2)

@@ -1,9 +1,12 @@
--- Only inner contracts cite this: what the reader keeps of a field behind its sign: its size, capped.
+-- Only inner contracts cite this: what the reader keeps of a field: its sign, and its size behind the sign, capped.
 use Prim.Native.Nat.{ℕ}
 use mathlib.Core.List.{List}
-use Rattle.fields.specs.Numerals.{wholeGood, wholeSize, fixedGood, fixedSize}
+use mathlib.Core.Bool.{true, false, cond}
+use lib.ListN.{drop}
+use Rattle.fields.specs.Numerals.{begins, wholeGood, wholeSize, fixedGood, fixedSize}
 use Rattle.fields.specs.inner.Cap.{kept}
 use Rattle.fields.specs.declared.numerals.Size.{Size}
+use Rattle.fields.specs.declared.Written.{Written}
 use Rattle.fields.specs.declared.Format.{Format}
 use Rattle.fields.specs.declared.Format.the-variants.{Whole, Fixed}
 
@@ -11,3 +14,10 @@ use Rattle.fields.specs.declared.Format.the-variants.{Whole, Fixed}
 unfoldable pub keptOf : Format → List ℕ → Size
 keptOf Whole bs = kept (wholeGood bs) (wholeSize bs)
 keptOf (Fixed decimals) bs = kept (fixedGood decimals bs) (fixedSize decimals bs)
+
+-- of a field behind its blanks: a minus is byte 45
+unfoldable pub writtenIn : Format → List ℕ → Written
+writtenIn format bs =
+    cond (begins 45 bs)
+    (record { negative = true; size = keptOf format (drop 1 bs) })
+    (record { negative = false; size = keptOf format bs })

@@ -3,12 +3,9 @@ use borrow.Author.Needs.{needs}
 use Rattle.card_mains.proofs.satellitefields.satellite_fields.Statement.{statement}
 use Rattle.card_mains.proofs.satellitefields.satellite_fields.Tie as tie
 use mathlib.Core.Path.{refl}
-use Prim.Native.Nat.{_≤_}
-use lib.IntN.{natAbs}
 use mir.Syntax.{w8}
 use mir.Val.{SFits}
 use mir.ValLaws.{toZ-ofZ}
-use Rattle.card.specs.Formats.{ratioField}
 use Rattle.card_mains.specs.Satellite.{satellite}
 
 small-row-requires : tie.Need-small-row-requires
@@ -26,11 +23,8 @@ small-field-requires c κs = rw (c .satellite-phase .ensures) (refl, refl)
 enum-known-phase : tie.Need-enum-known-phase
 enum-known-phase c = search needs
 
-ratio-requires : tie.Need-ratio-requires
-ratio-requires c κs = search needs
-
-natural-field-requires : tie.Need-natural-field-requires
-natural-field-requires c κs = rw (c .ratio .ensures) refl
+ratio-on-requires : tie.Need-ratio-on-requires
+ratio-on-requires c κs = search needs
 
 enum-known-ratio : tie.Need-enum-known-ratio
 enum-known-ratio c = search needs
@@ -40,11 +34,6 @@ mark-column-requires c κs = search needs
 
 column-requires : tie.Need-column-requires
 column-requires c κs = search needs
-
-cast-t22 : tie.Need-cast-t22
-cast-t22 c =
-    let h : c .before .before .before .ratio2 .given .0 .0 ≤ natAbs (ratioField (c .before .before .before .before .before .before .before .before .before .before .before .before .before .before .before .before .before .args .j) .high) = rw (c .before .before .before .ratio2 .given .1, c .before .before .before .before .before .before .ratio .ensures) at (c .before .before .before .before .before .natural-field .ensures .1) in
-    search needs
 
 enum-known-fault : tie.Need-enum-known-fault
 enum-known-fault c = search needs
@@ -67,13 +56,13 @@ failed-requires-3 c κs = search needs
 returns : tie.Need-returns
 unfolding satellite
 returns c =
-    let phase = c .before .before .before .before .before .before .before .before .phase .given .0 .0 in
+    let phase = c .before .before .before .before .before .before .before .phase .given .0 .0 in
     let fits : SFits w8 phase = search needs in
-    (rw (← c .before .before .before .before .before .before .before .before .before .before .before .before .before .before .before .small-row .ensures .0, c .before .before .before .before .before .before .before .before .before .before .before .before .enum-told .given .1, ← c .before .before .before .before .before .before .before .before .before .before .before .satellite-phase .ensures, ← c .before .before .before .before .before .before .before .before .before .before .small-field .ensures, c .before .before .before .before .before .before .before .before .phase .given .1, ← c .before .before .before .before .before .before .ratio .ensures, ← c .before .before .before .before .before .natural-field .ensures .0, c .before .before .before .ratio2 .given .1, ← c .before .mark-column .ensures, ← c .column .ensures, toZ-ofZ w8 phase fits), c .before .before .before .before .before .before .before .before .before .before .before .before .before .before .before .small-row .ensures .1)
+    (rw (← c .before .before .before .before .before .before .before .before .before .before .before .before .before .before .small-row .ensures .0, c .before .before .before .before .before .before .before .before .before .before .before .enum-told .given .1, ← c .before .before .before .before .before .before .before .before .before .before .satellite-phase .ensures, ← c .before .before .before .before .before .before .before .before .before .small-field .ensures, c .before .before .before .before .before .before .before .phase .given .1, ← c .before .before .before .before .before .ratio-on .ensures .0, c .before .before .before .ratio .given .1, ← c .before .mark-column .ensures, ← c .column .ensures, toZ-ofZ w8 phase fits), c .before .before .before .before .before .before .before .before .before .before .before .before .before .before .small-row .ensures .1)
 
 returns-2 : tie.Need-returns-2
 unfolding satellite
-returns-2 c = (rw (← c .before .before .before .before .before .before .before .before .before .before .before .before .before .before .small-row .ensures .0, c .before .before .before .before .before .before .before .before .before .before .before .enum-told .given .1, ← c .before .before .before .before .before .before .before .before .before .before .satellite-phase .ensures, ← c .before .before .before .before .before .before .before .before .before .small-field .ensures, c .before .before .before .before .before .before .before .phase .given .1, ← c .before .before .before .before .before .ratio .ensures, ← c .before .before .before .before .natural-field .ensures .0, c .before .before .fault .given .1) (c .failed .ensures .0), c .failed .ensures .1)
+returns-2 c = (rw (← c .before .before .before .before .before .before .before .before .before .before .before .before .before .small-row .ensures .0, c .before .before .before .before .before .before .before .before .before .before .enum-told .given .1, ← c .before .before .before .before .before .before .before .before .before .satellite-phase .ensures, ← c .before .before .before .before .before .before .before .before .small-field .ensures, c .before .before .before .before .before .before .phase .given .1, ← c .before .before .before .before .ratio-on .ensures .0, c .before .before .fault .given .1) (c .failed .ensures .0), c .failed .ensures .1)
 
 returns-3 : tie.Need-returns-3
 unfolding satellite
@@ -92,12 +81,10 @@ satellite-fields-spec =
     satellite-phase-requires
     small-field-requires
     enum-known-phase
-    ratio-requires
-    natural-field-requires
+    ratio-on-requires
     enum-known-ratio
     mark-column-requires
     column-requires
-    cast-t22
     enum-known-fault
     failed-requires
     enum-known-fault-2
