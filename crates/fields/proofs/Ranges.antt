@@ -18,12 +18,11 @@ use Rattle.columns.specs.Bytes.{blank, behind}
 use Rattle.fields.specs.Numerals.{begins, wholeGood, wholeSize, fixedGood, fixedSize}
 use Rattle.fields.specs.Number.{numeric, malformed, signed, ranged, unsigned, unblanked, contentsOf}
 use Rattle.fields.specs.inner.Cap.{cap, kept}
-use Rattle.fields.specs.inner.Kept.{keptOf, writtenIn}
+use Rattle.fields.specs.inner.Kept.{keptOf, keptGives, writtenIn}
 use Rattle.fields.specs.declared.Format.{Format}
 use Rattle.fields.specs.declared.Format.the-variants.{Whole, Fixed}
-use Rattle.fields.specs.declared.numerals.Size.the-variants.{Of, Bad}
 use Rattle.fields.specs.declared.Written.{Written}
-use Rattle.fields.specs.declared.Field.the-variants.{Value, Malformed, OutOfRange}
+use Rattle.fields.specs.declared.Field.the-variants.{Value, OutOfRange}
 
 leb-ltb : (a b : ℕ) → leb a b ≡ not (ltb b a)
 leb-ltb a b = go (ltb b a) refl
@@ -71,53 +70,31 @@ module _ (low high : ℤ) (fl : SFits w64 low) (fh : SFits w64 high) where
           let b : 9223372036854775807 < min cap size = omega arith in
           out-above (min cap size) b ∙ sym (out-above size a)
 
-  -- so a size that is kept has the answer of the field, and none is kept of a malformed one
-  kept-of : (negative good : Bool) (size n : ℕ) → kept good size ≡ Of n
-      → ranged low high (numeric (signed negative n)) ≡ ranged low high (cond good (numeric (signed negative size)) malformed)
-  kept-of negative true size n h = let e : n ≡ min cap size = cc in rw e (cap-loses-nothing negative size)
-  kept-of negative false size n h = let z : _≡_ {A = ℕ} 0 1 = cc in absurd (omega arith)
+  -- so what is kept of a size has its answer
+  kept-gives : (negative good : Bool) (size : ℕ) → ranged low high (keptGives negative (kept good size)) ≡ ranged low high (cond good (numeric (signed negative size)) malformed)
+  kept-gives negative true size = cap-loses-nothing negative size
+  kept-gives negative false size = refl
 
-  kept-bad : (negative good : Bool) (size : ℕ) → kept good size ≡ Bad → Malformed ≡ ranged low high (cond good (numeric (signed negative size)) malformed)
-  unfolding ranged
-  kept-bad negative true size h = let z : _≡_ {A = ℕ} 0 1 = cc in absurd (omega arith)
-  kept-bad negative false size h = refl
-
-  sized-of : (format : Format) (negative : Bool) (bs : List ℕ) (n : ℕ) → keptOf format bs ≡ Of n
-      → ranged low high (numeric (signed negative n)) ≡ ranged low high (unsigned format negative bs)
+  sized-gives : (format : Format) (negative : Bool) (bs : List ℕ) → ranged low high (keptGives negative (keptOf format bs)) ≡ ranged low high (unsigned format negative bs)
   unfolding keptOf unsigned
-  sized-of Whole negative bs n h = kept-of negative (wholeGood bs) (wholeSize bs) n h
-  sized-of (Fixed decimals) negative bs n h = kept-of negative (fixedGood decimals bs) (fixedSize decimals bs) n h
+  sized-gives Whole negative bs = kept-gives negative (wholeGood bs) (wholeSize bs)
+  sized-gives (Fixed decimals) negative bs = kept-gives negative (fixedGood decimals bs) (fixedSize decimals bs)
 
-  sized-bad : (format : Format) (negative : Bool) (bs : List ℕ) → keptOf format bs ≡ Bad → Malformed ≡ ranged low high (unsigned format negative bs)
-  unfolding keptOf unsigned
-  sized-bad Whole negative bs h = kept-bad negative (wholeGood bs) (wholeSize bs) h
-  sized-bad (Fixed decimals) negative bs h = kept-bad negative (fixedGood decimals bs) (fixedSize decimals bs) h
-
-  -- the same of a whole field, its sign in front
-  pub written-of : (format : Format) (field : List ℕ) (w : Written) (n : ℕ) → w ≡ writtenIn format (behind blank field) → w .size ≡ Of n
-      → ranged low high (numeric (signed (w .negative) n)) ≡ ranged low high (contentsOf format field)
+  -- and what is kept of a field has the field's
+  pub written-gives : (format : Format) (field : List ℕ) (w : Written) → w ≡ writtenIn format (behind blank field)
+      → ranged low high (keptGives (w .negative) (w .size)) ≡ ranged low high (contentsOf format field)
   unfolding contentsOf unblanked writtenIn
-  written-of format field w n e h = go (begins 45 (behind blank field)) w e h
+  written-gives format field w e = rw e (go (begins 45 bs))
     where
       bs : List ℕ
       bs = behind blank field
 
-      go : (t : Bool) (w : Written) → w ≡ cond t (record { negative = true; size = keptOf format (drop 1 bs) }) (record { negative = false; size = keptOf format bs }) → w .size ≡ Of n
-          → ranged low high (numeric (signed (w .negative) n)) ≡ ranged low high (cond t (unsigned format true (drop 1 bs)) (unsigned format false bs))
-      go true w e h = rw e (sized-of format true (drop 1 bs) n (rw e at h))
-      go false w e h = rw e (sized-of format false bs n (rw e at h))
+      behindSign : Bool → Written
+      behindSign t = cond t (record { negative = true; size = keptOf format (drop 1 bs) }) (record { negative = false; size = keptOf format bs })
 
-  pub written-bad : (format : Format) (field : List ℕ) (w : Written) → w ≡ writtenIn format (behind blank field) → w .size ≡ Bad → Malformed ≡ ranged low high (contentsOf format field)
-  unfolding contentsOf unblanked writtenIn
-  written-bad format field w e h = go (begins 45 (behind blank field)) w e h
-    where
-      bs : List ℕ
-      bs = behind blank field
-
-      go : (t : Bool) (w : Written) → w ≡ cond t (record { negative = true; size = keptOf format (drop 1 bs) }) (record { negative = false; size = keptOf format bs }) → w .size ≡ Bad
-          → Malformed ≡ ranged low high (cond t (unsigned format true (drop 1 bs)) (unsigned format false bs))
-      go true w e h = sized-bad format true (drop 1 bs) (rw e at h)
-      go false w e h = sized-bad format false bs (rw e at h)
+      go : (t : Bool) → ranged low high (keptGives (behindSign t .negative) (behindSign t .size)) ≡ ranged low high (cond t (unsigned format true (drop 1 bs)) (unsigned format false bs))
+      go true = sized-gives format true (drop 1 bs)
+      go false = sized-gives format false bs
 
 -- a range from 0 on: nothing with a minus but 0, and nothing above its end
 pub minus-out : (high size : ℕ) → 0 < size → OutOfRange ≡ ranged (pos 0) (pos high) (numeric (signed true size))

@@ -9,7 +9,8 @@ use lib.IntN.{pos}
 use mir.Syntax.{w64}
 use mir.Val.{SFits}
 use Rattle.columns.specs.Columns.{columns}
-use Rattle.fields.proofs.Ranges.{written-of, written-bad}
+use Rattle.fields.specs.Number.{ranged}
+use Rattle.fields.proofs.Ranges.{written-gives}
 
 fits : (n : ℕ) → n < 2 ^ 32 → SFits w64 (pos n)
 fits n h = record { sfits = omega arith }
@@ -30,14 +31,16 @@ returns : tie.Need-returns
 returns c =
     let a = c .before .before .before .before .before .before .args in
     let w = c .before .before .before .before .written-in in
-    let e = written-of (pos 0) (pos (a .high)) (fits 0 (omega arith)) (fits (a .high) (omega arith)) (a .format) (columns (a .line .now) (a .from) (a .width)) (w .result) (c .before .before .size .given .0 .0) (w .ensures) (c .before .before .size .given .1) in
-    (c .narrowed .ensures .0 ∙ e, c .narrowed .ensures .1)
+    let e = written-gives (pos 0) (pos (a .high)) (fits 0 (omega arith)) (fits (a .high) (omega arith)) (a .format) (columns (a .line .now) (a .from) (a .width)) (w .result) (w .ensures) in
+    (c .narrowed .ensures .0 ∙ (rw (c .before .before .size .given .1) at e), c .narrowed .ensures .1)
 
 returns-2 : tie.Need-returns-2
+unfolding ranged
 returns-2 c =
     let a = c .before .before .before .before .args in
     let w = c .before .before .written-in in
-    (written-bad (pos 0) (pos (a .high)) (fits 0 (omega arith)) (fits (a .high) (omega arith)) (a .format) (columns (a .line .now) (a .from) (a .width)) (w .result) (w .ensures) (c .enum-told .given .1), tt)
+    let e = written-gives (pos 0) (pos (a .high)) (fits 0 (omega arith)) (fits (a .high) (omega arith)) (a .format) (columns (a .line .now) (a .from) (a .width)) (w .result) (w .ensures) in
+    (rw (c .enum-told .given .1) at e, tt)
 
 pub narrow-field-spec : {M : Type 1} → statement M
 narrow-field-spec =
