@@ -412,12 +412,15 @@ def malformed_text(rng, form):
 
 
 def edge_text(rng, form):
-    """A number at or just past an end of the range, or far away; always one that fits the field."""
+    """A number at or just past an end of the range, far away, or in the range by its last bits alone; always one that fits the field."""
+    whole = 10 ** (form.decimals or 0)
     while True:
         span = 10 ** rng.randint(0, 3)
+        wrapped = rng.randint(form.lowest, form.highest) + 2 ** rng.choice([8, 16, 32])
         value = rng.choice([
             form.lowest, form.highest, form.lowest - 1, form.highest + 1,
             form.lowest - span, form.highest + span, 0, -1, 1,
+            wrapped, -(-wrapped // whole) * whole,
         ])
         text = number_text(rng, value, form)
         if text is not None:
