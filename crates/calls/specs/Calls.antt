@@ -90,13 +90,13 @@ pub record SeriesGiven : Type 0 where
   pub returned : Outcome Unit
   pub heights : List ℤ
 
--- "one height for each lent place"; refused, the places are as they were
+-- the lent places with new heights; refused, they are as they were
+abbrev pub filled : Outcome (List ℤ) → List ℤ → SeriesGiven
+filled new heights = record { returned = answered new; heights = onAccepted new (λ hs. hs) heights }
+
+-- "one height for each lent place"
 unfoldable pub seriesGives : State → ℕ → ℕ → List ℤ → SeriesGiven
-seriesGives k start step heights =
-    record {
-      returned = answered (seriesHeights k start step (length heights));
-      heights = onAccepted (seriesHeights k start step (length heights)) (λ new. new) heights;
-    }
+seriesGives k start step heights = filled (seriesHeights k start step (length heights)) heights
 
 -- ---- turns, with the stride of the station's own tides
 

@@ -4,3 +4,4 @@ pub mod asked; // heights, series, turns
 pub mod reasons; // why a series is refused
 pub mod settings; // stations, dates, months
 pub mod annual; // a year's sheet
+pub mod bookings; // a list of minutes

@@ -13,6 +13,7 @@ use Rattle.turns.specs.Written.{TurnsFound}
 use Rattle.calls.specs.Calls.{cardsReturns, cardsLeaves, stationReturns, stationLeaves, dateReturns, dateLeaves, heightReturns, seriesGives, turnsGives}
 use Rattle.calls.specs.declared.annual.Sheet.{Sheet}
 use Rattle.calls.specs.Year.{yearGives}
+use Rattle.calls.specs.Bookings.{bookingsGives}
 use Rattle.clock.specs.View.{view, Made}
 use Rattle.clock.specs.declared.Clock.{Clock}
 
@@ -47,3 +48,7 @@ pub record TurnsPost (c : Clock) (first last : ℕ) (minutes minutesLeft : List 
 -- the clock is given by value, and stays as it was: "the prepared month stays, whether the year is given or refused"
 pub record YearPost (c : Clock) (sheet : Sheet) (series seriesLeft : List ℤ) (minutes minutesLeft : List ℕ) (heights heightsLeft : List ℤ) (returned : Outcome TurnsFound) : Type 0 where
   pub gives : record { returned = returned; series = seriesLeft; minutes = minutesLeft; heights = heightsLeft } ≡ yearGives (view c) sheet series minutes heights
+
+-- the clock is given by value, or lent to be read: "a call that a request adds leaves table, station and month as they were"
+pub record BookingsPost (c : Clock) (minutes : List ℕ) (heights left : List ℤ) (returned : Outcome Unit) : Type 0 where
+  pub gives : record { returned = returned; heights = left } ≡ bookingsGives (view c) minutes heights

@@ -10,8 +10,8 @@ ghost use Rattle.calendar.specs.Calendar.{inRange};
 ghost use Rattle.calls.specs.State.{some};
 ghost use Rattle.calls.specs.Names.{namesThere, namesIn};
 ghost use Rattle.clock.specs.View.{view, Sound, Made};
-ghost use Rattle.clock.specs.Posts.{NewPost, CardsPost, StationPost, DatePost, HeightPost, SeriesPost, TurnsPost, YearPost};
-ghost use Rattle.clock.specs.inner.Posts.{BarePost, PreparedPost, PartsMade, HeightFrom};
+ghost use Rattle.clock.specs.Posts.{NewPost, CardsPost, StationPost, DatePost, HeightPost, SeriesPost, TurnsPost, YearPost, BookingsPost};
+ghost use Rattle.clock.specs.inner.Posts.{BarePost, PreparedPost, PartsMade, HeightFrom, BookingsFrom};
 ghost use Rattle.station.specs.Records.{recordsOf};
 ghost use Rattle.turns.specs.inner.Answers.{returnedOf};
 ghost use Rattle.clock.specs.Returned.{heightReturned, turnsReturned};
@@ -23,6 +23,7 @@ mod yearsheet; // a year's sheet, from a table and a station
 use calls::annual;
 use calls::annual::Sheet;
 use calls::asked;
+use calls::bookings;
 use calls::settings;
 use card_file::reader;
 use cosine::ENTRIES;
@@ -347,6 +348,92 @@ pub fn series(clock: Clock, start: u32, step: u32, heights: &mut [i64]) -> Answe
             return Answer::Refused(refusal, 0);
         }
     }
+}
+
+// The heights at a list of minutes from what a clock keeps, lent part by part; or a refusal.
+fn bookings_from<'a>(
+    cosines: &'a [u32; ENTRIES],
+    arguments: &'a [u64; RECORDS],
+    lags: &'a [u16; RECORDS],
+    frequencies: &'a [u64; RECORDS],
+    ps: &'a [i32; RECORDS],
+    qs: &'a [i32; RECORDS],
+    tabled: bool,
+    stationed: bool,
+    dated: bool,
+    last: u64,
+    count: usize,
+    minutes: &[u32],
+    heights: &mut [i64],
+) -> Answer
+    requires { ⌜ PartsMade tabled (now cosines) count last ⌝ }
+    ensures { λ r. ⌜ BookingsFrom tabled stationed dated last count (now (arguments .entry)) (now (lags .entry)) (now (frequencies .entry)) (now (ps .entry)) (now (qs .entry)) (now (minutes .entry)) (now (heights .entry)) (now (heights .exit)) (outcomeOf r) ⌝ }
+{
+    let asked =
+        bookings::bookings_answer(tabled, stationed, dated, last, minutes, heights.len());
+    match asked {
+        Answer::Accepted => {
+            heights::bookings::heights_at(
+                cosines,
+                arguments,
+                lags,
+                frequencies,
+                ps,
+                qs,
+                count,
+                minutes,
+                heights,
+            );
+            return asked;
+        }
+        Answer::Refused(refusal, place) => {
+            return Answer::Refused(refusal, place);
+        }
+    }
+}
+
+// The height at each minute of a list, at its place; or a refusal. All minutes are asked before a height is written.
+pub fn bookings(clock: Clock, minutes: &[u32], heights: &mut [i64]) -> Answer
+    requires { ⌜ Made clock ⌝ }
+    ensures { λ r. ⌜ BookingsPost clock (now (minutes .entry)) (now (heights .entry)) (now (heights .exit)) (outcomeOf r) ⌝ }
+{
+    bookings_from(
+        &clock.cosines,
+        &clock.arguments,
+        &clock.lags,
+        &clock.frequencies,
+        &clock.ps,
+        &clock.qs,
+        clock.tabled,
+        clock.stationed,
+        clock.dated,
+        clock.last,
+        clock.count,
+        minutes,
+        heights,
+    )
+}
+
+// The bookings of a lent clock, read where it lies, as `height_lent` reads it.
+pub fn bookings_lent(lent: &Clock, minutes: &[u32], heights: &mut [i64]) -> Answer
+    requires { ⌜ Made (now lent) ⌝ }
+    ensures { λ r. ⌜ BookingsPost (now (lent .entry)) (now (minutes .entry)) (now (heights .entry)) (now (heights .exit)) (outcomeOf r) ⌝ }
+{
+    bookings_from(
+        &lent.cosines,
+        &lent.arguments,
+        &lent.lags,
+        &lent.frequencies,
+        &lent.ps,
+        &lent.qs,
+        lent.tabled,
+        lent.stationed,
+        lent.dated,
+        lent.last,
+        lent.count,
+        minutes,
+        heights,
+    )
 }
 
 // What a search says: how many turns, and whether the first is high; or 10.

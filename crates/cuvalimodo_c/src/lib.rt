@@ -12,7 +12,7 @@ ghost use Rattle.refusal_words.specs.Words.{wordsOf, bytesOf, zerosBehind};
 ghost use Rattle.columns.specs.Names.{namesFrom};
 ghost use Rattle.calls.specs.Names.{namesIn};
 ghost use Rattle.clock.specs.View.{view, Made};
-ghost use Rattle.clock.specs.Posts.{NewPost, CardsPost, StationPost, DatePost, HeightPost, SeriesPost, TurnsPost, YearPost};
+ghost use Rattle.clock.specs.Posts.{NewPost, CardsPost, StationPost, DatePost, HeightPost, SeriesPost, TurnsPost, YearPost, BookingsPost};
 ghost use Rattle.cuvalimodo_c.specs.Answers.{verdictReturned, readingReturned, turningsReturned, Plain, PlainReading, PlainTurnings};
 
 mod answers; // what the calls say, in numbers
@@ -151,6 +151,20 @@ pub extern "C" fn cuvalimodo_year(
         minutes,
         heights,
     )
+}
+
+// The height at each minute of a list, in any order and with repeats, at its place; or a refusal. The clock is read where it lies.
+#[no_mangle]
+pub extern "C" fn cuvalimodo_bookings(
+    clock: &Clock,
+    minutes: &[u32],
+    heights: &mut [i64],
+) -> Verdict
+    requires { ⌜ Made (now clock) ⌝ }
+    ensures { λ r. ⌜ BookingsPost (now (clock .entry)) (now (minutes .entry)) (now (heights .entry)) (now (heights .exit)) (verdictReturned r) × Plain r ⌝ }
+{
+    let answer = clock::bookings_lent(clock, minutes, heights);
+    answers::told(answer)
 }
 
 // The names of the clock's frequencies by place, none where it has no table.

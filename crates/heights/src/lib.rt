@@ -13,6 +13,7 @@ pub mod minuteangle; // angles
 pub mod shares; // shares
 mod series; // series of a month
 pub mod months; // across month ends
+pub mod bookings; // at a list of minutes
 pub mod distance; // nearness
 
 use crate::minuteangle::angle_at;

@@ -25,6 +25,7 @@ refusalRows =
     (21, "no table") ∷
     (22, "no station") ∷
     (23, "no month") ∷
+    (31, "the two lent buffers differ in length") ∷
     []
 
 -- the words of a number; none where no row has it

@@ -1,4 +1,4 @@
-// The words of 01's refusals, each beside its number.
+// The words of 01's refusals and of those that requests add, each beside its number.
 ghost use mathlib.Core.Path.{_≡_};
 ghost use Prim.Native.Nat.{_≤_};
 ghost use lib.ListN.{length};
@@ -37,6 +37,7 @@ pub fn text_of(number: u32) -> [u8; 64]
         21 => with_zeros(b"no table"),
         22 => with_zeros(b"no station"),
         23 => with_zeros(b"no month"),
+        31 => with_zeros(b"the two lent buffers differ in length"),
         _ => with_zeros(b""),
     }
 }

@@ -2,7 +2,7 @@
 ghost use mathlib.Core.Path.{_≡_};
 ghost use Rattle.refusals.specs.Outcome.{numberOf};
 
-// The rows of 01's two tables of refusals, in their order.
+// The rows of 01's two tables of refusals, in their order, and those that 02's requests add.
 pub enum Refusal {
     BadLine,
     Malformed,
@@ -18,6 +18,7 @@ pub enum Refusal {
     NoTable,
     NoStation,
     NoMonth,
+    UnequalBuffers,
 }
 
 // What a call says: it is accepted, or refused, with the place that 01 gives the refusal.
@@ -45,5 +46,6 @@ pub fn number_of(r: Refusal) -> u32
         Refusal::NoTable => 21,
         Refusal::NoStation => 22,
         Refusal::NoMonth => 23,
+        Refusal::UnequalBuffers => 31,
     }
 }

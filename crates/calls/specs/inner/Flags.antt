@@ -2,6 +2,7 @@
 use Prim.{Unit}
 use Prim.Native.Nat.{ℕ}
 use mathlib.Core.Bool.{Bool, true, false}
+use mathlib.Core.List.{List}
 use Rattle.refusals.specs.Outcome.{Outcome, answered}
 use Rattle.table.specs.Table.{Table}
 use Rattle.station.specs.Station.{Station}
@@ -9,6 +10,7 @@ use Rattle.month_prepared.specs.Prepared.{Month}
 use Rattle.calls.specs.State.{Maybe, none, some, State}
 use Rattle.calls.specs.Asked.{monthAsked, dateAsked, minutesAsked}
 use Rattle.calls.specs.Year.{yearAsked}
+use Rattle.calls.specs.Bookings.{bookingsAsked}
 
 -- what a flag says is there
 abbrev pub when : {A : Type 0} → Bool → A → Maybe A
@@ -40,3 +42,8 @@ minutesBy tabled stationed dated outside =
 -- what a year's sheet asks first, by the flags
 abbrev pub yearBy : Bool → Bool → ℕ → Outcome Unit
 yearBy tabled stationed year = answered (yearAsked {T = Unit} {S = Unit} (when tabled tt) (when stationed tt) year)
+
+-- what a list of bookings asks, by the flags, in a month with this last minute
+abbrev pub bookingsBy : Bool → Bool → Bool → ℕ → List ℕ → ℕ → Outcome Unit
+bookingsBy tabled stationed dated last minutes places =
+    answered (bookingsAsked {T = Unit} {S = Unit} {M = Unit} (λ _. last) minutes places (when tabled tt) (when stationed tt) (when dated tt))

@@ -1,5 +1,6 @@
 -- Only inner contracts cite this: what the steps of the calls promise.
 -- Assumes nothing.
+use Prim.{Unit}
 use Prim.Native.Nat.{ℕ, _≤_}
 use mathlib.Core.Bool.{Bool, true}
 use mathlib.Core.List.{List}
@@ -24,6 +25,7 @@ use Rattle.turns.specs.inner.Search.{Reaches}
 use Rattle.station.specs.declared.Station as declaredStation
 use Rattle.calls.specs.declared.annual.Sheet.{Sheet}
 use Rattle.calls.specs.Year.{sheetOver, yearGives}
+use Rattle.calls.specs.Bookings.{bookingsGives}
 use Rattle.calls.specs.State.{Maybe, some}
 use Rattle.calls.specs.Calls.{heightReturns}
 use Rattle.calls.specs.inner.Flags.{stateOf, tabledOnly}
@@ -49,13 +51,18 @@ pub record PreparedPost (c : Clock) (year month : ℕ) (answer : Answer) (left :
     month = some (record { last = monthMinutes year month; constituents = constituents });
   }) (view c)
 
--- what a height asks of the parts of a clock that has a table
+-- what a height and bookings ask of the parts of a clock that has a table
 abbrev pub PartsMade : Bool → List ℕ → ℕ → ℕ → Type 0
 PartsMade tabled cosines count last = tabled ≡ true → IsTable cosines × ((count ≤ mostRecords) × (last ≤ mostMinutes))
 
 -- a height from the parts of a clock, whatever table and station it has
 pub record HeightFrom (tabled stationed dated : Bool) (last count : ℕ) (arguments lags frequencies : List ℕ) (ps qs : List ℤ) (minute : ℕ) (returned : Outcome ℤ) : Type 0 where
   pub returns : (t : Table) (s : Station) → returned ≡ heightReturns (stateOf tabled t stationed s dated (record { last = last; constituents = constituentsFrom arguments lags frequencies ps qs count })) minute
+
+-- bookings from the parts of a clock, whatever table and station it has
+pub record BookingsFrom (tabled stationed dated : Bool) (last count : ℕ) (arguments lags frequencies : List ℕ) (ps qs : List ℤ) (minutes : List ℕ) (heights left : List ℤ) (returned : Outcome Unit) : Type 0 where
+  pub gives : (t : Table) (s : Station) → record { returned = returned; heights = left }
+      ≡ bookingsGives (stateOf tabled t stationed s dated (record { last = last; constituents = constituentsFrom arguments lags frequencies ps qs count })) minutes heights
 
 -- a year's sheet, of a table and a station, for a year in range, whatever month the clock has
 pub record SheetPost (table : declared.Table) (station : declaredStation.Station) (sheet : Sheet) (series seriesLeft : List ℤ) (minutes minutesLeft : List ℕ) (heights heightsLeft : List ℤ) (returned : Outcome TurnsFound) : Type 0 where

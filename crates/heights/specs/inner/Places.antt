@@ -1,9 +1,14 @@
--- Only inner contracts cite this: the places of a series in months that follow one another.
+-- Only inner contracts cite this: the minutes of a list, and the places of a series in months that follow one another.
 use Prim.Native.Nat.{ℕ, _+_, _-_, _*_, _≤_, _<_}
-use lib.ListN.{getD}
+use mathlib.Core.List.{List}
+use lib.ListN.{length, getD}
 use Rattle.limits.specs.Limits.{mostStep, mostMinutes}
 use Rattle.month_prepared.specs.declared.months.Months.{Months}
 use Rattle.month_prepared.specs.declared.months.InMonth.{InMonth}
+
+-- minutes of a list, none later than the last
+abbrev pub AllWithin : ℕ → List ℕ → Type 0
+AllWithin last minutes = (k : ℕ) → k < length minutes → getD minutes k 0 ≤ last
 
 -- a series whose minutes are within the months: its step in range, and its start, and the minute of its last place, no later than their last
 pub record SeriesWithin (last start step places : ℕ) : Type 0 where
