@@ -369,8 +369,7 @@ fn bookings_from<'a>(
     requires { ⌜ PartsMade tabled (now cosines) count last ⌝ }
     ensures { λ r. ⌜ BookingsFrom tabled stationed dated last count (now (arguments .entry)) (now (lags .entry)) (now (frequencies .entry)) (now (ps .entry)) (now (qs .entry)) (now (minutes .entry)) (now (heights .entry)) (now (heights .exit)) (outcomeOf r) ⌝ }
 {
-    let asked =
-        bookings::bookings_answer(tabled, stationed, dated, last, minutes, heights.len());
+    let asked = bookings::bookings_answer(tabled, stationed, dated, last, minutes, heights.len());
     match asked {
         Answer::Accepted => {
             heights::bookings::heights_at(
