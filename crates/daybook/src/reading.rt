@@ -3,8 +3,8 @@ ghost use mathlib.Core.Path.{_≡_};
 ghost use Prim.Native.Nat.{_*_, _≤_};
 ghost use lib.ListN.{length, take};
 ghost use Rattle.columns.specs.Lines.{linesOf};
-ghost use Rattle.daybook.specs.Bookings.{minutesOf, longestOf};
-ghost use Rattle.daybook.specs.inner.Reading.{readingGives};
+ghost use Rattle.daybook.specs.Bookings.{longestOf};
+ghost use Rattle.daybook.specs.inner.Reading.{ReadPost};
 use crate::booking;
 use crate::booking::Booking;
 use card::lines;
@@ -21,10 +21,24 @@ pub enum Reading {
     NoBooking(usize),
 }
 
+// Room for the minutes of a file's bookings. (Each a function's result, so that its length is known as a fact.)
+pub fn minute_places() -> [u32; PLACES]
+    ensures { λ r. ⌜ 8_192 ≡ length r ⌝ }
+{
+    [0; PLACES]
+}
+
+// Room for their heights.
+pub fn height_places() -> [i64; PLACES]
+    ensures { λ r. ⌜ 8_192 ≡ length r ⌝ }
+{
+    [0; PLACES]
+}
+
 // Fills in the minutes of the bookings of a file.
 fn fill_minutes(file: &[u8], minutes: &mut [u32]) -> Reading
     requires { ⌜ length (now file) ≤ 8 * length (now minutes) ⌝ }
-    ensures { λ r. ⌜ readingGives r (now (minutes .exit)) ≡ minutesOf (linesOf (now (file .entry))) ⌝ }
+    ensures { λ r. ⌜ ReadPost (now (file .entry)) (now (minutes .exit)) r ⌝ }
 {
     let mut at: usize = 0;
     let mut k: usize = 0;
@@ -38,6 +52,13 @@ fn fill_minutes(file: &[u8], minutes: &mut [u32]) -> Reading
         at = lines::next_line(file, at);
     }
     Reading::Bookings(k)
+}
+
+// Fills in the minutes of the bookings of a file, which is the first bytes of a buffer.
+pub fn read(buffer: &[u8; FILE], bytes: usize, minutes: &mut [u32; PLACES]) -> Reading
+    ensures { λ r. ⌜ ReadPost (take bytes (now (buffer .entry))) (now (minutes .exit)) r ⌝ }
+{
+    fill_minutes(columns::part(buffer, 0, bytes), minutes)
 }
 
 // The length of the longest line of a file.

@@ -1,65 +1,76 @@
+-- `daybook::booking::booking_of` meets its contract: a test for each part of the sentence. Assumes nothing.
 use borrow.Author.Needs.{needs}
+use borrow.Author.Tests.{eq-eqb, ne-eqb}
+use Rattle.daybook.specs.Booking.{bookingOf}
 use Rattle.daybook.proofs.booking.booking_of.Statement.{statement}
 use Rattle.daybook.proofs.booking.booking_of.Tie as tie
-use Rattle.daybook.proofs.booking.booking_of.Reads as reads
-use Rattle.daybook.proofs.booking.booking_of.Lts as lts
-use Rattle.columns.proofs.column.Reads as column-reads
-use Rattle.columns.proofs.part.Reads as part-reads
-use Rattle.commandline.proofs.times.time_of.Reads as time-of-reads
-use Rattle.daybook.proofs.booking.day_of.Reads as day-of-reads
-use Rattle.digits.proofs.dates.minute_of_month.Reads as minute-of-month-reads
 
--- src/booking.rt:62:8
 column-requires : tie.Need-column-requires
 column-requires c κs = search needs
 
--- src/booking.rt:63:9
 returns : tie.Need-returns
-returns c = ?
+unfolding bookingOf
+returns c = rw (← c .before .column .ensures, ne-eqb _ _ (c .if1 .taken))
 
--- src/booking.rt:65:8
 column-requires-2 : tie.Need-column-requires-2
 column-requires-2 c κs = search needs
 
--- src/booking.rt:66:9
 returns-2 : tie.Need-returns-2
-returns-2 c = ?
+unfolding bookingOf
+returns-2 c = rw (← c .before .before .before .column .ensures, c .before .before .if1 .left, ← c .before .column2 .ensures, ne-eqb _ _ (c .if2 .taken))
 
--- src/booking.rt:68:9
 day-of-requires : tie.Need-day-of-requires
 day-of-requires c κs = search needs
 
--- src/booking.rt:70:9
 returns-3 : tie.Need-returns-3
-returns-3 c = ?
+unfolding bookingOf
+returns-3 c = rw (← c .before .before .before .before .before .column .ensures, c .before .before .before .before .if1 .left, ← c .before .before .before .column2 .ensures, c .before .before .if2 .left, ← c .before .day-of .ensures, c .if3 .taken)
 
--- src/booking.rt:72:31
 part-requires : tie.Need-part-requires
 part-requires c κs = search needs
 
--- src/booking.rt:72:9
 time-of-requires : tie.Need-time-of-requires
 time-of-requires c κs = search needs
 
--- src/booking.rt:74:18
 enum-known-time : tie.Need-enum-known-time
 enum-known-time c = search needs
 
--- src/booking.rt:74:41
 minute-of-month-requires : tie.Need-minute-of-month-requires
 minute-of-month-requires c κs = search needs
 
--- src/booking.rt:75:25
 enum-told : tie.Need-enum-told
 enum-told c = search needs
 
--- src/booking.rt:59:1
 returns-4 : tie.Need-returns-4
-returns-4 c = ?
+unfolding bookingOf
+returns-4 c =
+    rw (
+      ← c .before .before .before .before .before .before .before .before .before .before .before .column .ensures,
+      c .before .before .before .before .before .before .before .before .before .before .if1 .left,
+      ← c .before .before .before .before .before .before .before .before .before .column2 .ensures,
+      c .before .before .before .before .before .before .before .before .if2 .left,
+      ← c .before .before .before .before .before .before .before .day-of .ensures,
+      ne-eqb _ _ (c .before .before .before .before .before .before .if3 .left),
+      ← c .before .before .before .before .before .part .ensures,
+      ← c .before .before .before .before .time-of .ensures,
+      c .before .before .time .given .1,
+      c .minute-of-month .ensures,
+    )
 
--- src/booking.rt:59:1
 returns-5 : tie.Need-returns-5
-returns-5 c = ?
+unfolding bookingOf
+returns-5 c =
+    rw (
+      ← c .before .before .before .before .before .before .before .before .before .column .ensures,
+      c .before .before .before .before .before .before .before .before .if1 .left,
+      ← c .before .before .before .before .before .before .before .column2 .ensures,
+      c .before .before .before .before .before .before .if2 .left,
+      ← c .before .before .before .before .before .day-of .ensures,
+      ne-eqb _ _ (c .before .before .before .before .if3 .left),
+      ← c .before .before .before .part .ensures,
+      ← c .before .before .time-of .ensures,
+      c .enum-told .given .1,
+    )
 
 pub booking-of-spec : {M : Type 1} → statement M
 booking-of-spec =

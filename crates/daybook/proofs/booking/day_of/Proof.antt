@@ -1,47 +1,63 @@
+-- `daybook::booking::day_of` meets its contract: two digits are at least 48, so that no difference wraps. Assumes nothing.
+use Prim.Native.Nat.{ℕ, _≤_}
+use mathlib.Core.Path.{_≡_, refl, sym, _∙_}
+use mathlib.Core.Bool.{Bool, true, false, _&&_}
+use mathlib.Core.List.{List}
+use native.Mathlib.Omega.{arith}
+use lib.Dec.{leb}
 use borrow.Author.Needs.{needs}
+use borrow.Author.Tests.{leb-true}
+use Rattle.columns.specs.Bytes.{among, every}
+use Rattle.columns.specs.Columns.{column, columns, padded}
+use Rattle.daybook.specs.Booking.{dayOf}
 use Rattle.daybook.proofs.booking.day_of.Statement.{statement}
 use Rattle.daybook.proofs.booking.day_of.Tie as tie
-use Rattle.daybook.proofs.booking.day_of.Reads as reads
-use Rattle.daybook.proofs.booking.day_of.Lts as lts
-use Rattle.columns.proofs.all_among.Reads as all-among-reads
-use Rattle.columns.proofs.column.Reads as column-reads
-use Rattle.daybook.proofs.booking.digit.Reads as digit-reads
 
--- src/booking.rt:52:8
+-- two bytes, each from 48 to 57
+two-digits : (line : List ℕ) → every (among 48 57) (columns line 0 2) ≡ true → (48 ≤ column line 0) × (48 ≤ column line 1)
+unfolding every padded
+two-digits line e = go _ _ _ _ refl refl e
+  where
+    go : (s t u v : Bool) → leb 48 (column line 0) ≡ s → leb 48 (column line 1) ≡ u → ((s && t) && ((u && v) && true)) ≡ true → (48 ≤ column line 0) × (48 ≤ column line 1)
+    go true true true v a b h = (leb-true _ _ a, leb-true _ _ b)
+    go true true false v a b h = absurd (let z : _≡_ {A = ℕ} 0 1 = cc in omega arith)
+    go true false u v a b h = absurd (let z : _≡_ {A = ℕ} 0 1 = cc in omega arith)
+    go false t u v a b h = absurd (let z : _≡_ {A = ℕ} 0 1 = cc in omega arith)
+
 all-among-requires : tie.Need-all-among-requires
 all-among-requires c κs = search needs
 
--- src/booking.rt:53:27
 column-requires : tie.Need-column-requires
 column-requires c κs = search needs
 
--- src/booking.rt:53:21
 digit-requires : tie.Need-digit-requires
-digit-requires c κs = ?
+digit-requires c κs =
+    let line = c .before .before .before .before .args .line .now in
+    let digits = two-digits line (sym (c .before .before .all-among .ensures) ∙ c .before .if1 .taken) in
+    omega (arith, digits, c .column .ensures)
 
--- src/booking.rt:53:16
 mul-result : tie.Need-mul-result
-mul-result c = search needs
+mul-result c = omega arith
 
--- src/booking.rt:53:61
 column-requires-2 : tie.Need-column-requires-2
 column-requires-2 c κs = search needs
 
--- src/booking.rt:53:55
 digit-requires-2 : tie.Need-digit-requires-2
-digit-requires-2 c κs = ?
+digit-requires-2 c κs =
+    let line = c .before .before .before .before .before .before .args .line .now in
+    let digits = two-digits line (sym (c .before .before .before .before .all-among .ensures) ∙ c .before .before .before .if1 .taken) in
+    omega (arith, digits, c .column2 .ensures)
 
--- src/booking.rt:53:16
 add-result : tie.Need-add-result
-add-result c = search needs
+add-result c = omega arith
 
--- src/booking.rt:53:9
 returns : tie.Need-returns
-returns c = ?
+unfolding dayOf
+returns c = rw (← c .before .before .before .before .before .all-among .ensures, c .before .before .before .before .if1 .taken, ← c .before .before .before .column .ensures, ← c .before .column2 .ensures, c .before .before .digit .ensures, c .digit2 .ensures)
 
--- src/booking.rt:49:1
 returns-2 : tie.Need-returns-2
-returns-2 c = ?
+unfolding dayOf
+returns-2 c = rw (← c .before .all-among .ensures, c .if1 .left)
 
 pub day-of-spec : {M : Type 1} → statement M
 day-of-spec =
