@@ -16,6 +16,9 @@ fn commands() {
     line(b"  cuvalimodo year YEAR [--csv]               the same for a year, by months; or as CSV");
     line(b"  cuvalimodo day YEAR MONTH DAY [HH:MM]      next high and low water, the day's curve");
     line(
+        b"  cuvalimodo bookings YEAR MONTH FILE        FILE's lines DD HH:MM NAME, with their heights",
+    );
+    line(
         b"  cuvalimodo heights YEAR MONTH [STEP]       CSV: the whole month, STEP minutes apart (60)",
     );
     line(b"  cuvalimodo series YEAR MONTH DAY HH:MM STEP COUNT");
