@@ -38,7 +38,7 @@ pub fn height_places() -> [i64; PLACES]
 // Fills in the minutes of the bookings of a file.
 fn fill_minutes(file: &[u8], minutes: &mut [u32]) -> Reading
     requires { ⌜ length (now file) ≤ 8 * length (now minutes) ⌝ }
-    ensures { λ r. ⌜ ReadPost (now (file .entry)) (now (minutes .exit)) r ⌝ }
+    ensures { λ r. ⌜ ReadPost (now (file .entry)) (length (now (minutes .entry))) (now (minutes .exit)) r ⌝ }
 {
     let mut at: usize = 0;
     let mut k: usize = 0;
@@ -56,7 +56,7 @@ fn fill_minutes(file: &[u8], minutes: &mut [u32]) -> Reading
 
 // Fills in the minutes of the bookings of a file, which is the first bytes of a buffer.
 pub fn read(buffer: &[u8; FILE], bytes: usize, minutes: &mut [u32; PLACES]) -> Reading
-    ensures { λ r. ⌜ ReadPost (take bytes (now (buffer .entry))) (now (minutes .exit)) r ⌝ }
+    ensures { λ r. ⌜ ReadPost (take bytes (now (buffer .entry))) 8_192 (now (minutes .exit)) r ⌝ }
 {
     fill_minutes(columns::part(buffer, 0, bytes), minutes)
 }

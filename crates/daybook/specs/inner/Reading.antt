@@ -18,6 +18,8 @@ abbrev pub Within : Reading → ℕ → Type 0
 Within (Bookings count) places = count ≤ places
 Within (NoBooking line) places = Unit
 
-pub record ReadPost (file left : List ℕ) (r : Reading) : Type 0 where
+-- so many places were lent
+pub record ReadPost (file : List ℕ) (places : ℕ) (left : List ℕ) (r : Reading) : Type 0 where
   pub gives : readingGives r left ≡ minutesOf (linesOf file)
-  pub within : Within r (length left)
+  pub kept : length left ≡ places
+  pub within : Within r places

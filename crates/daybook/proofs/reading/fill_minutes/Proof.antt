@@ -48,7 +48,7 @@ returns c =
     let loop = c .before .before .before .before .before .loop in
     let none = rw (c .before .before .before .line-at .ensures, c .enum-told .given .1) at (sym (c .before .before .booking-of .ensures)) in
     let gives = stops (c .before .before .before .before .before .before .before .before .args .file .now) (loop .at) (search needs) (loop .minutes) (loop .k) (omega (arith, c .before .before .before .before .before .before .before .before .pre)) none ∙ loop .inv .3 in
-    record { gives = gives; within = tt }
+    record { gives = gives; kept = loop .inv .2; within = tt }
 
 mul-minutes : tie.Need-mul-minutes Inv-loop μ-loop
 mul-minutes c = search needs
@@ -90,7 +90,7 @@ returns-2 : tie.Need-returns-2 Inv-loop μ-loop
 unfolding minutesFrom
 returns-2 c =
     let gives = rw (lines-end (c .before .before .before .before .args .file .now) (c .before .loop .at) (search needs)) at (c .before .loop .inv .3) in
-    record { gives = gives; within = omega (arith, c .before .before .before .before .pre) }
+    record { gives = gives; kept = c .before .loop .inv .2; within = omega (arith, c .before .before .before .before .pre) }
 
 pub fill-minutes-spec : {M : Type 1} → statement M
 fill-minutes-spec =
