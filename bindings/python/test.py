@@ -196,7 +196,8 @@ class Others(unittest.TestCase):
             self.assertEqual((caught.exception.number, caught.exception.place), (Refusal.NO_TABLE, 0))
 
     def test_words(self):
-        listed = dict(re.findall(r"^    (\d+) (.+)$", read("docs/FORMATS.md").decode(), re.M))
+        sample = read("docs/FORMATS.md").decode().partition("$ target/bin/cuvalimodo refusals\n")[2].partition("\n\n")[0]
+        listed = dict(re.findall(r"^    (\d+) (.+)$", sample, re.M))
         self.assertEqual(sorted(map(int, listed)), [int(refusal) for refusal in Refusal])
         for number in range(40):
             self.assertEqual(refusal_text(number), listed.get(str(number), ""))
