@@ -4,3 +4,5 @@ pub mod Lent
 pub mod Dates
 pub mod Posed
 pub mod YearSheet
+pub mod Booked
+pub mod Singly

@@ -38,7 +38,7 @@ bookingsHeights k minutes places = do
 unfoldable pub bookingsGives : State → List ℕ → List ℤ → SeriesGiven
 bookingsGives k minutes heights = filled (bookingsHeights k minutes (length heights)) heights
 
--- "The height at each place must equal the one that a single request gives for the minute at that place": proved in calls/proofs/Bookings.antt
+-- "The height at each place must equal the one that a single request gives for the minute at that place": proved in calls/proofs/Singly.antt
 abbrev pub AsSingleRequests : Type 0
 AsSingleRequests =
     (k : State) (minutes : List ℕ) (places : ℕ) (heights : List ℤ) →
