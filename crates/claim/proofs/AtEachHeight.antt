@@ -16,7 +16,7 @@ use Rattle.calls.specs.State as state
 use Rattle.calls.specs.State.{Maybe, State}
 use Rattle.calls.specs.Calls.{filled as fills, heightReturns}
 use Rattle.calls.specs.Bookings.{bookingsHeights, bookingsGives}
-use Rattle.calls.proofs.Bookings.{as-single-requests}
+use Rattle.calls.proofs.Singly.{as-single-requests}
 use Rattle.refusals.specs.Outcome.{Outcome, accepted, refused, _>>_}
 use Rattle.refusals.proofs.Laws.{not-both}
 use Rattle.claim.specs.Document.{Request, Cards, Station, Date, Height, Series, Turns, Year, Bookings, Names, Gave, told, predicted, wrote, found, filled, named, Last, nothing, workedOut, after, gives, givesAll, lastAfter, Point, pointsFrom, pointsOf, points, constituentsThere, preparedMonth, monthsFor, AllNear, nil, cons, EachNear, end, next}

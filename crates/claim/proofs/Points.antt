@@ -25,7 +25,7 @@ use Rattle.calls.specs.Asked.{minuteOutside, seriesOutside}
 use Rattle.calls.specs.declared.annual.Sheet.{Sheet}
 use Rattle.calls.specs.Year.{yearGives}
 use Rattle.calls.specs.Bookings.{bookingsHeights, bookingsGives}
-use Rattle.calls.proofs.Bookings.{as-single-requests}
+use Rattle.calls.proofs.Singly.{as-single-requests}
 use Rattle.calls.proofs.Posed.{height-of, series-of}
 use Rattle.claim.specs.Document.{Request, Cards, Station, Date, Height, Series, Turns, Year, Bookings, Names, Last, workedOut, after, gives, givesAll, Point, heightPoints, pointsFrom, seriesPoints, pointsOf, turnsPoints, sheetPoints, bookingsPoints, points, preparedMonth, monthsOn, monthsFor, AllNear, nil, cons, EachNear, end, next}
 use Rattle.claim.proofs.Given.{ready-by, all-found, turns-give, as-many, year-gives}

@@ -103,6 +103,16 @@ module _ {vc : Val} (l : Last) (h : Holds vc l) where
       ∥∥₁-map (leaves is-clock k) (λ a.
       subst (λ (v : Val). (Leaves x (v, ws) × (gives l q ≡ told (verdictIn (x .value)))) × Holds v (after l q)) e ((lies, a .0 ∙ ap told (sym (verdict-reads r (x .value) is))), a .1)))
 
+  -- heights that are written are read off the memory at the end
+  left-wrote : {q : Request} {hs′ zs : List ℤ} {said : Outcome Unit} (Left : List ℤ → Type 1) (r : Outcome Unit) → r ≡ said → Left hs′ → Call (h .clock) q (wrote (record { returned = said; heights = hs′ })) (h .clock)
+      → ∥ (hs′ ≡ zs) ∥₁ → ∥ ((Left zs × (gives l q ≡ wrote (record { returned = r; heights = zs }))) × Holds vc (after l q)) ∥₁
+  left-wrote {q = q} {hs′ = hs′} Left r is lies k e =
+      ∥∥₁-elim e ∥∥₁-prop (λ there.
+      ∥∥₁-map (left-same k) (λ a. (
+        subst (λ (ys : List ℤ). Left ys × (gives l q ≡ wrote (record { returned = r; heights = ys }))) there (lies, a .0 ∙ ap (λ (o : Outcome Unit). wrote (record { returned = o; heights = hs′ })) (sym is)),
+        a .1,
+      )))
+
   -- a run gives what the document gives, and leaves a clock that holds what is worked out after it
   run-gives : {vc′ : Val} {q : Request} (x : Run vc q vc′) → ∥ (Gives x (gives l q) × Holds vc′ (after l q)) ∥₁
   unfolding Gives load-call station-call placing-call date-call height-call series-call turns-call year-call bookings-call names-call held-load-call held-station-call held-date-call lent-height-call held-height-call held-series-call held-turns-call held-year-call lent-bookings-call held-bookings-call held-names-call
@@ -123,13 +133,8 @@ module _ {vc : Val} (l : Last) (h : Holds vc l) where
       ∥∥₁-map (left-same (call.heights (k .once))) (λ a. ((k .leaves, a .0 ∙ ap predicted (sym (height-reads (k .result) (x .value) (k .is)))), a .1)))
   run-gives (serieses {start = start} {step = step} {vs = vs} {vt = vt} {hs = hs} {b = b} {o = o} x) =
       ∥∥₁-elim (ran (series-call (h .clock) vc start step vs vt hs b o) (on-value x)) ∥∥₁-prop (λ k.
-      let hs′ : List ℤ = k .last .1 .1 .1 .0 in
-      ∥∥₁-elim (heights-left (x .left) hs hs′ b o (x .rest) (k .as-many .0) (k .leaves)) ∥∥₁-prop (λ e.
-      ∥∥₁-map (left-same (call.serieses (k .once))) (λ a. (
-        subst (λ (zs : List ℤ). Leaves x (zs, tt) × (gives l (Series start step hs) ≡ wrote (record { returned = answerIn (x .value); heights = zs }))) e
-            (k .leaves, a .0 ∙ ap (λ (r : Outcome Unit). wrote (record { returned = r; heights = hs′ })) (sym (answer-reads (k .result) (x .value) (k .is)))),
-        a .1,
-      ))))
+      left-wrote {q = Series start step hs} (λ zs. Leaves x (zs, tt)) (answerIn (x .value)) (answer-reads (k .result) (x .value) (k .is)) (k .leaves) (call.serieses (k .once))
+      (heights-left (x .left) hs _ b o (x .rest) (k .as-many .0) (k .leaves)))
   run-gives (searches {first = first} {last = last} {vf = vf} {vl = vl} {ms = ms} {b = b} {o = o} {hs = hs} {b₁ = b₁} {o₁ = o₁} x) =
       ∥∥₁-elim (ran (turns-call (h .clock) vc first last vf vl ms b o hs b₁ o₁) (on-value x)) ∥∥₁-prop (λ k.
       let ms′ : List ℕ = k .last .1 .1 .1 .0 in
@@ -154,13 +159,8 @@ module _ {vc : Val} (l : Last) (h : Holds vc l) where
       ))))
   run-gives (bookings {minutes = minutes} {q = q} {b = b} {o = o} {hs = hs} {b₁ = b₁} {o₁ = o₁} x) =
       ∥∥₁-elim (ran (bookings-call (h .clock) vc minutes q b o hs b₁ o₁) (on-value x)) ∥∥₁-prop (λ k.
-      let hs′ : List ℤ = k .last .1 .1 .0 in
-      ∥∥₁-elim (heights-left-behind (x .left) (Lie u32 q minutes b o) hs hs′ b₁ o₁ (x .rest) (k .as-many .0) (k .leaves)) ∥∥₁-prop (λ e.
-      ∥∥₁-map (left-same (call.bookings (k .once))) (λ a. (
-        subst (λ (zs : List ℤ). Leaves x (zs, tt) × (gives l (Bookings minutes hs) ≡ wrote (record { returned = answerIn (x .value); heights = zs }))) e
-            (k .leaves, a .0 ∙ ap (λ (r : Outcome Unit). wrote (record { returned = r; heights = hs′ })) (sym (answer-reads (k .result) (x .value) (k .is)))),
-        a .1,
-      ))))
+      left-wrote {q = Bookings minutes hs} (λ zs. Leaves x (zs, tt)) (answerIn (x .value)) (answer-reads (k .result) (x .value) (k .is)) (k .leaves) (call.bookings (k .once))
+      (heights-left-behind (x .left) (Lie u32 q minutes b o) hs _ b₁ o₁ (x .rest) (k .as-many .0) (k .leaves)))
   run-gives (hands x) =
       ∥∥₁-elim (ran (names-call (h .clock) vc) (on-value x)) ∥∥₁-prop (λ k.
       ∥∥₁-map (left-same (call.hands (k .once))) (λ a. ((k .leaves, a .0 ∙ ap named (sym (names-read (k .result) (x .value) (k .is)))), a .1)))
@@ -179,13 +179,8 @@ module _ {vc : Val} (l : Last) (h : Holds vc l) where
       ∥∥₁-map (left-same (call.heldHeights (k .once))) (λ a. ((k .leaves, a .0 ∙ ap predicted (sym (reading-reads (k .result) (x .value) (k .is)))), a .1)))
   run-gives (heldSerieses {s = s} {b = b} {o = o} {start = start} {step = step} {vs = vs} {vt = vt} {hs = hs} {b₁ = b₁} {o₁ = o₁} x) =
       ∥∥₁-elim (ran (held-series-call (h .clock) vc (h .is) s b o start step vs vt hs b₁ o₁) x) ∥∥₁-prop (λ k.
-      let hs′ : List ℤ = k .last .1 .1 .1 .0 in
-      ∥∥₁-elim (heights-left (x .left) hs hs′ b₁ o₁ (⟦ At ClockType.the-row s vc b o ⟧₀ ∗ x .rest) (k .as-many .0) (beside-clock x (hs′, tt) (k .leaves))) ∥∥₁-prop (λ e.
-      ∥∥₁-map (left-same (call.heldSerieses (k .once))) (λ a. (
-        subst (λ (zs : List ℤ). Leaves x (zs, tt) × (gives l (Series start step hs) ≡ wrote (record { returned = verdictIn (x .value); heights = zs }))) e
-            (k .leaves, a .0 ∙ ap (λ (r : Outcome Unit). wrote (record { returned = r; heights = hs′ })) (sym (verdict-reads (k .result) (x .value) (k .is)))),
-        a .1,
-      ))))
+      left-wrote {q = Series start step hs} (λ zs. Leaves x (zs, tt)) (verdictIn (x .value)) (verdict-reads (k .result) (x .value) (k .is)) (k .leaves) (call.heldSerieses (k .once))
+      (heights-left (x .left) hs _ b₁ o₁ (⟦ At ClockType.the-row s vc b o ⟧₀ ∗ x .rest) (k .as-many .0) (beside-clock x (k .last .1 .1 .1 .0, tt) (k .leaves))))
   run-gives (heldSearches {s = s} {b = b} {o = o} {first = first} {last = last} {vf = vf} {vl = vl} {ms = ms} {b₁ = b₁} {o₁ = o₁} {hs = hs} {b₂ = b₂} {o₂ = o₂} x) =
       ∥∥₁-elim (ran (held-turns-call (h .clock) vc (h .is) s b o first last vf vl ms b₁ o₁ hs b₂ o₂) x) ∥∥₁-prop (λ k.
       let ms′ : List ℕ = k .last .1 .1 .1 .0 in
@@ -210,22 +205,12 @@ module _ {vc : Val} (l : Last) (h : Holds vc l) where
       ))))
   run-gives (lentBookings {s = s} {b = b} {o = o} {minutes = minutes} {q = q} {b₁ = b₁} {o₁ = o₁} {hs = hs} {b₂ = b₂} {o₂ = o₂} x) =
       ∥∥₁-elim (ran (lent-bookings-call (h .clock) vc (h .is) s b o minutes q b₁ o₁ hs b₂ o₂) x) ∥∥₁-prop (λ k.
-      let hs′ : List ℤ = k .last .1 .1 .0 in
-      ∥∥₁-elim (heights-left-behind (x .left) (Lie u32 q minutes b₁ o₁) hs hs′ b₂ o₂ (⟦ At ClockType.the-row s vc b o ⟧₀ ∗ x .rest) (k .as-many .0) (beside-clock x (hs′, tt) (k .leaves))) ∥∥₁-prop (λ e.
-      ∥∥₁-map (left-same (call.lentBookings (k .once))) (λ a. (
-        subst (λ (zs : List ℤ). Leaves x (zs, tt) × (gives l (Bookings minutes hs) ≡ wrote (record { returned = answerIn (x .value); heights = zs }))) e
-            (k .leaves, a .0 ∙ ap (λ (r : Outcome Unit). wrote (record { returned = r; heights = hs′ })) (sym (answer-reads (k .result) (x .value) (k .is)))),
-        a .1,
-      ))))
+      left-wrote {q = Bookings minutes hs} (λ zs. Leaves x (zs, tt)) (answerIn (x .value)) (answer-reads (k .result) (x .value) (k .is)) (k .leaves) (call.lentBookings (k .once))
+      (heights-left-behind (x .left) (Lie u32 q minutes b₁ o₁) hs _ b₂ o₂ (⟦ At ClockType.the-row s vc b o ⟧₀ ∗ x .rest) (k .as-many .0) (beside-clock x (k .last .1 .1 .0, tt) (k .leaves))))
   run-gives (heldBookings {s = s} {b = b} {o = o} {minutes = minutes} {q = q} {b₁ = b₁} {o₁ = o₁} {hs = hs} {b₂ = b₂} {o₂ = o₂} x) =
       ∥∥₁-elim (ran (held-bookings-call (h .clock) vc (h .is) s b o minutes q b₁ o₁ hs b₂ o₂) x) ∥∥₁-prop (λ k.
-      let hs′ : List ℤ = k .last .1 .1 .0 in
-      ∥∥₁-elim (heights-left-behind (x .left) (Lie u32 q minutes b₁ o₁) hs hs′ b₂ o₂ (⟦ At ClockType.the-row s vc b o ⟧₀ ∗ x .rest) (k .as-many .0) (beside-clock x (hs′, tt) (k .leaves))) ∥∥₁-prop (λ e.
-      ∥∥₁-map (left-same (call.heldBookings (k .once))) (λ a. (
-        subst (λ (zs : List ℤ). Leaves x (zs, tt) × (gives l (Bookings minutes hs) ≡ wrote (record { returned = verdictIn (x .value); heights = zs }))) e
-            (k .leaves, a .0 ∙ ap (λ (r : Outcome Unit). wrote (record { returned = r; heights = hs′ })) (sym (verdict-reads (k .result) (x .value) (k .is)))),
-        a .1,
-      ))))
+      left-wrote {q = Bookings minutes hs} (λ zs. Leaves x (zs, tt)) (verdictIn (x .value)) (verdict-reads (k .result) (x .value) (k .is)) (k .leaves) (call.heldBookings (k .once))
+      (heights-left-behind (x .left) (Lie u32 q minutes b₁ o₁) hs _ b₂ o₂ (⟦ At ClockType.the-row s vc b o ⟧₀ ∗ x .rest) (k .as-many .0) (beside-clock x (k .last .1 .1 .0, tt) (k .leaves))))
   run-gives (heldHands {s = s} {b = b} {o = o} x) =
       ∥∥₁-elim (ran (held-names-call (h .clock) vc (h .is) s b o) x) ∥∥₁-prop (λ k.
       ∥∥₁-map (left-same (call.heldHands (k .once))) (λ a. ((k .leaves, a .0 ∙ ap named (sym (names-read (k .result) (x .value) (k .is)))), a .1)))
