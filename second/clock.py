@@ -1,5 +1,5 @@
-"""The berth clock: the six calls of document 01 and the year of change request No. 1, what they leave, and the order
-of their refusals."""
+"""The berth clock: the six calls of document 01, the year of change request No. 1 and the bookings of No. 3, what they
+leave, and the order of their refusals."""
 
 from collections import namedtuple
 
@@ -42,6 +42,16 @@ def check_places(found, minute_places, height_places):
     """10: "more turns than either lent buffer holds" """
     if len(found) > min(minute_places, height_places):
         raise Refusal(10)
+
+
+def check_bookings(last, minutes, places):
+    """ "Refused: 31, the two lent buffers differ in length, after the state checks; then 9 at the first minute outside the
+    month, its place counted from 1." """
+    if len(minutes) != places:
+        raise Refusal(31)
+    for place, minute in enumerate(minutes, 1):
+        if not 0 <= minute <= last:
+            raise Refusal(9, place)
 
 
 class Clock:
@@ -113,6 +123,12 @@ class Clock:
         self.need_month()
         check_series(self.month.days * 1_440, start, step, count)
         return [heights.height(self.month, start + n * step) for n in range(count)]
+
+    def bookings(self, minutes, places):
+        """ "The height at each place must equal the one that a single request gives for the minute at that place" """
+        self.need_month()
+        check_bookings(self.month.days * 1_440, minutes, places)
+        return [heights.height(self.month, minute) for minute in minutes]
 
     def turns(self, first, last, minute_places, height_places):
         """The turns as (minute, height), and whether the first is high."""

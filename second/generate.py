@@ -12,6 +12,7 @@ import os
 import random
 import sys
 
+import bookings
 import decks
 import years
 from clock import Clock
@@ -257,6 +258,15 @@ class ScriptWriter:
             (0.5, (short, short)), (0.2, (LARGEST_BUFFER, LARGEST_BUFFER)),
         )
 
+    # Bookings
+
+    def bookings(self):
+        """A day's bookings, now and then with a height of one of the minutes behind it: the same, and the month is as it was."""
+        minutes, places = bookings.pick(self.rng, self.last_minute())
+        self.calls.append(bookings.call(minutes, places))
+        if minutes and self.rng.random() < 0.3:
+            self.write(b"height", self.rng.choice(minutes))
+
     # Years
 
     def year(self):
@@ -292,7 +302,7 @@ class ScriptWriter:
 
     def any_call(self):
         """A call fit for the state as a rule, and any call now and then."""
-        reading = [(3, self.height), (3, self.series), (4, self.turns), (1.2, self.year)]
+        reading = [(3, self.height), (3, self.series), (3, self.bookings), (4, self.turns), (1.2, self.year)]
         if self.clock.table is None:
             choices = [(6, self.cards), (1, self.station), (1, self.date)] + [(0.4, call) for _, call in reading]
         elif self.clock.station is None:
@@ -302,6 +312,8 @@ class ScriptWriter:
             choices.append((1, self.year))  # It asks for no month.
         else:
             choices = [(0.5, self.cards), (1, self.station), (1.5, self.date)] + reading
+        if self.clock.month is None:
+            choices.append((0.7, self.bookings))  # The state is asked before its 31 and 9.
         chance(self.rng, *choices, (0.06, self.late_year))()
 
     def malformed_line(self):
@@ -314,7 +326,7 @@ class ScriptWriter:
             b"\xff\xfe\n", b"height 0x1\n", b"height +1\n", b"date 1976 7 1\n", b"station 0 1\n0 0 0 0\n",
             b"year\n", b"year 1976\n", b"year 1976 0 60 1 0 0 0\n", b"year 1976 0 60 1 0 0 0 0 0\n", b"year 1976 0 60 1 0 0 0 -1\n",
             b"year -1976 0 60 1 0 0 0 0\n", b"year 1976 0 60 1 0 0 0 4294967296\n", b"years 1976 0 60 1 0 0 0 0\n",
-            b"year 1976 0 60  1 0 0 0 0\n", b"year 1976 0 60 1 0 0 0 0",
+            b"year 1976 0 60  1 0 0 0 0\n", b"year 1976 0 60 1 0 0 0 0", *bookings.MALFORMED,
         ]))
 
 

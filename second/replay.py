@@ -92,6 +92,12 @@ def read_record(script):
     return place, amplitude, lag
 
 
+def read_minute(script):
+    (minute,) = script.numbers(script.words(), 1)
+    script.done()
+    return minute
+
+
 def read_call(script):
     """Reads one whole call; gives what asks a clock for its answer line."""
     word, *rest = script.words()
@@ -120,6 +126,11 @@ def read_call(script):
         start, step, count = script.numbers(rest, 3)
         script.done()
         return lambda clock: spaced("heights", clock.series(start, step, count))
+    if word == b"bookings":
+        count, places = script.numbers(rest, 2)
+        script.done()
+        minutes = [read_minute(script) for _ in range(count)]
+        return lambda clock: spaced("heights", clock.bookings(minutes, places))
     if word == b"turns":
         first, last, minutes, heights = script.numbers(rest, 4)
         script.done()

@@ -1,5 +1,5 @@
-"""Document 01's "Checked against" cases, its limits and the card file readings, and change request No. 1 against single
-months, as plain asserts.
+"""Document 01's "Checked against" cases, its limits and the card file readings, change request No. 1 against single months,
+and No. 3 against single heights, as plain asserts.
 
 Usage: python3 second/test_model.py [folder with the standard cards]
 """
@@ -400,6 +400,50 @@ def check_years():
     check_year_late()
 
 
+def check_bookings_by_heights():
+    """A booking's height is that of a single request, in any order and with repeats."""
+    clock = clock_with(2_905, TIDE, 1976, 2)
+    left = clock.table, clock.station, clock.month
+    rng = random.Random(1)
+    minutes = [rng.randint(0, 41_760) for _ in range(40)] + [41_760, 0, 7, 7, 0, 41_760]
+    for order in (minutes, minutes[::-1], sorted(minutes), sorted(minutes, reverse=True), [7] * 300):
+        check("bookings", clock.bookings(order, len(order)), [clock.height(minute) for minute in order])
+    given = clock.bookings(minutes, 46)
+    check("bookings in the order lent", given != sorted(given) and len(set(given)) > 20, True)
+    check("bookings are a series", clock.bookings(range(5, 41_761, 60), 696), clock.series(5, 60, 696))
+    check("no bookings", clock.bookings([], 0), [])
+    check("one booking", clock.bookings([41_760], 1), [clock.height(41_760)])
+    check("refused bookings", refused(clock.bookings, [0, 41_761], 2), (9, 2))
+    check("bookings leave all", all(a is b for a, b in zip(left, (clock.table, clock.station, clock.month))), True)
+
+
+def check_bookings_refusals():
+    clock = Clock()
+    late = 44_641
+    next_calls = (clock.set_cards, STANDARD), (clock.set_station, 0, []), (clock.set_date, 1976, 1)
+    for number, (call, *arguments) in enumerate(next_calls, 21):
+        for minutes, places in (([], 0), ([0], 1), ([], 1), ([0], 0), ([late], 1), ([late], 2)):
+            check("bookings %r, %d" % (minutes, places), refused(clock.bookings, minutes, places), (number, 0))
+        call(*arguments)
+    for minutes, places, wanted in (
+        ([], 0, None), ([], 1, (31, 0)), ([], 44_641, (31, 0)), ([0], 0, (31, 0)), ([0], 2, (31, 0)), ([0, 0, 0], 2, (31, 0)),
+        ([0] * 256, 0, (31, 0)), ([0], 257, (31, 0)), ([late], 0, (31, 0)), ([late], 2, (31, 0)), ([0, late, late], 2, (31, 0)),
+        ([44_640, 0], 2, None), ([late], 1, (9, 1)), ([late, 0], 2, (9, 1)), ([0, late], 2, (9, 2)), ([0, late, 0], 3, (9, 2)),
+        ([0, late, 0, late, late], 5, (9, 2)), ([late, 2**32 - 1], 2, (9, 1)), ([7, 2**32 - 1, late], 3, (9, 2)),
+        ([0] * 300 + [65_536], 301, (9, 301)), ([2**31], 1, (9, 1)), ([5, 65_536 + 5], 2, (9, 2)),
+    ):
+        check("bookings %r, %d" % (minutes[-5:], places), refused(clock.bookings, minutes, places), wanted)
+    for year, month, last in ((1977, 2, 40_320), (1976, 2, 41_760), (1976, 4, 43_200), (1976, 12, 44_640)):
+        clock.set_date(year, month)
+        check("bookings to the month's end", refused(clock.bookings, [last, 0, last], 3), None)
+        check("bookings past the month's end", refused(clock.bookings, [last, last + 1], 2), (9, 2))
+
+
+def check_bookings():
+    check_bookings_by_heights()
+    check_bookings_refusals()
+
+
 def check_replay():
     script = b"height 0\ncards %d\n%s\nstation -299 1\n0 5 18000\ndate 1976 2\nheight 41760\n" % (len(STANDARD), STANDARD)
     script += b"series 0 1440 2\nseries 5 5 0\nturns 0 41760 0 0\nheight 41761\n"
@@ -409,13 +453,23 @@ def check_replay():
     year = b"year 1976 41760 1440 2 0 527040 0 0\nyear 1977 0 1 0 0 0 0 0\nyear 1977 525601 1 0 0 0 0 0\nheight 0\n"
     year_answers = ["year 2 -5 -5 turns 0 0", "year 0 turns 0 0", "refused 9 0", "height -5"]
     check("year", list(replay(script + year)), answers + year_answers)
+    bookings = b"bookings 2 2\n41760\n0\nbookings 0 0\nbookings 1 2\n41761\nbookings 3 3\n0\n41761\n4294967295\nheight 0\n"
+    bookings_answers = ["heights -5 -5", "heights", "refused 31 0", "refused 9 2", "height -5"]
+    check("bookings", list(replay(script + bookings)), answers + bookings_answers)
+    check("bookings with no table", list(replay(b"bookings 1 0\n99999\nbookings 0 0\n")), ["refused 21 0"] * 2)
     line = script.count(b"\n") + 1
     for bad in (b"height", b"height 1", b"height -1\n", b"height  1\n", b"\n", b"Height 1\n", b"height 4294967296\n",
                 b"date 1 2 3\n", b"station 1\n", b"cards x\n", b"\xff\n", b"height 1 \n", b"height 1\r\n", b"year 1976 0 1 0 0 0 0\n",
-                b"year 1976 0 1 0 0 0 0 0 0\n", b"year 1976 0 1 0 0 0 0 -1\n", b"year 1976 0 1 0 0 0 0 4294967296\n"):
+                b"year 1976 0 1 0 0 0 0 0 0\n", b"year 1976 0 1 0 0 0 0 -1\n", b"year 1976 0 1 0 0 0 0 4294967296\n",
+                b"booking 0 0\n", b"bookings 0\n", b"bookings 0 0 0\n", b"bookings 0 0", b"bookings -1 0\n",
+                b"bookings 0 4294967296\n"):
         check("script %r" % bad, list(replay(script + bad)), answers + ["script %d" % line])
     check("record", list(replay(b"station 0 2\n1 2 3\n256 0 0\n")), ["script 3"])
     check("missing record", list(replay(b"station 0 2\n1 2 3\n")), ["script 3"])
+    asked = script + b"bookings 3 1\n0\n4294967295\n"
+    for bad in (b"", b"0", b"\n", b"-1\n", b"0 0\n", b"0 \n", b" 0\n", b"4294967296\n", b"height 0\n"):
+        check("minute %r" % bad, list(replay(asked + bad)), answers + ["script %d" % (line + 3)])
+    check("minute too many", list(replay(b"bookings 1 1\n0\n0\n")), ["refused 21 0", "script 3"])
     check("nothing", list(replay(b"")), [])
     check("no LF after cards", list(replay(b"cards 2\n\n\nheight 0\n")), ["script 4"])
 
@@ -428,6 +482,7 @@ def main():
     check_card_files()
     check_station_files()
     check_years()
+    check_bookings()
     check_replay()
     print("%d passed, %d failed" % (PASSED, FAILED))
     sys.exit(1 if FAILED else 0)

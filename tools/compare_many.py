@@ -2,7 +2,7 @@
 
 Usage: python3 tools/compare_many.py PROGRAM SEED COUNT
 COUNT scripts of about 100 calls are generated from the seed; the answers are compared line for line. Prints how many lines and prepared
-months there were, and how often each refusal occurred, with the calls in all and with `year` alone.
+months there were, and how often each refusal occurred, with the calls in all and with `year` and `bookings` alone.
 """
 
 import collections
@@ -18,6 +18,10 @@ import clock  # noqa: E402
 import generate  # noqa: E402
 import heights  # noqa: E402
 from replay import Script, ScriptError, read_call, replay  # noqa: E402
+
+
+# The calls whose answers are counted alone too.
+ALONE = [b"year", b"bookings"]
 
 
 def keep(module, name, key):
@@ -78,18 +82,20 @@ def words(script):
 
 def main():
     program, seed, count = sys.argv[1], int(sys.argv[2]), int(sys.argv[3])
-    kinds, years = collections.Counter(), collections.Counter()
+    kinds, alone = collections.Counter(), {word: collections.Counter() for word in ALONE}
     differing = 0
     for index, (script, wanted) in enumerate(answered(seed, count)):
         got = subprocess.run([program], input=script, capture_output=True, check=True).stdout.decode().split("\n")[:-1]
         kinds.update(map(kind, wanted))
-        years.update(kind(line) for word, line in zip(words(script), wanted) if word == b"year")
+        for word, line in zip(words(script), wanted):
+            if word in alone:
+                alone[word][kind(line)] += 1
         if got != wanted:
             differing += 1
             print("differs: seed %d script %d" % (seed, index))
     lines = sum(kinds.values())
     print("%d scripts, %d lines compared, %d scripts differ" % (count, lines, differing))
-    for title, counts in (("answers", kinds), ("to year", years)):
+    for title, counts in [("answers", kinds)] + [("to %s" % word.decode(), counts) for word, counts in alone.items()]:
         print("%s: %s" % (title, ", ".join("%s: %d" % pair for pair in sorted(counts.items()))))
     sys.exit(1 if differing or not lines else 0)
 

@@ -1,5 +1,6 @@
 -- A field that is an array, lent out of a lent clock: what a `&` to the clock owns, with a token, gives what a `&` to the array owns, and stays.
 -- Assumes `Given`.
+use Prim.{Unit}
 use mathlib.Core.Path.{refl}
 use Prim.Native.Nat.{ℕ, _+_}
 use mathlib.Core.List.{List, [], _∷_}
@@ -27,8 +28,8 @@ use Rattle.table.specs.inner.View.{tableOf}
 use Rattle.station.specs.inner.Station.{stationOf}
 use Rattle.refusals.specs.Outcome.{Outcome}
 use Rattle.clock.specs.View.{view, Made}
-use Rattle.clock.specs.Posts.{HeightPost}
-use Rattle.clock.specs.inner.Posts.{PartsMade, HeightFrom}
+use Rattle.clock.specs.Posts.{HeightPost, BookingsPost}
+use Rattle.clock.specs.inner.Posts.{PartsMade, HeightFrom, BookingsFrom}
 use Rattle.clock.specs.declared.Clock.{Clock}
 use Rattle.clock.proofs.Clock as T
 use Rattle.clock.proofs.Clock.Laws as T′
@@ -95,3 +96,9 @@ parts-made c made tabled = let sound = made tabled in (sound .cosines, (sound .c
 pub from-parts : (c : Clock) (m : ℕ) (returned : Outcome ℤ) → HeightFrom (c .tabled) (c .stationed) (c .dated) (c .last) (c .count) (c .arguments) (c .lags) (c .frequencies) (c .ps) (c .qs) m returned → HeightPost c m returned
 unfolding view
 from-parts c m returned p = record { returns = p .returns (tableOf (c .table)) (stationOf (c .station)) }
+
+-- and so are bookings
+pub bookings-from-parts : (c : Clock) (minutes : List ℕ) (heights left : List ℤ) (returned : Outcome Unit)
+    → BookingsFrom (c .tabled) (c .stationed) (c .dated) (c .last) (c .count) (c .arguments) (c .lags) (c .frequencies) (c .ps) (c .qs) minutes heights left returned → BookingsPost c minutes heights left returned
+unfolding view
+bookings-from-parts c minutes heights left returned p = record { gives = p .gives (tableOf (c .table)) (stationOf (c .station)) }
