@@ -29,7 +29,7 @@ use Rattle.claim.specs.Document.{Request, Cards, Station, Date, Height, 
 use Rattle.claim.specs.Calls.{New, Call, Calls}
 
 -- the calls of the papers, and what a clock with no table gives for them: an empty card file ends inside its first part, 7 at line 1; the others find
--- no table, 21, and leave the lent places as they were
+-- no table, 21, and leave the lent places as they were (bookings too, which have a place too few: "31, [..] after the state checks")
 abbrev pub aSheet : Sheet
 aSheet = record { year = 1976; start = 0; step = 1; first = 0; last = 1 }
 

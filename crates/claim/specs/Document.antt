@@ -153,7 +153,7 @@ abbrev pub sheetPoints : Sheet → YearGiven → List Point
 sheetPoints sheet y =
     seriesPoints (sheet .start) (sheet .step) (y .returned) (y .series) ++ turnsPoints (y .returned) (y .minutes) (y .heights)
 
--- "The height at each place [..] for the minute at that place, with its distance"
+-- "The height at each place must equal the one that a single request gives for the minute at that place, with its distance"
 abbrev pub bookingsPoints : {A : Type 0} → List ℕ → Outcome A → List ℤ → List Point
 bookingsPoints minutes returned heights = onAccepted returned (λ _. pointsOf minutes heights) []
 

@@ -93,7 +93,7 @@ z0-records = z0-record ∷ []
 abbrev pub year-sheet : Sheet
 year-sheet = record { year = 1976; start = 0; step = 1; first = 0; last = 360 }
 
--- minutes in falling order, one of them twice, and a place for each height
+-- "a list of minutes, in any order and with repeats": a later one first, and once more at the end; and a place for each height
 abbrev pub threeMinutes : List ℕ
 threeMinutes = 720 ∷ 0 ∷ 720 ∷ []
 
