@@ -14,10 +14,10 @@ use Rattle.turns.specs.Search.{Turn, minutesOf}
 use Rattle.turns.specs.Written.{TurnsFound, fromFront}
 use Rattle.calls.specs.State as state
 use Rattle.calls.specs.State.{Maybe, State}
-use Rattle.calls.specs.Calls.{filled as fills, heightReturns}
+use Rattle.calls.specs.Calls.{SeriesGiven, filled as fills, heightReturns}
 use Rattle.calls.specs.Bookings.{bookingsHeights, bookingsGives}
 use Rattle.calls.proofs.Singly.{as-single-requests}
-use Rattle.refusals.specs.Outcome.{Outcome, accepted, refused, _>>_}
+use Rattle.refusals.specs.Outcome.{Outcome, accepted, refused}
 use Rattle.refusals.proofs.Laws.{not-both}
 use Rattle.claim.specs.Document.{Request, Cards, Station, Date, Height, Series, Turns, Year, Bookings, Names, Gave, told, predicted, wrote, found, filled, named, Last, nothing, workedOut, after, gives, givesAll, lastAfter, Point, pointsFrom, pointsOf, points, constituentsThere, preparedMonth, monthsFor, AllNear, nil, cons, EachNear, end, next}
 use Rattle.claim.proofs.Points.{near-call}
@@ -170,18 +170,13 @@ of-a-years-turns qs gs sheet ss ss′ ms ms′ hs hs′ count high claim n c =
 
 -- ---- bookings: each as a single height
 
--- what an accepted list of bookings writes is all of its heights
-abbrev written : Gave → Outcome (List ℤ)
-written (told r) = refused 0 0
-written (predicted r) = refused 0 0
-written (wrote s) = s .returned >> accepted (s .heights)
-written (found t) = refused 0 0
-written (filled y) = refused 0 0
-written (named names) = refused 0 0
+-- where bookings are accepted, what is written is all of their heights
+as-written : {s t : SeriesGiven} → wrote s ≡ wrote t → s ≡ t
+as-written e = cc
 
-all-written : (o : Outcome (List ℤ)) (heights left : List ℤ) → accepted left ≡ written (wrote (fills o heights)) → o ≡ accepted left
-all-written (accepted hs) heights left e = sym e
-all-written (refused number place) heights left e = not-both (sym e)
+all-written : (o : Outcome (List ℤ)) (heights left : List ℤ) → record { returned = accepted tt; heights = left } ≡ fills o heights → o ≡ accepted left
+all-written (accepted hs) heights left e = ap (λ (s : SeriesGiven). accepted (s .heights)) (sym e)
+all-written (refused number place) heights left e = not-both (ap (λ (s : SeriesGiven). s .returned) (sym e))
 
 nth-single : (one : ℕ → Outcome ℤ) (ms : List ℕ) (hs : List ℤ) (n : ℕ) → map one ms ≡ map accepted hs → n < length hs → accepted (getD hs n (pos 0)) ≡ one (getD ms n 0)
 nth-single one ms [] n e h = absurd (omega arith)
@@ -196,7 +191,7 @@ of-bookings qs gs minutes before left claim n h =
     let k : State = workedOut l in
     let minute : ℕ = getD minutes n 0 in
     let height : ℤ = getD left n (pos 0) in
-    let all : bookingsHeights k minutes (length before) ≡ accepted left = all-written _ before left (ap written (last-exactly qs gs _ _ (claim .exactly))) in
+    let all : bookingsHeights k minutes (length before) ≡ accepted left = all-written _ before left (as-written (last-exactly qs gs _ _ (claim .exactly))) in
     let single : accepted height ≡ heightReturns k minute = nth-single (heightReturns k) minutes left n (as-single-requests k minutes (length before) left all) h in
     let near : AllNear (monthsFor l (Height minute)) (points (Height minute) (predicted (accepted height))) =
     subst (λ (o : Outcome ℤ). AllNear (monthsFor l (Height minute)) (points (Height minute) (predicted o))) (sym single) (near-call l (Height minute)) in
