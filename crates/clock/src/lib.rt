@@ -369,8 +369,7 @@ fn bookings_from<'a>(
     requires { ⌜ PartsMade tabled (now cosines) count last ⌝ }
     ensures { λ r. ⌜ BookingsFrom tabled stationed dated last count (now (arguments .entry)) (now (lags .entry)) (now (frequencies .entry)) (now (ps .entry)) (now (qs .entry)) (now (minutes .entry)) (now (heights .entry)) (now (heights .exit)) (outcomeOf r) ⌝ }
 {
-    let asked =
-        bookings::bookings_answer(tabled, stationed, dated, last, minutes, heights.len());
+    let asked = bookings::bookings_answer(tabled, stationed, dated, last, minutes, heights.len());
     match asked {
         Answer::Accepted => {
             heights::bookings::heights_at(
@@ -415,22 +414,22 @@ pub fn bookings(clock: Clock, minutes: &[u32], heights: &mut [i64]) -> Answer
 }
 
 // The bookings of a lent clock, read where it lies, as `height_lent` reads it.
-pub fn bookings_lent(lent: &Clock, minutes: &[u32], heights: &mut [i64]) -> Answer
-    requires { ⌜ Made (now lent) ⌝ }
-    ensures { λ r. ⌜ BookingsPost (now (lent .entry)) (now (minutes .entry)) (now (heights .entry)) (now (heights .exit)) (outcomeOf r) ⌝ }
+pub fn bookings_lent(held: &Clock, minutes: &[u32], heights: &mut [i64]) -> Answer
+    requires { ⌜ Made (now held) ⌝ }
+    ensures { λ r. ⌜ BookingsPost (now (held .entry)) (now (minutes .entry)) (now (heights .entry)) (now (heights .exit)) (outcomeOf r) ⌝ }
 {
     bookings_from(
-        &lent.cosines,
-        &lent.arguments,
-        &lent.lags,
-        &lent.frequencies,
-        &lent.ps,
-        &lent.qs,
-        lent.tabled,
-        lent.stationed,
-        lent.dated,
-        lent.last,
-        lent.count,
+        &held.cosines,
+        &held.arguments,
+        &held.lags,
+        &held.frequencies,
+        &held.ps,
+        &held.qs,
+        held.tabled,
+        held.stationed,
+        held.dated,
+        held.last,
+        held.count,
         minutes,
         heights,
     )

@@ -1,23 +1,20 @@
 -- A clock behind a `&` is copied into a local, to be passed on by value: the walk of that statement, once for every function that has it. F is what the other parameters own, and Δ the rest.
 -- Assumes `Given`.
-use Rattle.cuvalimodo_c.proofs.Walking.{refl, ℕ, List, [], _∷_, URA, fullShare, named, vptr, Fml, Lft, Share, flft, Heap, Calls, Loops, Atoms, Given, Item, ‵, _$_, !, move, drop, fsplit3, fjoin, look, look-raw, init, stop, hop, from, load, of-opd, assigns, Is, shows, RefT, ptr-vals, owned, peeks, spelt}
+use Rattle.clock.proofs.Walking.{refl, ℕ, List, [], _∷_, URA, fullShare, named, vptr, Fml, Lft, Share, flft, Heap, Calls, Loops, Atoms, Given, Item, ‵, _$_, !, move, drop, fsplit3, fjoin, look, look-raw, init, stop, hop, from, load, of-opd, assigns, Is, shows, RefT, ptr-vals, owned, peeks, spelt}
 use Prim.Native.Nat.{zero}
-use mir.Syntax.{Ty, Body, imm, tyRef, place, deref, copy, rvOpd, assign, seq}
+use mir.Syntax.{Ty, Body, place, deref, copy, rvOpd, assign, seq}
 use base.Fml.{fsep, fat, froom}
 use prog.Wp.{Env}
 use types.Kit.{Go, Post, Step, step, runs}
 use types.Run.{Finds}
-use denote.Memory.{pointee}
 use denote.Ref.{ShrRef}
 use denote.Steps.{looks, shuts}
 use denote.Struct.Laws as LL
 use Rattle.clock.specs.declared.Clock.{Clock}
+use Rattle.clock.proofs.LentOn.{refTy}
 use Rattle.clock.proofs.Clock as T
 use Rattle.clock.proofs.Clock.Laws as T′
 use Rattle.cuvalimodo_c.proofs.Stored.{clockVal}
-
-abbrev refTy : Ty
-refTy = tyRef (named 0) imm (pointee (T.the-row .written))
 
 module _ {M : Type 1} (𝓤 : URA M) (H : Heap 𝓤) (A : Atoms 𝓤) (W : Given 𝓤 H A) (κ : Lft) (q : Share) (x : RefT Clock) (τ : Ty) (l₀ l₁ i lᵢ : ℕ) (Es : Env 𝓤 H) (F : Fml) (Δ : List (Item 𝓤)) where
   abbrev E : Env 𝓤 H

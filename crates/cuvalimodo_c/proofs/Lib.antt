@@ -1,6 +1,4 @@
 -- What the proofs of several functions use.
 pub mod Copied
 pub mod Numbers
-pub mod PassedOn
 pub mod Stored
-pub mod Walking

@@ -1,14 +1,12 @@
 -- A clock behind a `&mut` is read whole, goes to a call by value, and what the call leaves is stored back: the walk of these five statements, once for every
 -- function that has them, whatever other parameters it has. F is what the call's other parameters own, toks its tokens, and Δ the rest.
 -- Assumes `Given`.
-use Rattle.cuvalimodo_c.proofs.Walking.{_≡_, refl, ap, subst, ℕ, List, [], _∷_, URA, fullShare, named, Val, vptr, SProp, Fml, Lft, Share, flft, Heap, Calls, Loops, Atoms, Given, Item, ‵, raw, _$_, !, move, drop, rewrite, fsplit3, fjoin, fjoin3, feqI, whole, sub, look-in, look, look-raw, store-raw, init, forget, stop, hop, fld, from, load, of-opd, assigns, land, returns, Is, shows, RefT, ptr-vals, owned, peeks, spelt}
+use Rattle.clock.proofs.Walking.{_≡_, refl, ap, subst, ℕ, List, [], _∷_, URA, fullShare, named, Val, vptr, SProp, Fml, Lft, Share, flft, Heap, Calls, Loops, Atoms, Given, Item, ‵, raw, _$_, !, move, drop, rewrite, fsplit3, fjoin, fjoin3, feqI, whole, sub, look-in, look, look-raw, store-raw, init, forget, stop, hop, fld, from, load, of-opd, assigns, land, returns, Is, shows, RefT, ptr-vals, owned, peeks, spelt, found}
 use Prim.Native.Nat.{zero}
-use mathlib.Core.Path.{sym}
-use mir.Syntax.{Ty, Name, Step, Opd as Operand, Body, mut, tyRef, place, deref, field, copy, rvOpd, assign, call, seq, return}
+use mir.Syntax.{Ty, Name, Opd as Operand, Body, mut, tyRef, place, deref, field, copy, rvOpd, assign, call, seq, return}
 use base.Fml.{fsep, fat, froom, fobor, fobs, fauth}
-use prog.Wp.{Env, Spot, spotOf}
-use types.Kit.{Sq, Go, runs, lands, frees, prop, atRet}
-use types.Run.{Finds, Walks}
+use prog.Wp.{Env, spotOf}
+use types.Kit.{Sq, runs, lands, frees, prop, atRet}
 use types.SemTy.{Body as Held}
 use denote.Memory.{pointee, cellAt, mem}
 use denote.Ref.{MutRef, at-last}
@@ -71,9 +69,6 @@ module _ {M : Type 1} (𝓤 : URA M) (H : Heap 𝓤) (A : Atoms 𝓤) (W : Given
 
     abbrev pub After : Left → List (Item 𝓤)
     After s = ‵ (D.the-row .own (s .verdict) (verdictVal s ∷ [])) ∷ ‵ (Ref (s .clock)) ∷ ‵ (flft κ q) ∷ raw toks ∷ ‵ (froom T′.mir lᵢ zero) ∷ ‵ (froom O′.mir lⱼ zero) ∷ ‵ (froom refTy l₁ zero) ∷ ‵ (froom D′.mir l₀ zero) ∷ Δ
-
-    found : {Γ : List (Item 𝓤)} {k : ℕ} {sp sp′ : Spot 𝓤 H} {st : List Step} → spotOf 𝓤 H E k ≡ sp → Walks (Go {0}) W Γ E sp st sp′ → Finds (Go {0}) W Γ E (place k st) sp′
-    found {Γ} {sp′ = sp′} {st} e w = from ! (subst (λ (sp : Spot 𝓤 H). Walks (Go {0}) W Γ E sp st sp′) (sym e) w)
 
     pub stored : (𝓒 : Calls 𝓤 H) (Λ : Loops 𝓤 H) (Kf : Val → SProp 𝓤) (g : Name) (xs : List Operand) (Q : Left → Type 0)
         → spotOf 𝓤 H E i ≡ (T′.mir, lᵢ, zero) → spotOf 𝓤 H E j ≡ (O′.mir, lⱼ, zero)

@@ -1,5 +1,5 @@
 -- `cuvalimodo_height` meets its contract: a walk of its MIR. The reference goes on to `clock::height_lent` (`PassedOn`), and the answer to `told_height`. Assumes nothing.
-use Rattle.cuvalimodo_c.proofs.Walking.{_≡_, refl, subst, ℕ, _<_, _^_, [], _∷_, URA, named, w32, vint, SProp, ent, emp, id⊢, Lft, Share, Memory, Routine, Heap, Calls, Loops, WpFn, Atoms, Fun, factI, givenOf, tablesOf, Given, ‵, raw, _$_, _∵_, !, qed, move, keep, use0, fjoin, suffices, frame, done, look, init, forget, stop, from, load, and-then, no-more, land, returns, enter, alloc1, alloc0, params1, pass1, pass0, free1, free0, FmC, owns, Is, shows, uint-vals, uint-tells, u32, RefT, ptr-vals, peeks, nothing, Vals, Contract, Triple, cited, says, needs, Stays, walkOf, Walks, ends-at, walked, Met, asks, walks-meet}
+use Rattle.clock.proofs.Walking.{_≡_, refl, subst, ℕ, _<_, _^_, [], _∷_, URA, named, w32, vint, SProp, ent, emp, id⊢, Lft, Share, Memory, Routine, Heap, Calls, Loops, WpFn, Atoms, Fun, factI, givenOf, tablesOf, Given, ‵, raw, _$_, _∵_, !, qed, move, keep, use0, fjoin, suffices, frame, done, look, init, forget, stop, from, load, and-then, no-more, land, returns, enter, alloc1, alloc0, params1, pass1, pass0, free1, free0, FmC, owns, Is, shows, uint-vals, uint-tells, u32, RefT, ptr-vals, peeks, nothing, Vals, Contract, Triple, cited, says, needs, Stays, walkOf, Walks, ends-at, walked, Met, asks, walks-meet}
 use mathlib.Core.Path.{sym}
 use contract.Lifetimes.{toks}
 use denote.Ref.{ShrRef, shr-tells}
@@ -19,7 +19,7 @@ use Rattle.clock.proofs.height_lent.Symbol.{name as #first}
 use Rattle.clock.proofs.height_lent.Met as first-thm
 use Rattle.cuvalimodo_c.specs.declared.answers.Reading.{Reading}
 use Rattle.cuvalimodo_c.specs.Answers.{readingReturned, PlainReading}
-use Rattle.cuvalimodo_c.proofs.PassedOn.{all-passed, all-go}
+use Rattle.clock.proofs.PassedOn.{all-passed, all-go}
 use Rattle.cuvalimodo_c.proofs.answers.Reading as R
 use Rattle.cuvalimodo_c.proofs.answers.Reading.Laws as R′
 use Rattle.cuvalimodo_c.proofs.answers.told_height as then

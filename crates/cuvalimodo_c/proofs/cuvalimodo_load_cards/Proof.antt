@@ -1,5 +1,5 @@
 -- `cuvalimodo_load_cards` meets its contract: a walk of its MIR, by `Stored`. Assumes nothing.
-use Rattle.cuvalimodo_c.proofs.Walking.{refl, List, [], _∷_, ℕ, URA, length, named, Val, SProp, ent, emp, id⊢, Lft, Share, flft, Memory, Routine, Heap, Calls, Loops, WpFn, Atoms, Fun, factI, givenOf, tablesOf, Given, ‵, raw, _⊛_, _$_, _∵_, !, qed, move, split, join, fsplit, fjoin, suffices, frame, done, look, init, forget, stop, from, load, and-then, no-more, enter, alloc1, alloc0, params1, pass1, pass0, free1, free0, FmC, yes, owns, u8, RefT, ptr-vals, plain, nothing, Vals, Contract, Triple, cited, says, needs, Stays, stay-dropped, goes-dropped, walkOf, Walks, ends-at, walked, Met, asks, walks-meet}
+use Rattle.clock.proofs.Walking.{refl, List, [], _∷_, ℕ, URA, length, named, Val, SProp, ent, emp, id⊢, Lft, Share, flft, Memory, Routine, Heap, Calls, Loops, WpFn, Atoms, Fun, factI, givenOf, tablesOf, Given, ‵, raw, _⊛_, _$_, _∵_, !, qed, move, split, join, fsplit, fjoin, suffices, frame, done, look, init, forget, stop, from, load, and-then, no-more, enter, alloc1, alloc0, params1, pass1, pass0, free1, free0, FmC, yes, owns, u8, RefT, ptr-vals, plain, nothing, Vals, Contract, Triple, cited, says, needs, Stays, stay-dropped, goes-dropped, walkOf, Walks, ends-at, walked, Met, asks, walks-meet}
 use contract.Lifetimes.{toks}
 use denote.Ref.{MutRef, mut-tells}
 use denote.Slice.{sliceVal, ShrSlice, Room, slice-vals, shr-slice-tells}

@@ -1,5 +1,5 @@
 -- `cuvalimodo_names` meets its contract: a walk of its MIR. The clock is copied (`Copied`) and goes to `clock::names`. Assumes nothing.
-use Rattle.cuvalimodo_c.proofs.Walking.{_≡_, refl, List, [], _∷_, URA, named, Val, SProp, ent, emp, id⊢, Lft, Share, ftrue, flft, Memory, Routine, Heap, Calls, Loops, WpFn, Atoms, Fun, factI, givenOf, tablesOf, Given, ‵, raw, _⊛_, _$_, _∵_, !, qed, move, split, join, fsplit, suffices, frame, done, look, init, forget, stop, from, load, and-then, no-more, land, returns, enter, alloc1, alloc0, params1, pass1, pass0, free1, free0, FmC, owns, Is, shows, RefT, ptr-vals, peeks, nothing, Vals, Contract, Triple, cited, says, needs, Stays, walkOf, Walks, ends-at, walked, Met, asks, walks-meet}
+use Rattle.clock.proofs.Walking.{_≡_, refl, List, [], _∷_, URA, named, Val, SProp, ent, emp, id⊢, Lft, Share, ftrue, flft, Memory, Routine, Heap, Calls, Loops, WpFn, Atoms, Fun, factI, givenOf, tablesOf, Given, ‵, raw, _⊛_, _$_, _∵_, !, qed, move, split, join, fsplit, suffices, frame, done, look, init, forget, stop, from, load, and-then, no-more, land, returns, enter, alloc1, alloc0, params1, pass1, pass0, free1, free0, FmC, owns, Is, shows, RefT, ptr-vals, peeks, nothing, Vals, Contract, Triple, cited, says, needs, Stays, walkOf, Walks, ends-at, walked, Met, asks, walks-meet}
 use contract.Lifetimes.{toks}
 use denote.Ref.{ShrRef, shr-tells}
 use denote.Struct.Laws as LL
@@ -17,7 +17,7 @@ use Rattle.clock.proofs.names.Symbol.{name as #inner}
 use Rattle.clock.proofs.names.Met as inner-thm
 use Rattle.cuvalimodo_c.proofs.Stored.{clockVal}
 use Rattle.cuvalimodo_c.proofs.Copied.{copied}
-use Rattle.cuvalimodo_c.proofs.PassedOn.{all-passed, all-go}
+use Rattle.clock.proofs.PassedOn.{all-passed, all-go}
 use Rattle.cuvalimodo_c.proofs.cuvalimodo_names.Key.{name as #it}
 use Rattle.cuvalimodo_c.proofs.cuvalimodo_names as it
 use Rattle.cuvalimodo_c.proofs.cuvalimodo_names.Statement as stated

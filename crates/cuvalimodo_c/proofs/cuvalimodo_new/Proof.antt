@@ -1,5 +1,5 @@
 -- `cuvalimodo_new` meets its contract: a walk of its MIR. The clock that `clock::new` makes is stored behind the reference. Assumes nothing.
-use Rattle.cuvalimodo_c.proofs.Walking.{refl, List, [], _∷_, URA, fullShare, named, Val, SProp, ent, emp, via, fst∗, id⊢, Lft, Share, flft, Memory, Routine, Heap, Calls, Loops, WpFn, Atoms, Fun, givenOf, tablesOf, Given, ‵, raw, _⊛_, _$_, _∵_, !, qed, move, keep, drop, split, join, fsplit, fsplit3, fjoin, fjoin3, feqI, suffices, frame, done, look, store-raw, init, forget, stop, hop, from, load, of-opd, assigns, no-more, land, returns, enter, alloc1, alloc0, params1, pass1, pass0, free1, free0, FmC, owns, Is, shows, RefT, ptr-vals, plain, peeks, spelt, nothing, Contract, Triple, cited, says, Stays, walkOf, Walks, ends-at, walked, Met, asks, walks-meet}
+use Rattle.clock.proofs.Walking.{refl, List, [], _∷_, URA, fullShare, named, Val, SProp, ent, emp, via, fst∗, id⊢, Lft, Share, flft, Memory, Routine, Heap, Calls, Loops, WpFn, Atoms, Fun, givenOf, tablesOf, Given, ‵, raw, _⊛_, _$_, _∵_, !, qed, move, keep, drop, split, join, fsplit, fsplit3, fjoin, fjoin3, feqI, suffices, frame, done, look, store-raw, init, forget, stop, hop, from, load, of-opd, assigns, no-more, land, returns, enter, alloc1, alloc0, params1, pass1, pass0, free1, free0, FmC, owns, Is, shows, RefT, ptr-vals, plain, peeks, spelt, nothing, Contract, Triple, cited, says, Stays, walkOf, Walks, ends-at, walked, Met, asks, walks-meet}
 use mir.Val.{vunit}
 use types.Run.{unit-lit}
 use denote.Ref.{MutRef, mut-tells}

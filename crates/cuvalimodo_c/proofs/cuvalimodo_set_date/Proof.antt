@@ -1,5 +1,5 @@
 -- `cuvalimodo_set_date` meets its contract: a walk of its MIR, by `Stored`. Assumes nothing.
-use Rattle.cuvalimodo_c.proofs.Walking.{refl, _<_, _^_, [], _∷_, ℕ, URA, named, w32, vint, SProp, ent, emp, id⊢, Lft, Share, flft, Memory, Routine, Heap, Calls, Loops, WpFn, Atoms, Fun, factI, givenOf, tablesOf, Given, ‵, raw, _⊛_, _$_, _∵_, !, qed, move, split, join, fsplit, fjoin, suffices, frame, done, look, init, forget, stop, from, load, and-then, no-more, enter, alloc1, alloc0, params1, pass1, pass0, free1, free0, FmC, yes, owns, uint-vals, uint-tells, u32, RefT, ptr-vals, plain, nothing, Vals, Contract, Triple, cited, says, needs, Stays, stay-dropped, goes-dropped, walkOf, Walks, ends-at, walked, Met, asks, walks-meet}
+use Rattle.clock.proofs.Walking.{refl, _<_, _^_, [], _∷_, ℕ, URA, named, w32, vint, SProp, ent, emp, id⊢, Lft, Share, flft, Memory, Routine, Heap, Calls, Loops, WpFn, Atoms, Fun, factI, givenOf, tablesOf, Given, ‵, raw, _⊛_, _$_, _∵_, !, qed, move, split, join, fsplit, fjoin, suffices, frame, done, look, init, forget, stop, from, load, and-then, no-more, enter, alloc1, alloc0, params1, pass1, pass0, free1, free0, FmC, yes, owns, uint-vals, uint-tells, u32, RefT, ptr-vals, plain, nothing, Vals, Contract, Triple, cited, says, needs, Stays, stay-dropped, goes-dropped, walkOf, Walks, ends-at, walked, Met, asks, walks-meet}
 use denote.Ref.{MutRef, mut-tells}
 use denote.Triple.Walked.{stay-ref, goes-ref}
 use Rattle.clock.specs.declared.Clock.{Clock}

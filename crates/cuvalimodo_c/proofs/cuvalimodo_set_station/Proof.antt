@@ -1,5 +1,5 @@
 -- `cuvalimodo_set_station` meets its contract: a walk of its MIR. The records lent are taken apart by `rows_of`, and the rest is by `Stored`. Assumes nothing.
-use Rattle.cuvalimodo_c.proofs.Walking.{_≡_, refl, List, [], _∷_, length, URA, named, w32, w64, Val, vint, SProp, ent, emp, id⊢, Lft, Share, flft, Memory, Routine, Heap, Calls, Loops, WpFn, Atoms, Fun, factI, givenOf, tablesOf, Given, ‵, raw, _⊛_, _$_, _∵_, !, qed, move, keep, use0, split, join, fsplit, fjoin, suffices, frame, done, whole, sub, look-in, look, init, forget, stop, fld, from, load, of-opd, and-then, no-more, assigns, land, enter, alloc1, alloc0, params1, pass1, pass0, free1, free0, FmC, yes, owns, Is, shows, uint-makes, usize, RefT, ptr-vals, plain, owned, peeks, nothing, Vals, Contract, Triple, cited, says, needs, Stays, stay-dropped, goes-dropped, walkOf, Walks, ends-at, walked, Met, asks, walks-meet}
+use Rattle.clock.proofs.Walking.{_≡_, refl, List, [], _∷_, length, URA, named, w32, w64, Val, vint, SProp, ent, emp, id⊢, Lft, Share, flft, Memory, Routine, Heap, Calls, Loops, WpFn, Atoms, Fun, factI, givenOf, tablesOf, Given, ‵, raw, _⊛_, _$_, _∵_, !, qed, move, keep, use0, split, join, fsplit, fjoin, suffices, frame, done, whole, sub, look-in, look, init, forget, stop, fld, from, load, of-opd, and-then, no-more, assigns, land, enter, alloc1, alloc0, params1, pass1, pass0, free1, free0, FmC, yes, owns, Is, shows, uint-makes, usize, RefT, ptr-vals, plain, owned, peeks, nothing, Vals, Contract, Triple, cited, says, needs, Stays, stay-dropped, goes-dropped, walkOf, Walks, ends-at, walked, Met, asks, walks-meet}
 use lib.IntN.{ℤ}
 use mir.Val.{ofZ}
 use contract.Lifetimes.{toks}

@@ -1,12 +1,13 @@
 -- What is the same in every walk over a lent clock: its names, passed on; a call by the callee's clauses; and the end, from a walk to the function's statement.
 -- Assumes `Given`.
-use mir.Syntax.{Fn, Place, Opd as Operand, Body, Name, call, seq}
+use mathlib.Core.Path.{sym}
+use mir.Syntax.{Fn, Step, Place, place, Opd as Operand, Body, Name, call, seq}
 use prog.Model.{Model}
 use prog.Routine.{Env as Names}
-use prog.Wp.{Env, Closed}
+use prog.Wp.{Env, Spot, spotOf, Closed}
 use contract.Running.{Running, GhostRules}
 use types.Kit.{Post, Sq, Go, runs, lands}
-use types.Run.{Opds}
+use types.Run.{Opds, Finds, Walks as Leads}
 use denote.Signature.{typeAt, typesAt}
 use denote.Triple.Bound.{Bound, passed}
 use denote.Triple.Clauses.{Ended, Clauses, Lasts, atExit, closing}
@@ -48,6 +49,11 @@ pub use denote.Triple.Call.{calls-at}
 pub use denote.Triple.Clauses.{ensured, lasts}
 pub use denote.Triple.Table.{entered, cited}
 pub use denote.Triple.Walked.{says, needs, Stays, stay-none, stay-dropped, walkOf, Walks, ends-at, walked, goes-none, goes-dropped, walk-meets}
+
+-- a local whose spot is known is found, and what its steps lead to
+module _ {M : Type 1} {𝓤 : URA M} {H : Heap 𝓤} {A : Atoms 𝓤} {W : Given 𝓤 H A} {Γ : List (Item 𝓤)} {E : Env 𝓤 H} where
+  pub found : {k : ℕ} {sp sp′ : Spot 𝓤 H} {st : List Step} → spotOf 𝓤 H E k ≡ sp → Leads (Go {0}) W Γ E sp st sp′ → Finds (Go {0}) W Γ E (place k st) sp′
+  found {sp′ = sp′} {st} e w = from ! (subst (λ (sp : Spot 𝓤 H). Leads (Go {0}) W Γ E sp st sp′) (sym e) w)
 
 module _ {M : Type 1} (𝓤 : URA M) (H : Heap 𝓤) (A : Atoms 𝓤) (T : Ended) (c : Clauses 𝓤 T) where
   -- the contract that a function's clauses make

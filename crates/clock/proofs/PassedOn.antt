@@ -1,6 +1,6 @@
 -- A function that passes its parameters on to a callee: what its walk has of them at exit is what the callee says of their last values.
 -- Assumes `Given`.
-use Rattle.cuvalimodo_c.proofs.Walking.{ℕ, List, [], _∷_, URA, Heap, Atoms, Given, Stays}
+use Rattle.clock.proofs.Walking.{ℕ, List, [], _∷_, URA, Heap, Atoms, Given, Stays}
 use denote.Exit.{Kept, left}
 use denote.Signature.{Slot}
 use denote.Triple.End.{Kepts}
