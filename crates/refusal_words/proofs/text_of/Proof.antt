@@ -115,6 +115,12 @@ slice-aggregate-with-zeros-15 c = search needs
 with-zeros-requires-15 : tie.Need-with-zeros-requires-15
 with-zeros-requires-15 c κs = search needs
 
+slice-aggregate-with-zeros-16 : tie.Need-slice-aggregate-with-zeros-16
+slice-aggregate-with-zeros-16 c = search needs
+
+with-zeros-requires-16 : tie.Need-with-zeros-requires-16
+with-zeros-requires-16 c κs = search needs
+
 returns : tie.Need-returns
 unfolding refusalRows wordsIn bytesOf zerosBehind
 returns c = rw (c .before .before .match .keys1) (c .with-zeros .ensures)
@@ -172,8 +178,12 @@ unfolding refusalRows wordsIn bytesOf zerosBehind
 returns-14 c = rw (c .before .before .match .keys14) (c .with-zeros14 .ensures)
 
 returns-15 : tie.Need-returns-15
+unfolding refusalRows wordsIn bytesOf zerosBehind
+returns-15 c = rw (c .before .before .match .keys15) (c .with-zeros15 .ensures)
+
+returns-16 : tie.Need-returns-16
 unfolding refusalRows bytesOf zerosBehind
-returns-15 c = rw (no-words (Unit {0}) refusalRows (c .before .before .before .args .number) (c .before .before .match .rest)) (c .with-zeros15 .ensures)
+returns-16 c = rw (no-words (Unit {0}) refusalRows (c .before .before .before .args .number) (c .before .before .match .rest)) (c .with-zeros16 .ensures)
 
 pub text-of-spec : {M : Type 1} → statement M
 text-of-spec =
@@ -209,6 +219,8 @@ text-of-spec =
     with-zeros-requires-14
     slice-aggregate-with-zeros-15
     with-zeros-requires-15
+    slice-aggregate-with-zeros-16
+    with-zeros-requires-16
     returns
     returns-2
     returns-3
@@ -223,4 +235,5 @@ text-of-spec =
     returns-12
     returns-13
     returns-14
-    returns-15)
+    returns-15
+    returns-16)
