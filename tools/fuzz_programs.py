@@ -41,6 +41,7 @@ def data(name):
 
 CARDS = [data("standard-cards.txt"), data("standard-cards-as-printed.txt")]
 STATIONS = [data("victoria.txt"), data("examples/semidiurnal.txt"), data("examples/diurnal.txt")]
+BOOKINGS = data("examples/bookings.txt")
 with open(os.path.join(ROOT, "crates", "replay", "stdin"), "rb") as script:
     SCRIPT = script.read()
 
@@ -159,6 +160,7 @@ def good_arguments(r):
         ["month", year, month],
         ["day", year, month, day],
         ["day", year, month, day, "%02d:%02d" % (r.randrange(24), r.randrange(60))],
+        ["bookings", year, month, "bookings.txt"],
         ["heights", year, month],
         ["heights", year, month, r.choice(["1", "10", "60", "1440"])],
         ["series", year, month, day, "00:00", r.choice(["1", "60"]), r.choice(["0", "1", "100"])],
@@ -256,7 +258,7 @@ def case_of(number):
         station = damaged(r, station)
     else:
         words = odd_arguments(r)
-    files = {"cards.txt": cards, "station.txt": station}
+    files = {"cards.txt": cards, "station.txt": station, "bookings.txt": r.choice([BOOKINGS, damaged(r, BOOKINGS)])}
     places = r.randrange(3)
     options = ["--cards", "cards.txt", "--station", "station.txt"] + (["--unit", r.choice(WORDS)] if r.randrange(5) == 0 else [])
     words = options + words if places == 0 else words + options if places == 1 else words[:1] + options + words[1:]

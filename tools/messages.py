@@ -135,6 +135,12 @@ ASKED = [
     (["month", "1976", "7", "--card", "x"], "--card: no such option, try --help"),
     (["month", "1976", "7", "--cards"], "--cards: its value is missing, try --help"),
     (["month", "1976"], "month: more words are wanted, try --help"),
+    (["bookings", "1976", "7"], "bookings: more words are wanted, try --help"),
+    (["bookings", "1976", "7", "a", "b"], "b: one word too many, try --help"),
+    (["bookings", "1976", "July", "a"], "July: not a whole number, try --help"),
+    (["bookings", "1976", "13", "a"], "month 13: year or month out of range (refusal 8)"),
+    (["bookings", "1976", "7", "a", "--csv"], "--csv: one word too many, try --help"),
+    (["bookings", "1976", "7", "no-such-file"], "no-such-file: No such file or directory"),
     (["year"], "year: more words are wanted, try --help"),
     (["svg"], "svg: more words are wanted, try --help"),
     (["year", "1976", "7"], "7: one word too many, try --help"),
@@ -163,7 +169,25 @@ REFUSALS = """1 line over 80 columns or a byte outside 32 to 126
 21 no table
 22 no station
 23 no month
+31 the two lent buffers differ in length
 """
+
+# April's bookings: their lines, and what is said of the last one
+NONE = "no booking, DD HH:MM and a name are expected"
+BOOKED = [
+    (["14 08:30 Otter", "14 8:30 Wren"], NONE),
+    (["14 08:30 Otter", ""], NONE),
+    (["14 08:30Otter"], NONE),
+    (["14  08:30 Otter"], NONE),
+    (["14 08:3"], NONE),
+    (["14 24:00"], NONE),
+    (["14 08:60"], NONE),
+    (["14"], NONE),
+    (["4 08:30 Otter"], NONE),
+    (["00 08:30 Otter"], NONE),
+    (["30 23:59 Otter", "31 00:00 Otter", "31 00:01 Otter"], "31 00:01 is outside April 1976 (refusal 9)"),
+    (["99 12:00"], "99 12:00 is outside April 1976 (refusal 9)"),
+]
 
 
 class Messages:
@@ -185,6 +209,12 @@ class Messages:
     def write(self, name, lines):
         with open(os.path.join(self.folder, name), "w") as file:
             file.write("".join(text + "\n" for text in lines))
+
+    def booked(self, text, output):
+        """Bookings of July, as the bytes of their file, and the sheet that they come to."""
+        with open(os.path.join(self.folder, "bookings.txt"), "wb") as file:
+            file.write(text)
+        self.expect(["bookings", "1976", "7", "bookings.txt"], "", output)
 
     def edited(self, option, name, lines, faults):
         for edit, number, words, refusal in faults:
@@ -243,6 +273,23 @@ def main():
         m.write("station.txt", equator)
         for words in (MONTH, ["year", "1976", "--csv"], ["svg", "1976"]):
             m.expect(words + ["--cards", "cards.txt", "--station", "station.txt"], "station.txt line 4: size of X or Y over 2^22 (refusal 11)\n")
+        for lines, words in BOOKED:
+            m.write("bookings.txt", lines)
+            m.expect(["bookings", "1976", "4", "bookings.txt"], "bookings.txt line %d: %s\n" % (len(lines), words))
+        m.expect(["bookings", "1976", "7", "large.txt"], "large.txt: larger than 65536 bytes\n")
+        # bookings that are accepted: however their lines end, and whatever bytes stand in a name
+        good = os.path.join(DATA, "examples", "bookings.txt")
+        sheet = m.run(["bookings", "1976", "7", good]).stdout
+        face = sheet[:sheet.index(b"\n\n") + 2]
+        with open(good, "rb") as file:
+            lines = file.read()
+        m.booked(lines, sheet)
+        m.booked(lines[:-1], sheet)
+        m.booked(lines.replace(b"\n", b"\r\n"), sheet)
+        m.booked(b"", face)
+        m.booked(b"14 08:30 \x00\t\x1b\x7f\xc3\xa9\r!\r\n", face + b"14 08:30 ?\t?\x7f\xc3\xa9?!   3.598\n")
+        # as many as fit a file
+        m.booked(b"14 08:30\n" * 7281, face + b"14 08:30   3.598\n" * 7281)
         m.expect(["refusals"], "", REFUSALS.encode())
         print("%d messages are as they should be, %d are not" % (m.right, m.wrong))
         sys.exit(1 if m.wrong else 0)

@@ -1,7 +1,7 @@
 -- What holds of the numbers that a command line asks with. Assumes nothing.
 use Prim.Native.Nat.{_≤_}
 use Rattle.commandline.specs.declared.Asked.{Asked}
-use Rattle.commandline.specs.declared.Asked.the-variants.{Help, Refusals, Month, Day, Heights, Series, MonthDrawing, DayDrawing, Year, YearTable, YearDrawing, Wrong}
+use Rattle.commandline.specs.declared.Asked.the-variants.{Help, Refusals, Month, Day, Heights, Series, MonthDrawing, DayDrawing, Year, YearTable, YearDrawing, Bookings, Wrong}
 
 -- where a day is asked, it is at least the month's first: day 0 is a wrong word
 abbrev pub DayAsked : Asked → Type 0
@@ -16,4 +16,5 @@ DayAsked (DayDrawing year month day) = 1 ≤ day
 DayAsked (Year year) = Unit {0}
 DayAsked (YearTable year) = Unit {0}
 DayAsked (YearDrawing year) = Unit {0}
+DayAsked (Bookings year month file) = Unit {0}
 DayAsked (Wrong wrong start) = Unit {0}

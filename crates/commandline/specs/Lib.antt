@@ -1,2 +1,3 @@
 pub mod Words
+pub mod Times
 pub mod Days

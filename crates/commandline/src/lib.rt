@@ -7,11 +7,15 @@ ghost use Prim.Native.Nat.{_+_};
 ghost use lib.ListN.{length};
 ghost use Rattle.commandline.specs.Days.{DayAsked};
 ghost use Rattle.commandline.specs.Words.{defaultByte, wordAt};
+use crate::times::Time;
+use crate::times::time_of;
 use digits::texts;
-use fields::Field;
 use fields::Format;
+use fields::Narrow;
 
-// What is asked: a view with its year, month and so on, or what is wrong and the word that is.
+pub mod times; // a time of day
+
+// What is asked: a view with its year, month and so on, bookings also with where their file's name begins; or what is wrong and the word that is.
 pub enum Asked {
     Help,
     Refusals,
@@ -24,6 +28,7 @@ pub enum Asked {
     Year(u32),
     YearTable(u32),
     YearDrawing(u32),
+    Bookings(u32, u32, usize),
     Wrong(Wrong, usize),
 }
 
@@ -45,12 +50,6 @@ pub struct Request {
     pub cards: usize,
     pub station: usize,
     pub unit: usize,
-}
-
-// A number that a word is, or part of it.
-enum Number {
-    Value(u32),
-    NoNumber,
 }
 
 // What a word is.
@@ -90,15 +89,18 @@ enum Command {
     Heights,
     Series,
     Svg,
+    Bookings,
     Refusals,
     NoCommand,
 }
 
-// A command's form: the fewest and the most words, its own among them, all numbers but its own and a time at one place (0: no time).
+// A command's form: the fewest and the most words, its own among them, all numbers but its own, a time at one place and a file's name at
+// another (0: there is none).
 struct Form {
     least: usize,
     most: usize,
     time: usize,
+    file: usize,
 }
 
 // How words fit a form.
@@ -177,40 +179,6 @@ fn other_option(word: &[u8]) -> Kind {
     Kind::Unknown
 }
 
-// The low 32 bits, which are all of a number that is in range.
-fn narrow(number: u64) -> u32 {
-    (number % 4_294_967_296) as u32
-}
-
-// A whole number of at most `high` in so many columns of a word, as 01's number fields have it.
-fn ranged(word: &[u8], from: usize, width: usize, high: i64) -> Number {
-    let field = fields::ranged_field(word, from, width, Format::Whole, 0, high);
-    match field {
-        Field::Value(value) => Number::Value(narrow(angles::size(value))),
-        Field::Malformed => Number::NoNumber,
-        Field::OutOfRange => Number::NoNumber,
-    }
-}
-
-// The minute of the day that a word HH:MM is.
-fn time_of(word: &[u8]) -> Number {
-    if word.len() != 5 {
-        return Number::NoNumber;
-    }
-    if columns::column(word, 2) != b':' {
-        return Number::NoNumber;
-    }
-    let hours = ranged(word, 0, 2, 23);
-    let Number::Value(hour) = hours else {
-        return Number::NoNumber;
-    };
-    let minutes = ranged(word, 3, 2, 59);
-    let Number::Value(minute) = minutes else {
-        return Number::NoNumber;
-    };
-    Number::Value(hour % 24 * 60 + minute % 60)
-}
-
 // Nothing is read yet.
 fn nothing() -> Parsed {
     Parsed {
@@ -245,11 +213,11 @@ fn with_kind(parsed: Parsed, kind: u8, value: u32) -> Parsed {
 // With one more plain word.
 fn with_plain(word: &[u8], parsed: Parsed) -> Parsed {
     let time = time_of(word);
-    if let Number::Value(minute) = time {
+    if let Time::At(minute) = time {
         return with_kind(parsed, 2, minute);
     }
-    let number = ranged(word, 0, word.len(), 4_294_967_295);
-    if let Number::Value(value) = number {
+    let number = fields::narrow_field(word, 0, word.len(), Format::Whole, 4_294_967_295);
+    if let Narrow::Value(value) = number {
         return with_kind(parsed, 1, value);
     }
     with_kind(parsed, 0, 0)
@@ -371,6 +339,9 @@ fn other_command(word: &[u8]) -> Command {
     if texts::same(word, b"svg") {
         return Command::Svg;
     }
+    if texts::same(word, b"bookings") {
+        return Command::Bookings;
+    }
     if texts::same(word, b"refusals") {
         return Command::Refusals;
     }
@@ -378,62 +349,79 @@ fn other_command(word: &[u8]) -> Command {
 }
 
 // year YEAR; month YEAR MONTH; day YEAR MONTH DAY [HH:MM]; heights YEAR MONTH [STEP]; series YEAR MONTH DAY HH:MM STEP COUNT;
-// svg YEAR [MONTH [DAY]]; refusals
+// svg YEAR [MONTH [DAY]]; bookings YEAR MONTH FILE; refusals
 fn form_of(command: Command) -> Form {
     match command {
         Command::Year => Form {
             least: 2,
             most: 2,
             time: 0,
+            file: 0,
         },
         Command::Month => Form {
             least: 3,
             most: 3,
             time: 0,
+            file: 0,
         },
         Command::Day => Form {
             least: 4,
             most: 5,
             time: 4,
+            file: 0,
         },
         Command::Heights => Form {
             least: 3,
             most: 4,
             time: 0,
+            file: 0,
         },
         Command::Series => Form {
             least: 7,
             most: 7,
             time: 4,
+            file: 0,
         },
         Command::Svg => Form {
             least: 2,
             most: 4,
             time: 0,
+            file: 0,
+        },
+        Command::Bookings => Form {
+            least: 4,
+            most: 4,
+            time: 0,
+            file: 3,
         },
         Command::Refusals => Form {
             least: 1,
             most: 1,
             time: 0,
+            file: 0,
         },
         Command::NoCommand => Form {
             least: 0,
             most: 8,
             time: 0,
+            file: 0,
         },
     }
 }
 
-// The kind that a form has at a place.
-fn kind_at(time: usize, k: usize) -> u8 {
-    if k == time { 2 } else { 1 }
+// Whether a word of a kind fits a form at a place: any is a file's name.
+fn fits(form: Form, k: usize, kind: u8) -> bool {
+    if k == form.file {
+        return true;
+    }
+    kind == if k == form.time { 2 } else { 1 }
 }
 
-// The first plain word behind the first that is not of the form's kind; their number where there is none.
-fn unfit(kinds: [u8; 8], plain: usize, time: usize) -> usize {
+// The first plain word behind the first that does not fit a form; their number where there is none.
+fn unfit(kinds: [u8; 8], plain: usize, form: Form) -> usize {
     let mut k = 1;
     while k < plain && k < 8 {
-        if kinds[k] != kind_at(time, k) {
+        if !fits(form, k, kinds[k]) {
             return k;
         }
         k += 1;
@@ -463,7 +451,7 @@ fn fitting(plain: usize, starts: [usize; 8], kinds: [u8; 8], form: Form) -> Fit 
     if most < plain {
         return Fit::Misfit(Wrong::TooMany, start_at(starts, most));
     }
-    let k = unfit(kinds, plain, form.time);
+    let k = unfit(kinds, plain, form);
     if plain <= k {
         return Fit::Fits;
     }
@@ -516,17 +504,18 @@ fn heights_of(plain: usize, v: [u32; 8]) -> Asked
     Asked::Heights(v[1], v[2], v[3])
 }
 
-// What a command asks with numbers that fit its form, its own word beginning at `start` and its fourth at `day`.
-fn with_numbers(command: Command, plain: usize, start: usize, day: usize, v: [u32; 8]) -> Asked
+// What a command asks with words that fit its form, its own beginning at `start` and its fourth, a day or a file's name, at `fourth`.
+fn with_numbers(command: Command, plain: usize, start: usize, fourth: usize, v: [u32; 8]) -> Asked
     ensures { λ r. ⌜ DayAsked r ⌝ }
 {
     match command {
         Command::Year => Asked::Year(v[1]),
         Command::Month => Asked::Month(v[1], v[2]),
-        Command::Day => day_of(day, v),
+        Command::Day => day_of(fourth, v),
         Command::Heights => heights_of(plain, v),
-        Command::Series => series_of(day, v),
-        Command::Svg => drawing_of(plain, day, v),
+        Command::Series => series_of(fourth, v),
+        Command::Svg => drawing_of(plain, fourth, v),
+        Command::Bookings => Asked::Bookings(v[1], v[2], fourth),
         Command::Refusals => Asked::Refusals,
         Command::NoCommand => Asked::Wrong(Wrong::NoCommand, start),
     }

@@ -16,6 +16,9 @@ fn commands() {
     line(b"  cuvalimodo year YEAR [--csv]               the same for a year, by months; or as CSV");
     line(b"  cuvalimodo day YEAR MONTH DAY [HH:MM]      next high and low water, the day's curve");
     line(
+        b"  cuvalimodo bookings YEAR MONTH FILE        FILE's lines DD HH:MM NAME, with their heights",
+    );
+    line(
         b"  cuvalimodo heights YEAR MONTH [STEP]       CSV: the whole month, STEP minutes apart (60)",
     );
     line(b"  cuvalimodo series YEAR MONTH DAY HH:MM STEP COUNT");
@@ -35,12 +38,14 @@ fn options() {
     line(b"  --unit WORD       the unit of the station's amplitudes (metres; feet for the sample)");
     line(b"  --help            this help\n");
     line(
-        b"Files are in the columns of Foreman's manual and at most 65536 bytes long. Times are GMT,",
+        b"Cards and station are in the columns of Foreman's manual; no file is over 65536 bytes long.",
     );
     line(
-        b"or those of the zone that the station file names. Each sheet says what it stands on, with",
+        b"Times are GMT, or those of the zone that the station file names. Each sheet says what it",
     );
-    line(b"the CRC-32 of both files. Bad input is said in one line on standard error.");
+    line(
+        b"stands on, with the CRC-32 of both files. Bad input is said in one line on standard error.",
+    );
 }
 
 pub fn write_help() {

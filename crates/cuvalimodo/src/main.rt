@@ -1,6 +1,6 @@
-// The tide clock of a berth on the command line: the year's, the month's and the day's high and low waters, heights for other programs, drawings.
+// The tide clock of a berth on the command line: the year's, the month's and the day's high and low waters, a file's bookings, heights for other programs, drawings.
 //
-// It reads the two files, asks the clock, and writes. Every refusal is the library's, and is said in one line on standard error.
+// It reads the files, asks the clock, and writes. Every refusal is the library's, and is said in one line on standard error.
 mod help; // one screen
 
 ghost use Rattle.clock.specs.View.{Made};
@@ -156,6 +156,7 @@ fn asked_date(asked: Asked) -> Date {
         Asked::Year(year) => date_of(year, 0, 0),
         Asked::YearTable(year) => date_of(year, 0, 0),
         Asked::YearDrawing(year) => date_of(year, 0, 0),
+        Asked::Bookings(year, month, _) => date_of(year, month, 0),
         Asked::Help => date_of(0, 0, 0),
         Asked::Refusals => date_of(0, 0, 0),
         Asked::Wrong(_, _) => date_of(0, 0, 0),
@@ -174,8 +175,27 @@ fn show_year(clock: Clock, face: Face, date: Date, asked: Asked) -> Answer
     }
 }
 
+// The bookings of the file whose name begins at a byte of the words, of a clock that has prepared the month.
+fn show_bookings(clock: Clock, face: Face, date: Date, words: &[u8], at: usize)
+    requires { ⌜ Made clock ⌝ }
+{
+    let mut buffer = io::large_buffer();
+    let file = load(words, at, &mut buffer);
+    if !file.good {
+        return;
+    }
+    views::bookings(
+        clock,
+        face,
+        date,
+        commandline::word(words, at),
+        &buffer,
+        file.bytes,
+    )
+}
+
 // What is asked, of a clock that has prepared the month.
-fn show(clock: Clock, face: Face, date: Date, asked: Asked)
+fn show(clock: Clock, face: Face, date: Date, words: &[u8], asked: Asked)
     requires { ⌜ Made clock ⌝ }
 {
     match asked {
@@ -187,6 +207,7 @@ fn show(clock: Clock, face: Face, date: Date, asked: Asked)
         }
         Asked::MonthDrawing(_, _) => drawing::month(clock, face, date),
         Asked::DayDrawing(_, _, _) => drawing::day(clock, face, date),
+        Asked::Bookings(_, _, at) => show_bookings(clock, face, date, words, at),
         _ => {}
     }
 }
@@ -204,40 +225,55 @@ fn say_date(path: &[u8], date: Date, refusal: Refusal, place: usize) {
     messages::refused_month(date.month, refusal)
 }
 
+// The name of the station file.
+fn station_path(words: &[u8], request: Request) -> &[u8] {
+    commandline::word(words, request.station)
+}
+
 // Shows what is asked of a year, of a clock with table and station, or says the refusal: at a record of the station file, or of the year.
-fn with_year(clock: Clock, face: Face, path: &[u8], asked: Asked)
+fn with_year(clock: Clock, face: Face, words: &[u8], request: Request)
     requires { ⌜ Made clock ⌝ }
 {
+    let asked = request.asked;
     let date = asked_date(asked);
     let answer = show_year(clock, face, date, asked);
     match answer {
         Answer::Accepted => {}
-        Answer::Refused(refusal, place) => say_date(path, date_of(date.year, 1, 0), refusal, place),
+        Answer::Refused(refusal, place) => say_date(
+            station_path(words, request),
+            date_of(date.year, 1, 0),
+            refusal,
+            place,
+        ),
     }
 }
 
 // Sets the date that is asked for, of a clock with table and station, and shows what is asked.
-fn with_date(clock: Clock, face: Face, path: &[u8], asked: Asked)
+fn with_date(clock: Clock, face: Face, words: &[u8], request: Request)
     requires { ⌜ Made clock ⌝ }
 {
+    let asked = request.asked;
     let date = asked_date(asked);
     let after = clock::set_date(clock, date.year, date.month);
     let answer = after.answer;
     match answer {
-        Answer::Accepted => show(after.clock, face, date, asked),
-        Answer::Refused(refusal, place) => say_date(path, date, refusal, place),
+        Answer::Accepted => show(after.clock, face, date, words, asked),
+        Answer::Refused(refusal, place) => {
+            say_date(station_path(words, request), date, refusal, place)
+        }
     }
 }
 
 // Shows what is asked, of a clock with table and station.
-fn with_asked(clock: Clock, face: Face, path: &[u8], asked: Asked)
+fn with_asked(clock: Clock, face: Face, words: &[u8], request: Request)
     requires { ⌜ Made clock ⌝ }
 {
+    let asked = request.asked;
     match asked {
-        Asked::Year(_) => with_year(clock, face, path, asked),
-        Asked::YearTable(_) => with_year(clock, face, path, asked),
-        Asked::YearDrawing(_) => with_year(clock, face, path, asked),
-        _ => with_date(clock, face, path, asked),
+        Asked::Year(_) => with_year(clock, face, words, request),
+        Asked::YearTable(_) => with_year(clock, face, words, request),
+        Asked::YearDrawing(_) => with_year(clock, face, words, request),
+        _ => with_date(clock, face, words, request),
     }
 }
 
@@ -273,23 +309,25 @@ fn face_of<'a>(ground: Ground, station: &'a [u8], unit: &'a [u8]) -> Face {
 }
 
 // What the clock says of a station, and then what is asked.
-fn with_clock(after: After, rows: Rows, face: Face, path: &[u8], asked: Asked)
+fn with_clock(after: After, rows: Rows, face: Face, words: &[u8], request: Request)
     requires { ⌜ Made (after .clock) ⌝ }
 {
     let answer = after.answer;
     match answer {
-        Answer::Accepted => with_asked(after.clock, face, path, asked),
-        Answer::Refused(refusal, place) => say_station(path, rows, refusal, place),
+        Answer::Accepted => with_asked(after.clock, face, words, request),
+        Answer::Refused(refusal, place) => {
+            say_station(station_path(words, request), rows, refusal, place)
+        }
     }
 }
 
 // A station that was read, of a clock with a table.
-fn with_station(clock: Clock, read: StationCards, face: Face, path: &[u8], asked: Asked)
+fn with_station(clock: Clock, read: StationCards, face: Face, words: &[u8], request: Request)
     requires { ⌜ Made clock ⌝ }
 {
     let rows = read.rows;
     let after = clock::place_station(clock, read.latitude, read.count, rows);
-    with_clock(after, rows, face, path, asked)
+    with_clock(after, rows, face, words, request)
 }
 
 // The station file's cards, by the names of the clock's table.
@@ -310,8 +348,6 @@ fn with_table<'a>(
 )
     requires { ⌜ Made clock ⌝ }
 {
-    let path = commandline::word(words, request.station);
-    let asked = request.asked;
     let read = station_cards(clock, station);
     let answer = read.answer;
     let fault = read.fault;
@@ -324,10 +360,12 @@ fn with_table<'a>(
                 station,
                 commandline::word(words, request.unit),
             ),
-            path,
-            asked,
+            words,
+            request,
         ),
-        Answer::Refused(refusal, line) => messages::refused(path, line, fault, refusal),
+        Answer::Refused(refusal, line) => {
+            messages::refused(station_path(words, request), line, fault, refusal)
+        }
     }
 }
 

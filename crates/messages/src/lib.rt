@@ -129,6 +129,39 @@ pub fn refused_count(year: u32, month: u32, count: u32, refusal: Refusal) {
     say_refusal(refusal);
 }
 
+// FILE line N: it is no booking.
+pub fn no_booking(file: &[u8], line: usize) {
+    say_line(file, line);
+    say(b"no booking, DD HH:MM and a name are expected\n");
+}
+
+// Says the day and the time of a booking on a line of a text, which are its first eight bytes.
+fn say_booking(text: &[u8], line: usize) {
+    if 0 < line {
+        say(columns::part(textlines::line_of(text, line - 1), 0, 8));
+    }
+}
+
+// FILE line N: DD HH:MM is outside MONTH (refusal n), for a booking on a line of the file's text that the clock refuses.
+pub fn refused_booking<'a>(
+    file: &'a [u8],
+    text: &'a [u8],
+    line: usize,
+    year: u32,
+    month: u32,
+    refusal: Refusal,
+) {
+    if !matters::of_minutes(refusal) {
+        refused_plainly(file, line, refusal);
+        return;
+    }
+    say_line(file, line);
+    say_booking(text, line);
+    say(b" is outside ");
+    say_month(year, month);
+    say_refusal(refusal);
+}
+
 // FILE: it is too large.
 pub fn too_large(file: &[u8]) {
     say(file);
@@ -171,4 +204,5 @@ pub fn list_refusals() {
     list_one(Refusal::NoTable);
     list_one(Refusal::NoStation);
     list_one(Refusal::NoMonth);
+    list_one(Refusal::UnequalBuffers);
 }

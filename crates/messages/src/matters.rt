@@ -6,7 +6,7 @@ use calls::reasons::Reason;
 use refusals::Refusal;
 
 // Whether a refusal is that of minutes.
-fn of_minutes(refusal: Refusal) -> bool
+pub fn of_minutes(refusal: Refusal) -> bool
     ensures { λ r. ⌜ r ≡ ofMinutes refusal ⌝ }
 {
     refusals::number_of(refusal) == refusals::number_of(Refusal::BadMinutes)

@@ -1,7 +1,9 @@
-// The sheets of the month that a clock has prepared, written on standard output, or the clock's refusal, said; and those of a year.
+// The sheets of the month that a clock has prepared, and of a file's bookings in it, written on standard output, or the clock's refusal, said; and those of a year.
+mod booked; // a file's bookings
 mod tabulated; // heights for other programs
 mod yearly; // the year's sheet, and its turns for other programs
 
+pub use booked::bookings;
 pub use tabulated::heights;
 pub use tabulated::series;
 pub use yearly::year;

@@ -5,19 +5,19 @@ use Rattle.commandline.proofs.unfit.Statement.{statement}
 use Rattle.commandline.proofs.unfit.Tie as tie
 
 abbrev Inv-loop : tie.InvT-loop
-Inv-loop plain time kinds k₀ k = Unit {0}
+Inv-loop plain form kinds k₀ k = Unit {0}
 
 abbrev μ-loop : tie.MeasureT-loop
-μ-loop plain time kinds k₀ k = plain - k
+μ-loop plain form kinds k₀ k = plain - k
 
 loop-holds : tie.Need-loop-holds Inv-loop μ-loop
 loop-holds c = search needs
 
-array-read-if2 : tie.Need-array-read-if2 Inv-loop μ-loop
-array-read-if2 c = search needs
+array-read-fits : tie.Need-array-read-fits Inv-loop μ-loop
+array-read-fits c = search needs
 
-kind-at-requires : tie.Need-kind-at-requires Inv-loop μ-loop
-kind-at-requires c κs = search needs
+fits-requires : tie.Need-fits-requires Inv-loop μ-loop
+fits-requires c κs = search needs
 
 returns : tie.Need-returns Inv-loop μ-loop
 returns c = search needs
@@ -44,8 +44,8 @@ unfit-spec =
     Inv-loop
     μ-loop
     loop-holds
-    array-read-if2
-    kind-at-requires
+    array-read-fits
+    fits-requires
     returns
     add-k
     loop-less

@@ -15,7 +15,6 @@ Inv-loop last minutes k₀ k = (k ≤ length minutes) × ((length minutes < 2 ^ 
 abbrev μ-loop : tie.MeasureT-loop
 μ-loop last minutes k₀ k = length minutes - k
 
-
 loop-holds : tie.Need-loop-holds Inv-loop μ-loop
 loop-holds c = (omega arith, (search needs, refl))
 
@@ -46,8 +45,7 @@ loop-less c = search needs
 loop-again : tie.Need-loop-again Inv-loop μ-loop
 loop-again c =
     let s = c .before .before .before .before .loop in
-    let a = c .before .before .before .before .before .before .args in
-    (
+    let a = c .before .before .before .before .before .before .args in (
       omega arith,
       (
         s .inv .1 .0,

@@ -1,0 +1,3 @@
+pub mod Booking
+pub mod Bookings
+pub mod inner
