@@ -1,4 +1,4 @@
-// Our values and the peer's, one by one: series, single heights and turns, and a year's heights. The first that differs ends the bench.
+// Our values and the peer's, one by one: series, single heights, bookings and turns, and a year's heights. The first that differs ends the bench.
 #include "bench.h"
 #include <stdio.h>
 #include <stdlib.h>
@@ -25,15 +25,19 @@ static void compare_series(const struct work *w) {
     for (size_t i = 0; i < places; i++) same(ours[i], theirs[i], "series, place", w, i);
 }
 
+// Single heights at minutes in any order, one of them twice; and bookings of the same minutes.
 static void compare_heights(const struct work *w) {
     size_t places = 2000;
     for (size_t i = 0; i < places; i++) our_minutes[i] = (uint32_t)(i * 7919 % (w->prepared.last + 1));
-    our_minutes[0] = w->prepared.last;
+    our_minutes[0] = our_minutes[places - 1] = w->prepared.last;
     for (size_t i = 0; i < places; i++) {
         cuvalimodo_reading our = cuvalimodo_height(&w->clock, our_minutes[i]);
         if (our.number || peer_height(&w->prepared, our_minutes[i], &theirs[i]).number) exit(1);
         same(our.height, theirs[i], "height at minute", w, our_minutes[i]);
     }
+    memset(ours, 0x55, sizeof ours);
+    if (cuvalimodo_bookings(&w->clock, our_minutes, places, ours, places).number) exit(1);
+    for (size_t i = 0; i < places; i++) same(ours[i], theirs[i], "booked height at minute", w, our_minutes[i]);
 }
 
 static void compare_turns(const struct work *w) {

@@ -7,12 +7,12 @@
 #include <sys/mman.h>
 #include <ucontext.h>
 
-enum { STACK = 4 << 20, PAINT = 0xa5 };
+enum { STACK = 4 << 20, PAINT = 0xa5, BOOKED = 24 };
 
 static struct work w;
 static int64_t heights[MONTH + 1];
 static int64_t hourly[YEAR / 60 + 1];
-static uint32_t minutes[MONTH + 1];
+static uint32_t minutes[MONTH + 1], booked[BOOKED];
 static unsigned char *stack;
 static ucontext_t back, away;
 static volatile uint32_t number;
@@ -36,6 +36,7 @@ static void cards(void) { number = cuvalimodo_load_cards(&w.clock, (const uint8_
 static void station(void) { number = cuvalimodo_set_station(&w.clock, w.station.latitude, w.records, (size_t)w.station.count).number; }
 static void date(void) { number = cuvalimodo_set_date(&w.clock, w.year, w.month).number; }
 static void single_height(void) { number = cuvalimodo_height(&w.clock, 1).number; }
+static void bookings(void) { number = cuvalimodo_bookings(&w.clock, booked, BOOKED, heights, BOOKED).number; }
 static void series(void) { number = cuvalimodo_series(&w.clock, 0, 1, heights, 1440).number; }
 static void turns(void) { number = cuvalimodo_turns(&w.clock, 0, MONTH, minutes, MONTH, heights, MONTH).number; }
 static void year(void) { number = cuvalimodo_year(&w.clock, w.year, 0, 60, 0, YEAR, hourly, YEAR / 60 + 1, minutes, MONTH, heights, MONTH).number; }
@@ -59,6 +60,7 @@ void print_stack(const char *file, size_t length, const char *deepest, size_t de
     line("a station", station, 1 << 20);
     line("a date", date, 1 << 20);
     line("a single height", single_height, 1024);
+    line("bookings", bookings, 1024);
     line("a series", series, 1 << 20);
     line("turns of a month", turns, 1 << 20);
     line("a year", year, 1 << 20);

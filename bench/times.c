@@ -5,14 +5,15 @@
 #include <string.h>
 #include <time.h>
 
-enum { ROUNDS = 25, SIDES = 6 };
+enum { ROUNDS = 25, SIDES = 6, LISTS = 100, MOST_BOOKED = 1000 };
 
 static struct work w;
 static struct year y;
 static struct doubles d;
 static int64_t heights[YEAR + 1], turned[MONTH];
 static double reals[MONTH + 1];
-static uint32_t minutes[MONTH + 1];
+static uint32_t minutes[MONTH + 1], booked_minutes[LISTS + MOST_BOOKED];
+static size_t booked;
 static volatile int64_t sink;
 
 static double now(void) {
@@ -89,6 +90,22 @@ static void our_heights(uint32_t n) {
         cuvalimodo_reading r = cuvalimodo_height(&w.clock, minutes[i]);
         sink += r.number;
         heights[i] = r.height;
+    }
+}
+
+static void our_bookings(uint32_t n) {
+    for (uint32_t i = 0; i < n; i++) sink += cuvalimodo_bookings(&w.clock, booked_minutes + i % LISTS, booked, heights, booked).number;
+}
+
+static void single_heights(uint32_t n) {
+    for (uint32_t i = 0; i < n; i++) {
+        uint32_t refused = 0;
+        for (size_t k = 0; k < booked; k++) {
+            cuvalimodo_reading r = cuvalimodo_height(&w.clock, booked_minutes[i % LISTS + k]);
+            refused |= r.number;
+            heights[k] = r.height;
+        }
+        sink += refused;
     }
 }
 
@@ -193,6 +210,16 @@ static void time_two(const char *what, repeated *ours, repeated *theirs, uint32_
     time_beside(what, "(a) whole numbers in C", ours, theirs, repeats, target);
 }
 
+// So many bookings in one call beside as many single heights of our own, at the same minutes, in any order, of the same clock.
+static void time_bookings(int count, size_t minutes_booked) {
+    char what[80];
+    booked = minutes_booked;
+    for (size_t i = 0; i < LISTS + MOST_BOOKED; i++) booked_minutes[i] = (uint32_t)(i * 7919 % (MONTH + 1));
+    if (cuvalimodo_bookings(&w.clock, booked_minutes, LISTS + MOST_BOOKED, heights, LISTS + MOST_BOOKED).number) exit(1);
+    snprintf(what, sizeof what, "%zu bookings, %d constituents", booked, count);
+    time_beside(what, "ours, single heights", our_bookings, single_heights, (uint32_t)(440000 / (booked * (size_t)count) + 1), 1.05);
+}
+
 // A year's sheet beside our own of its months, which are prepared before: the year's turns, and every minute of it.
 static void time_year(int count) {
     char what[80];
@@ -216,6 +243,8 @@ void print_times(const char *file, size_t length) {
     for (int i = 0; i < 3; i++) {
         set(file, length, sizes[i]);
         time_series(sizes[i]);
+        time_bookings(sizes[i], 24);
+        time_bookings(sizes[i], MOST_BOOKED);
     }
     set(file, length, 11);
     time_two("a single height, 11 constituents", our_heights, peer_heights, 20000, 1.1);

@@ -1,8 +1,8 @@
 """Has the players of all languages play the second code's scripts: python3 bindings/compare.py NAME=COMMAND ...
 
-The scripts are 200 of about 100 calls, generated from a seed; replay's own; those of tools/malformed.py; and four made here, of numbers at the ends
-of their types, buffers of every size, whole years, and card files of every kind. A player gets all of them as files in one run. Each answer must be the
-second code's, and every refusal must come up, also every one that a year can have.
+The scripts are 200 of about 100 calls, generated from a seed; replay's own; those of tools/malformed.py; and five made here, of numbers at the ends
+of their types, buffers of every size, whole years, bookings, and card files of every kind. A player gets all of them as files in one run. Each answer must
+be the second code's, and every refusal must come up, also every one that a year can have, and every one that bookings can have.
 """
 
 import collections
@@ -17,14 +17,16 @@ sys.path.insert(0, os.path.join(ROOT, "tools"))
 import compare_many  # noqa: E402
 import malformed  # noqa: E402
 import replay_example  # noqa: E402
+from bookings import call as bookings_call  # noqa: E402
 from generate import cards_call  # noqa: E402
 from replay_example import CARDS, LAST, station  # noqa: E402
 
 SEED, COUNT = 1, 200
 LARGEST = 4_294_967_295
 YEAR = 366 * 1_440
-REFUSALS = [*range(1, 12), *range(21, 24)]
+REFUSALS = [*range(1, 12), *range(21, 24), 31]
 YEAR_REFUSALS = [8, 9, 10, 11, 21, 22]
+BOOKINGS_REFUSALS = [9, 21, 22, 23, 31]
 
 
 def call(word, *numbers):
@@ -68,6 +70,27 @@ def years():
     ):
         yield call(b"year", *numbers)
         yield call(b"height", 510)
+
+
+def bookings():
+    """Bookings without a table, without a station and without a month, of unequal buffers and outside the month too; then with a month: of lengths that
+    differ, with minutes outside at every kind of place, and accepted ones of any length. A height after each says that the month stays."""
+    latitude, records = victoria()
+    early = b"".join(bookings_call(*lent) for lent in (([], 0), ([510, 0], 2), ([510], 0), ([LARGEST], 1), ([LARGEST], 2)))
+    yield from (early, cards_call(CARDS), early, station(latitude, records), early, call(b"date", 1976, 7))
+    spread = [n * 7_919 % (LAST + 1) for n in range(1_000)]
+    for minutes, places in (
+        ([], 0), ([], 1), ([], 300), ([510], 0), ([510], 2), ([510] * 256, 0), ([510] * 300, 44), ([LAST + 1], 2), ([LARGEST, 0], 1), (spread, 999),
+        ([LAST + 1], 1), ([LARGEST], 1), ([LARGEST, LAST + 1, 0], 3), ([0, LAST, LAST + 1], 3), ([0, LARGEST, 1, LAST + 1], 4), ([65_536 + 510], 1),
+        ([2**31 + 510], 1), (spread[:255] + [LAST + 1], 256), (spread[:256] + [LAST + 1], 257), ([LAST] * 70_000 + [LAST + 1], 70_001),
+        ([510], 1), ([0, LAST], 2), ([LAST, LAST, 0, 0, 510, LAST], 6), ([510] * 257, 257), (spread, 1_000), (range(LAST, -1, -7), LAST // 7 + 1),
+    ):
+        yield bookings_call(minutes, places)
+        yield call(b"height", 510)
+    # February 1977 is three days shorter.
+    yield call(b"date", 1977, 2)
+    for minutes in ([LAST - 4_320, 0], [0, LAST - 4_319], [LAST, 0]):
+        yield bookings_call(minutes, 2)
 
 
 def updates():
@@ -116,7 +139,7 @@ def scripts():
     """Each script with the second code's answers."""
     yield from compare_many.answered(SEED, COUNT)
     with open(malformed.SCRIPT, "rb") as file:
-        by_hand = [file.read(), ends(), b"".join(years()), card_files(), deepest()]
+        by_hand = [file.read(), ends(), b"".join(years()), b"".join(bookings()), card_files(), deepest()]
     for script in [*by_hand, *malformed.short_scripts()]:
         yield script, compare_many.answers(script)
 
@@ -180,7 +203,8 @@ def main():
         paths = write_files(folder, played)
         same = [compare(*player.split("=", 1), paths, played) for player in sys.argv[1:]]
     there = [came_up("how often each refusal came up: ", collections.Counter(kind for _, kind in answered), REFUSALS)]
-    there.append(came_up("and with a year: ", collections.Counter(kind for word, kind in answered if word == b"year"), YEAR_REFUSALS))
+    for title, alone, numbers in (("a year", b"year", YEAR_REFUSALS), ("bookings", b"bookings", BOOKINGS_REFUSALS)):
+        there.append(came_up("and with %s: " % title, collections.Counter(kind for word, kind in answered if word == alone), numbers))
     sys.exit(0 if same and all(same + there) else 1)
 
 

@@ -1,7 +1,7 @@
 #!/usr/bin/env python3
 """Writes the script that the program replay is run on: tools/replay_example.py > crates/replay/stdin.
 
-The manual's sample, Victoria in July 1976, with calls before, between and behind it that are refused, years among them; then document 01's cases "Checked against". What the program must answer
+The manual's sample, Victoria in July 1976, with calls before, between and behind it that are refused, years and bookings among them; then document 01's cases "Checked against". What the program must answer
 (crates/replay/stdout) is what the second code answers, and
 
     tools/replay_example.py --paper crates/replay/stdout
@@ -17,6 +17,7 @@ HERE = os.path.dirname(os.path.abspath(__file__))
 DATA = os.path.join(HERE, "..", "data")
 sys.path.insert(0, os.path.join(HERE, "..", "second"))
 
+import bookings
 from clock import Clock
 
 LAST = 44_640
@@ -57,6 +58,7 @@ def sample():
     return [
         b"height 0\n",
         b"cards 9\nno cards\n\n",
+        bookings.call([LAST + 1], 0),
         b"year 1949 0 0 0 1 0 0 0\n",
         b"cards %d\n%s\n" % (len(CARDS), CARDS),
         b"date 1976 7\n",
@@ -79,6 +81,12 @@ def sample():
         b"height 0\n",
         b"height 44640\n",
         b"height 44641\n",
+        bookings.call([LAST, 0, LAST, 725, 0], 5),
+        bookings.call([0, LAST + 1, LAST + 2], 3),
+        bookings.call([0, LAST + 1], 3),
+        bookings.call([0, 1], 1),
+        bookings.call([], 0),
+        bookings.call([], 1),
         b"series 0 60 745\n",
         b"series 0 60 746\n",
         b"series 0 1 0\n",

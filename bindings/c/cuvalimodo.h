@@ -20,7 +20,8 @@
  * The numbers in the arrays, and all other arguments, may be anything: each is checked.
  *
  * A call uses no memory but what it is lent and its stack, and keeps nothing elsewhere. Threads may so use a clock each, or read one together
- * (`const`). `height` takes less than 1 KB of stack; every other call less than 1 MiB, since it works on copies of the clock.
+ * (`const`). `height` and `bookings` read the clock where it lies and take less than 1 KB of stack; every other call less than 1 MiB, since it works
+ * on copies of the clock.
  *
  * Units
  *   latitude    minutes of arc, north positive, -5,400 to 5,400
@@ -59,12 +60,13 @@ enum cuvalimodo_refusal {
     CUVALIMODO_TOO_MANY = 6,        /* more entries or records than there may be; place: line, or 147 for records */
     CUVALIMODO_ENDED = 7,           /* the card file ends inside a part; place: the line after the last */
     CUVALIMODO_BAD_DATE = 8,        /* year or month out of range */
-    CUVALIMODO_BAD_MINUTES = 9,     /* minutes outside the month, or the year, or reversed; or step out of range */
+    CUVALIMODO_BAD_MINUTES = 9,     /* minutes outside the month, or the year, or reversed; or step out of range; place: the booking, else 0 */
     CUVALIMODO_TOO_MANY_TURNS = 10, /* more turns than one of the lent buffers holds */
     CUVALIMODO_TOO_LARGE = 11,      /* a nodal correction too large; place: the station's record */
     CUVALIMODO_NO_TABLE = 21,       /* the clock has no table: load_cards comes first */
     CUVALIMODO_NO_STATION = 22,     /* no station: set_station comes before */
-    CUVALIMODO_NO_MONTH = 23        /* no month: set_date comes before */
+    CUVALIMODO_NO_MONTH = 23,       /* no month: set_date comes before */
+    CUVALIMODO_UNEQUAL_BUFFERS = 31 /* the two lent buffers of bookings differ in length */
 };
 
 /* A clock: a table of constituents, a station and a month, each there or not. What is inside is the library's own. */
@@ -90,7 +92,7 @@ typedef struct cuvalimodo_counts {
     size_t shallows;
 } cuvalimodo_counts;
 
-/* What a call comes to: accepted, or the refusal's number and place (a card's line or a station's record, from 1; else 0). */
+/* What a call comes to: accepted, or the refusal's number and place (a card's line, a station's record or a booked minute, from 1; else 0). */
 typedef struct cuvalimodo_verdict {
     uint32_t number; /* CUVALIMODO_ACCEPTED, or why not */
     size_t place;
@@ -167,6 +169,14 @@ cuvalimodo_reading cuvalimodo_height(const cuvalimodo_clock *clock, uint32_t min
 
 /* Heights of the month: heights[n] is that at minute start + n * step, for all of heights_length places. */
 cuvalimodo_verdict cuvalimodo_series(const cuvalimodo_clock *clock, uint32_t start, uint32_t step, int64_t *heights, size_t heights_length);
+
+/*
+ * Bookings: the heights at a list of minutes of the month, in any order and with repeats. heights[n] is what cuvalimodo_height gives for minutes[n].
+ * The two lengths must be equal, and may be 0. All minutes are looked at before a height is written: the place of the first one outside the
+ * month, from 1, is the refusal's.
+ */
+cuvalimodo_verdict cuvalimodo_bookings(const cuvalimodo_clock *clock, const uint32_t *minutes, size_t minutes_length,
+                                       int64_t *heights, size_t heights_length);
 
 /*
  * The high and low waters from minute `first` to minute `last` of the month. Turn n is minutes[n] with heights[n]; places past the last turn are

@@ -177,6 +177,15 @@ static bool record(struct script *s, cuvalimodo_record *r)
     return line_end(s);
 }
 
+static bool minute(struct script *s, uint32_t *m)
+{
+    int64_t value;
+    if (!number(s, 0, UINT32_MAX, &value))
+        return false;
+    *m = (uint32_t)value;
+    return line_end(s);
+}
+
 /* A card file of so many bytes; `line` counts the lines inside it. */
 static bool card_file(struct script *s, size_t size, const unsigned char **file)
 {
@@ -243,6 +252,13 @@ static bool height(struct script *s, const int64_t *n)
     return true;
 }
 
+static void write_numbers(const char *word, const int64_t *numbers, size_t count)
+{
+    fputs(word, stdout);
+    for (size_t k = 0; k < count; k++)
+        printf(" %" PRId64, numbers[k]);
+}
+
 static bool series(struct script *s, const int64_t *n)
 {
     (void)s;
@@ -252,12 +268,36 @@ static bool series(struct script *s, const int64_t *n)
     cuvalimodo_verdict said = cuvalimodo_series(held(), (uint32_t)n[0], (uint32_t)n[1], heights, (size_t)n[2]);
     clock_stands(false);
     if (accepted(said.number, said.place)) {
-        fputs("heights", stdout);
-        for (int64_t k = 0; k < n[2]; k++)
-            printf(" %" PRId64, heights[k]);
+        write_numbers("heights", heights, (size_t)n[2]);
         puts("");
     }
     back(lent, said.number ? 0 : lent.size);
+    return true;
+}
+
+static bool bookings(struct script *s, const int64_t *n)
+{
+    size_t count = (size_t)n[0], places = (size_t)n[1];
+    struct script first = *s;
+    uint32_t read;
+    for (size_t k = 0; k < count; k++)
+        if (!minute(s, &read))
+            return false;
+    struct lent lent_minutes = lend(count, sizeof(uint32_t)), lent_heights = lend(places, sizeof(int64_t));
+    uint32_t *minutes = (uint32_t *)(void *)lent_minutes.at;
+    int64_t *heights = (int64_t *)(void *)lent_heights.at;
+    for (size_t k = 0; k < count; k++)
+        minute(&first, &minutes[k]);
+    copy(lent_minutes);
+    copy(lent_heights);
+    cuvalimodo_verdict said = cuvalimodo_bookings(held(), minutes, count, heights, places);
+    clock_stands(false);
+    if (accepted(said.number, said.place)) {
+        write_numbers("heights", heights, places);
+        puts("");
+    }
+    back(lent_minutes, 0);
+    back(lent_heights, said.number ? 0 : lent_heights.size);
     return true;
 }
 
@@ -300,8 +340,7 @@ static bool year(struct script *s, const int64_t *n)
     clock_stands(false);
     if (accepted(said.number, said.place)) {
         printf("year %" PRId64, n[3]);
-        for (int64_t k = 0; k < n[3]; k++)
-            printf(" %" PRId64, series[k]);
+        write_numbers("", series, (size_t)n[3]);
         putchar(' ');
         write_turns(said, minutes, heights);
     }
@@ -315,7 +354,8 @@ static const struct {
     const char *word;
     int numbers;
     bool (*play)(struct script *, const int64_t *);
-} calls[] = {{"cards", 1, cards}, {"station", 2, station}, {"date", 2, date}, {"height", 1, height}, {"series", 3, series}, {"turns", 4, turns}, {"year", 8, year}};
+} calls[] = {{"cards", 1, cards},   {"station", 2, station},   {"date", 2, date},   {"height", 1, height},
+             {"series", 3, series}, {"bookings", 2, bookings}, {"turns", 4, turns}, {"year", 8, year}};
 
 enum { CALLS = sizeof calls / sizeof *calls, NUMBERS = 8 };
 

@@ -75,10 +75,11 @@ class Refusal(IntEnum):
     NO_TABLE = 21
     NO_STATION = 22
     NO_MONTH = 23
+    UNEQUAL_BUFFERS = 31
 
 
 class Refused(Exception):
-    """A refused call: its number, its place (a card's line or a station's record, from 1; else 0) and the library's words for it."""
+    """A refused call: its number, its place (a card's line, a station's record or a booked minute, from 1; else 0) and the library's words for it."""
 
     def __init__(self, number: int, place: int) -> None:
         super().__init__(number, place)
@@ -135,6 +136,7 @@ def _load() -> ctypes.PyDLL:
         ("set_date", _Verdict, [clock, u32, u32]),
         ("height", _Reading, [clock, u32]),
         ("series", _Verdict, [clock, u32, u32, *lent]),
+        ("bookings", _Verdict, [clock, *lent, *lent]),
         ("turns", _Turnings, [clock, u32, u32, *lent, *lent]),
         ("year", _Turnings, [clock, u32, u32, u32, u32, u32, *lent, *lent, *lent]),
         ("refusal_text", _Text, [u32]),
@@ -287,6 +289,20 @@ class Clock:
         """So many heights, at the minutes start, start + step and so on, as an array("q")."""
         heights = array("q", bytes(8 * count))
         self.series_into(heights, start, step)
+        return heights
+
+    def bookings_into(self, heights: WriteableBuffer, minutes: Iterable[SupportsIndex]) -> None:
+        """Fills a buffer of 64-bit signed numbers with the heights at a list of minutes, in any order and with repeats; Refused 31 where it has not as
+        many places as there are minutes, Refused 9 with the place of the first minute outside the month."""
+        row = [_u32(minute) for minute in minutes]
+        lent = (ctypes.c_uint32 * len(row))(*row)
+        _accept(_library.cuvalimodo_bookings(self._memory, *_lent(lent), *_lent(_heights(heights))))
+
+    def bookings(self, minutes: Iterable[SupportsIndex]) -> array[int]:
+        """The heights at a list of minutes, in any order and with repeats, as an array("q"): each, at its place, is what height gives."""
+        row = list(minutes)
+        heights = array("q", bytes(8 * len(row)))
+        self.bookings_into(heights, row)
         return heights
 
     def turns_into(self, minutes: WriteableBuffer, heights: WriteableBuffer, first: SupportsIndex, last: SupportsIndex) -> Tuple[int, bool]:

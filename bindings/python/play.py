@@ -97,6 +97,16 @@ class Guarded:
         heights.stands(count)
         return list(heights.numbers)
 
+    def bookings(self, minutes, places):
+        heights = Lent(ctypes.c_int64, places)
+        given = 0
+        try:
+            self.call(self.clock.bookings_into, heights.numbers, minutes)
+            given = places
+        finally:
+            heights.stands(given)
+        return list(heights.numbers)
+
     def turns(self, first, last, minute_places, height_places):
         minutes, heights = Lent(ctypes.c_uint32, minute_places), Lent(ctypes.c_int64, height_places)
         count = 0

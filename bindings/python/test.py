@@ -77,6 +77,8 @@ class Buffers(unittest.TestCase):
                 self.clock.series_into(heights, 0, 60)
             with self.assertRaises((TypeError, BufferError)):
                 self.clock.turns_into(array("I", bytes(16)), heights, 0, LAST)
+            with self.assertRaises((TypeError, BufferError)):
+                self.clock.bookings_into(heights, [0, 60, 120, 180])
             for series, turns in ((heights, array("q")), (array("q"), heights)):
                 with self.assertRaises((TypeError, BufferError)):
                     self.clock.year_into(series, array("I"), turns, 1976, 0, 60, 0, 0)
@@ -87,6 +89,8 @@ class Buffers(unittest.TestCase):
         memory = memoryview(bytearray(4000))
         with self.assertRaises(ValueError):
             self.clock.series_into(memory[1:33].cast("q"), 0, 60)
+        with self.assertRaises(ValueError):
+            self.clock.bookings_into(memory[1:33].cast("q"), [0, 60, 120, 180])
         with self.assertRaises(ValueError):
             self.clock.turns_into(memory[:2000].cast("I"), memory[1992:].cast("q"), 0, LAST)
         count, _ = self.clock.turns_into(memory[:1200].cast("I"), memory[1200:3600].cast("q"), 0, LAST)
@@ -102,6 +106,8 @@ class Buffers(unittest.TestCase):
         self.clock.series_into(array("q"), 0, 60)
         self.assertEqual(self.clock.series(0, 60, 0), array("q"))
         self.assertEqual(self.clock.turns(0, 0, room=0), [])
+        self.clock.bookings_into(array("q"), [])
+        self.assertEqual(self.clock.bookings([]), array("q"))
 
     def test_a_list_of_turns(self):
         turns = self.clock.turns(0, LAST)
@@ -109,6 +115,29 @@ class Buffers(unittest.TestCase):
         with self.assertRaises(Refused) as caught:
             self.clock.turns(0, LAST, room=102)
         self.assertEqual(caught.exception.number, Refusal.TOO_MANY_TURNS)
+
+    def test_bookings(self):
+        minutes = [180, 0, 60, 0, 120]
+        wanted = array("q", [self.wanted[minute // 60] for minute in minutes])
+        for asked in (minutes, tuple(minutes), iter(minutes), array("I", minutes), memoryview(array("L", minutes)), map(Index, minutes)):
+            self.assertEqual(self.clock.bookings(asked), wanted)
+        heights = array("q", [7] * 7)
+        self.clock.bookings_into(memoryview(heights)[1:6], minutes)
+        self.assertEqual(heights, array("q", [7, *wanted, 7]))
+
+    def test_bookings_that_are_refused(self):
+        heights = array("q", [7] * 3)
+        for minutes, number, place in (
+            ([0, LAST, LAST + 1], Refusal.BAD_MINUTES, 3), ([2**32 - 1, 0, LAST + 1], Refusal.BAD_MINUTES, 1), ([], Refusal.UNEQUAL_BUFFERS, 0),
+            ([LAST + 1] * 2, Refusal.UNEQUAL_BUFFERS, 0), ([0] * 4, Refusal.UNEQUAL_BUFFERS, 0),
+        ):
+            with self.assertRaises(Refused) as caught:
+                self.clock.bookings_into(heights, minutes)
+            self.assertEqual((caught.exception.number, caught.exception.place), (number, place))
+        self.assertEqual(heights, array("q", [7] * 3))
+        with self.assertRaises(Refused) as caught:
+            self.clock.bookings([0, LAST + 1])
+        self.assertEqual(caught.exception.place, 2)
 
     def test_a_year(self):
         daily, turns = self.clock.year(1976, 0, 1440, 367, 0, YEAR)
@@ -140,6 +169,7 @@ class Numbers(unittest.TestCase):
                 self.overflows(call, wrong)
             for call in (lambda n: clock.series(0, n, 1), lambda n: clock.turns(n, 9), lambda n: clock.turns(0, n), refusal_text):
                 self.overflows(call, wrong)
+            self.overflows(clock.bookings, [0, wrong])
             for place in range(5):
                 self.overflows(lambda n: clock.year_into(array("q"), array("I"), array("q"), *([1976, 0, 60, 0, 0][:place] + [n] + [0] * (4 - place))), wrong)
 
@@ -149,6 +179,8 @@ class Numbers(unittest.TestCase):
         for wrong in (5.0, "5", None):
             with self.assertRaises(TypeError):
                 clock.height(wrong)
+            with self.assertRaises(TypeError):
+                clock.bookings([0, wrong])
 
 
 class Others(unittest.TestCase):
@@ -164,9 +196,10 @@ class Others(unittest.TestCase):
             self.assertEqual((caught.exception.number, caught.exception.place), (Refusal.NO_TABLE, 0))
 
     def test_words(self):
-        listed = dict(re.findall(r"^    (\d+) (.+)$", read("docs/FORMATS.md").decode(), re.M))
+        sample = read("docs/FORMATS.md").decode().partition("$ target/bin/cuvalimodo refusals\n")[2].partition("\n\n")[0]
+        listed = dict(re.findall(r"^    (\d+) (.+)$", sample, re.M))
         self.assertEqual(sorted(map(int, listed)), [int(refusal) for refusal in Refusal])
-        for number in range(30):
+        for number in range(40):
             self.assertEqual(refusal_text(number), listed.get(str(number), ""))
         with self.assertRaises(Refused) as caught:
             Clock().set_date(1976, 7)

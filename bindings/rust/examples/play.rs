@@ -130,6 +130,18 @@ impl<'a> Script<'a> {
         (0..count).map(|_| self.record()).collect()
     }
 
+    fn minute(&mut self) -> Option<u32> {
+        let words = self.words()?;
+        let [minute] = words[..] else { return None };
+        let minute = word(minute)?;
+        self.line += 1;
+        Some(minute)
+    }
+
+    fn minutes(&mut self, count: u32) -> Option<Vec<u32>> {
+        (0..count).map(|_| self.minute()).collect()
+    }
+
     /// A card file of so many bytes and an LF; `line` counts the lines inside it.
     fn card_file(&mut self, size: usize) -> Option<&'a [u8]> {
         let file = &self.rest[..size.min(self.rest.len())];
@@ -169,6 +181,17 @@ fn series(held: &Held, start: u32, step: u32, count: usize) -> Result<String, Re
     let mut lent = Lent::new(&vec![PAINT as i64; count], PAINT as i64);
     let said = held.read(|clock| clock.series(start, step, lent.numbers()));
     let heights = lent.stands(if said.is_ok() { count } else { 0 });
+    said?;
+    Ok(format!("heights{}", spaced(heights)))
+}
+
+fn bookings(held: &Held, minutes: &[u32], places: usize) -> Result<String, Refusal> {
+    let lent_minutes = Lent::new(minutes, PAINT as u32);
+    let mut lent_heights = Lent::new(&vec![PAINT as i64; places], PAINT as i64);
+    let minutes = &lent_minutes.space[GUARD..GUARD + minutes.len()];
+    let said = held.read(|clock| clock.bookings(minutes, lent_heights.numbers()));
+    lent_minutes.stands(0);
+    let heights = lent_heights.stands(if said.is_ok() { places } else { 0 });
     said?;
     Ok(format!("heights{}", spaced(heights)))
 }
@@ -227,6 +250,11 @@ fn play_call(held: &mut Held, script: &mut Script) -> Option<Result<String, Refu
             let (start, step, count) = (word(start)?, word(step)?, place(count)?);
             script.line += 1;
             series(held, start, step, count)
+        }
+        [b"bookings", count, places] => {
+            let (count, places) = (word(count)?, place(places)?);
+            script.line += 1;
+            bookings(held, &script.minutes(count)?, places)
         }
         [b"turns", first, last, minutes, heights] => {
             let (first, last, minutes, heights) = (word(first)?, word(last)?, place(minutes)?, place(heights)?);

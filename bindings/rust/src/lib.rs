@@ -33,7 +33,7 @@ mod sys;
 use std::fmt;
 pub use sys::{Record, Sheet, CLOCK_SIZE};
 
-/// A refused call: why, by document 01's number, and its place (a card's line or a station's record, from 1; else 0).
+/// A refused call: why, by document 01's number, and its place (a card's line, a station's record or a booked minute, from 1; else 0).
 #[derive(Clone, Copy, Debug, PartialEq, Eq, Hash)]
 pub struct Refusal {
     /// Why: one of the constants below.
@@ -71,6 +71,8 @@ impl Refusal {
     pub const NO_STATION: u32 = 22;
     /// The clock has no month.
     pub const NO_MONTH: u32 = 23;
+    /// The two lent buffers differ in length.
+    pub const UNEQUAL_BUFFERS: u32 = 31;
 
     /// The library's words for it.
     ///
@@ -149,8 +151,8 @@ pub fn check_cards(file: &[u8]) -> Result<Counts, Refusal> {
 
 /// A berth clock: a table of constituents, a station and a month, each there or not.
 ///
-/// It has [`CLOCK_SIZE`] bytes and lies where you put it. Methods of `&self` may be called from several threads at once. [`Clock::height`] takes less than
-/// 1 KB of stack, every other call less than 1 MiB.
+/// It has [`CLOCK_SIZE`] bytes and lies where you put it. Methods of `&self` may be called from several threads at once. [`Clock::height`] and
+/// [`Clock::bookings`] take less than 1 KB of stack, every other call less than 1 MiB.
 ///
 /// ```
 /// use cuvalimodo::{Clock, Refusal};
@@ -237,6 +239,31 @@ impl Clock {
     /// Fills `heights`: the height n, from 0, is that at minute `start + n * step`.
     pub fn series(&self, start: u32, step: u32, heights: &mut [i64]) -> Result<(), Refusal> {
         let said = sys::series(&self.0, start, step, heights);
+        accepted(said.number, said.place)
+    }
+
+    /// Fills `heights` with the heights at a list of minutes, in any order and with repeats: each, at its place, is what [`Clock::height`] gives. The
+    /// two are of one length. A refused list writes nothing; the place of the first minute outside the month is the refusal's.
+    ///
+    /// ```
+    /// use cuvalimodo::{Clock, Record, Refusal};
+    /// let cards = include_bytes!(concat!(env!("CARGO_MANIFEST_DIR"), "/../../data/standard-cards.txt"));
+    /// let mut clock = Clock::new();
+    /// clock.load_cards(cards)?;
+    /// clock.set_station(2905, &[Record { place: clock.place_of("M2").unwrap(), amplitude: 12130, phase: 8700 }])?;
+    /// clock.set_date(1976, 7)?;
+    /// let mut heights = [0; 3];
+    /// clock.bookings(&[510, 0, 510], &mut heights)?;
+    /// assert_eq!((heights[0], heights[1], heights[2]), (clock.height(510)?, clock.height(0)?, heights[0]));
+    ///
+    /// let before = heights;
+    /// assert_eq!(clock.bookings(&[510, 44641, 50000], &mut heights), Err(Refusal { number: Refusal::BAD_MINUTES, place: 2 }));
+    /// assert_eq!(clock.bookings(&[510], &mut heights), Err(Refusal { number: Refusal::UNEQUAL_BUFFERS, place: 0 }));
+    /// assert_eq!(heights, before);
+    /// # Ok::<(), Refusal>(())
+    /// ```
+    pub fn bookings(&self, minutes: &[u32], heights: &mut [i64]) -> Result<(), Refusal> {
+        let said = sys::bookings(&self.0, minutes, heights);
         accepted(said.number, said.place)
     }
 

@@ -106,6 +106,7 @@ extern "C" {
     fn cuvalimodo_set_date(clock: &mut Clock, year: u32, month: u32) -> Verdict;
     fn cuvalimodo_height(clock: &Clock, minute: u32) -> Reading;
     fn cuvalimodo_series(clock: &Clock, start: u32, step: u32, heights: *mut i64, heights_length: usize) -> Verdict;
+    fn cuvalimodo_bookings(clock: &Clock, minutes: *const u32, minutes_length: usize, heights: *mut i64, heights_length: usize) -> Verdict;
     fn cuvalimodo_turns(
         clock: &Clock,
         first: u32,
@@ -170,6 +171,11 @@ pub fn height(clock: &Clock, minute: u32) -> Reading {
 pub fn series(clock: &Clock, start: u32, step: u32, heights: &mut [i64]) -> Verdict {
     // SAFETY: see the head of this file.
     unsafe { cuvalimodo_series(clock, start, step, heights.as_mut_ptr(), heights.len()) }
+}
+
+pub fn bookings(clock: &Clock, minutes: &[u32], heights: &mut [i64]) -> Verdict {
+    // SAFETY: see the head of this file.
+    unsafe { cuvalimodo_bookings(clock, minutes.as_ptr(), minutes.len(), heights.as_mut_ptr(), heights.len()) }
 }
 
 pub fn turns(clock: &Clock, first: u32, last: u32, minutes: &mut [u32], heights: &mut [i64]) -> Turnings {

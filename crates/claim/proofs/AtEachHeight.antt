@@ -2,7 +2,7 @@
 -- of the points that the call gives. Assumes nothing.
 use Prim.Native.Nat.{ℕ, zero, suc, _+_, _*_, _<_, _≤_}
 use native.Mathlib.Omega.{arith}
-use mathlib.Core.List.{List, [], _∷_, _++_, map}
+use mathlib.Core.List.{List, [], _∷_, _++_, map, cons-ne-nil}
 use mathlib.Core.Path.{_≡_, refl, sym, ap, subst, _∙_}
 use lib.IntN.{ℤ, pos}
 use lib.ListN.{length, getD, take, drop, length-map, length-append}
@@ -13,11 +13,16 @@ use Rattle.heights.specs.Height.{heightAt, heightOver}
 use Rattle.turns.specs.Search.{Turn, minutesOf}
 use Rattle.turns.specs.Written.{TurnsFound, fromFront}
 use Rattle.calls.specs.State as state
-use Rattle.calls.specs.State.{Maybe}
+use Rattle.calls.specs.State.{Maybe, State}
+use Rattle.calls.specs.Calls.{SeriesGiven, filled as fills, heightReturns}
+use Rattle.calls.specs.Bookings.{bookingsHeights, bookingsGives}
+use Rattle.calls.proofs.Singly.{as-single-requests}
 use Rattle.refusals.specs.Outcome.{Outcome, accepted, refused}
-use Rattle.claim.specs.Document.{Request, Cards, Station, Date, Height, Series, Turns, Year, Names, Gave, told, predicted, wrote, found, filled, named, Last, nothing, workedOut, after, gives, givesAll, lastAfter, Point, pointsFrom, pointsOf, points, constituentsThere, preparedMonth, monthsFor, AllNear, nil, cons, EachNear, end, next}
+use Rattle.refusals.proofs.Laws.{not-both}
+use Rattle.claim.specs.Document.{Request, Cards, Station, Date, Height, Series, Turns, Year, Bookings, Names, Gave, told, predicted, wrote, found, filled, named, Last, nothing, workedOut, after, gives, givesAll, lastAfter, Point, pointsFrom, pointsOf, points, constituentsThere, preparedMonth, monthsFor, AllNear, nil, cons, EachNear, end, next}
+use Rattle.claim.proofs.Points.{near-call}
 use Rattle.claim.proofs.Given.{all-found, turns-give, as-many, year-gives}
-use Rattle.claim.specs.Claim.{OfAHeight, OfASeries, OfTurns, OfAYearsSeries, OfAYearsTurns}
+use Rattle.claim.specs.Claim.{OfAHeight, OfASeries, OfTurns, OfAYearsSeries, OfAYearsTurns, OfBookings}
 
 -- ---- down the list
 
@@ -104,6 +109,7 @@ all-stand l (Turns first last ms hs) =
     turns-give (λ m g. AllStand (found g)) first last ms hs (λ m number. tt) (λ m ts. found-stand (heightAt (m .constituents)) ts ms hs) (workedOut l .table) (workedOut l .station) (workedOut l .month)
 all-stand l (Year sheet ss ms hs) =
     year-gives (λ months y. AllStand (filled y)) sheet ss ms hs (λ months number place. tt) (λ months ts. found-stand (heightOver months) ts ms hs) (workedOut l .table) (workedOut l .station) (workedOut l .month)
+all-stand l (Bookings minutes heights) = tt
 all-stand l Names = tt
 
 -- what the last call of a list gives is what the document gives for it
@@ -132,11 +138,12 @@ last-stands qs gs q g e = subst AllStand (sym (last-exactly qs gs q g e)) (all-s
 abbrev month-after : List Request → Maybe Month
 month-after qs = workedOut (lastAfter nothing qs) .month
 
+-- the one point of a height
+the-one : {months : List Month} {p : Point} → AllNear months (p ∷ []) → NearOver months (p .minute) (p .height)
+the-one (cons x xs) = x
+
 pub of-a-height : OfAHeight
-of-a-height qs gs minute h claim = alone (month-after qs) minute h (first (last-near nothing qs gs _ _ (claim .near)))
-  where
-    first : {months : List Month} {p : Point} → AllNear months (p ∷ []) → NearOver months (p .minute) (p .height)
-    first (cons x xs) = x
+of-a-height qs gs minute h claim = alone (month-after qs) minute h (the-one (last-near nothing qs gs _ _ (claim .near)))
 
 pub of-a-series : OfASeries
 of-a-series qs gs start step before left claim n h = alone (month-after qs) (start + n * step) (getD left n (pos 0)) (from-nth _ start step left n h (last-near nothing qs gs _ _ (claim .near)))
@@ -160,3 +167,32 @@ of-a-years-turns qs gs sheet ss ss′ ms ms′ hs hs′ count high claim n c =
     let in-minutes : count ≤ length ms′ = there .0 in
     let in-heights : count ≤ length hs′ = there .1 in
     of-nth _ ms′ hs′ count n c (omega arith) (omega arith) (near-behind _ (pointsFrom (sheet .start) (sheet .step) ss′) _ (last-near nothing qs gs _ _ (claim .near)))
+
+-- ---- bookings: each as a single height
+
+-- where bookings are accepted, what is written is all of their heights
+as-written : {s t : SeriesGiven} → wrote s ≡ wrote t → s ≡ t
+as-written e = cc
+
+all-written : (o : Outcome (List ℤ)) (heights left : List ℤ) → record { returned = accepted tt; heights = left } ≡ fills o heights → o ≡ accepted left
+all-written (accepted hs) heights left e = ap (λ (s : SeriesGiven). accepted (s .heights)) (sym e)
+all-written (refused number place) heights left e = not-both (ap (λ (s : SeriesGiven). s .returned) (sym e))
+
+nth-single : (one : ℕ → Outcome ℤ) (ms : List ℕ) (hs : List ℤ) (n : ℕ) → map one ms ≡ map accepted hs → n < length hs → accepted (getD hs n (pos 0)) ≡ one (getD ms n 0)
+nth-single one ms [] n e h = absurd (omega arith)
+nth-single one [] (k ∷ hs) n e h = absurd (cons-ne-nil _ _ (sym e))
+nth-single one (m ∷ ms) (k ∷ hs) zero e h = cc
+nth-single one (m ∷ ms) (k ∷ hs) (suc n) e h = let more : map one ms ≡ map accepted hs = cc in nth-single one ms hs n more (omega arith)
+
+pub of-bookings : OfBookings
+unfolding gives bookingsGives
+of-bookings qs gs minutes before left claim n h =
+    let l : Last = lastAfter nothing qs in
+    let k : State = workedOut l in
+    let minute : ℕ = getD minutes n 0 in
+    let height : ℤ = getD left n (pos 0) in
+    let all : bookingsHeights k minutes (length before) ≡ accepted left = all-written _ before left (as-written (last-exactly qs gs _ _ (claim .exactly))) in
+    let single : accepted height ≡ heightReturns k minute = nth-single (heightReturns k) minutes left n (as-single-requests k minutes (length before) left all) h in
+    let near : AllNear (monthsFor l (Height minute)) (points (Height minute) (predicted (accepted height))) =
+    subst (λ (o : Outcome ℤ). AllNear (monthsFor l (Height minute)) (points (Height minute) (predicted o))) (sym single) (near-call l (Height minute)) in
+    (ap predicted single, alone (month-after qs) minute height (the-one near))

@@ -36,12 +36,13 @@ use Rattle.clock.specs.Returned.{heightReturned, turnsReturned}
 use Rattle.calls.specs.Calls.{cardsReturns, cardsLeaves, stationReturns, stationLeaves, dateGives, dateReturns, dateLeaves, heightReturns, seriesHeights, seriesGives, turnsGives}
 use Rattle.calls.specs.declared.annual.Sheet.{Sheet}
 use Rattle.calls.specs.Year.{sheetAsked, yearGives}
-use Rattle.clock.specs.Posts.{NewPost, CardsPost, StationPost, DatePost, HeightPost, SeriesPost, TurnsPost, YearPost}
+use Rattle.calls.specs.Bookings.{bookingsHeights, bookingsGives}
+use Rattle.clock.specs.Posts.{NewPost, CardsPost, StationPost, DatePost, HeightPost, SeriesPost, TurnsPost, YearPost, BookingsPost}
 use Rattle.cuvalimodo_c.specs.declared.answers.Verdict.{Verdict}
 use Rattle.cuvalimodo_c.specs.declared.answers.Reading.{Reading}
 use Rattle.cuvalimodo_c.specs.declared.answers.Turnings.{Turnings}
 use Rattle.cuvalimodo_c.specs.Answers.{verdictReturned, readingReturned, turningsReturned, verdictOf, readingOf, turningsOf, Plain, PlainReading, PlainTurnings}
-use Rattle.claim.specs.Document.{Cards, Station, Date, Height, Series, Turns, Year, Names, told, predicted, wrote, found, filled, named}
+use Rattle.claim.specs.Document.{Cards, Station, Date, Height, Series, Turns, Year, Bookings, Names, told, predicted, wrote, found, filled, named}
 use Rattle.claim.specs.Calls.{Keeps, New, Call, Calls, done, _then_}
 use Rattle.claim.specs.Controls.{Controls, aSheet, eachKind, eachRefused}
 
@@ -110,6 +111,10 @@ module _ (c : Clock) (p : NewPost c) where
   unfolding sheetAsked yearGives
   no-year sheet ss ms hs = record { gives = sym (ap (λ (k : State). yearGives k sheet ss ms hs) (p .leaves)) }
 
+  no-bookings : (minutes : List ℕ) (hs : List ℤ) → BookingsPost c minutes hs hs (refused 21 0)
+  unfolding bookingsHeights bookingsGives
+  no-bookings minutes hs = record { gives = sym (ap (λ (k : State). bookingsGives k minutes hs) (p .leaves)) }
+
 -- ---- each kind of call is there
 
 new-there : (c : Clock) → NewPost c → New c
@@ -150,6 +155,11 @@ year-there : (c : Clock) (sheet : Sheet) (ss ss′ : List ℤ) (ms ms′ : List 
     → Call c (Year sheet ss ms hs) (filled (record { returned = turnsReturned answer; series = ss′; minutes = ms′; heights = hs′ })) c
 year-there c sheet ss ss′ ms ms′ hs hs′ answer p =
     Call.years {κs = ([], ([], ([], tt)))} {ss = lent ss} {ms = lent ms} {hs = lent hs} {r = answer} (record { bound = λ w. tt; contract = kept _ _ p })
+
+bookings-there : (c : Clock) (minutes : List ℕ) (hs hs′ : List ℤ) (answer : Answer) → BookingsPost c minutes hs hs′ (outcomeOf answer)
+    → Call c (Bookings minutes hs) (wrote (record { returned = outcomeOf answer; heights = hs′ })) c
+bookings-there c minutes hs hs′ answer p =
+    Call.bookings {κs = ([], ([], tt))} {minutes = lent minutes} {before = lent hs} {r = answer} (record { bound = λ w. tt; contract = kept _ _ p })
 
 names-there : (c : Clock) (r : TableNames) → namesFrom (r .bytes) 0 (r .count) ≡ namesIn (view c) → Call c Names (named (namesFrom (r .bytes) 0 (r .count))) c
 names-there c r p = Call.hands {r = r} (record { bound = λ w. tt; contract = kept _ _ p })
@@ -194,6 +204,16 @@ held-year-there : (c : Clock) (sheet : Sheet) (ss ss′ : List ℤ) (ms ms′ : 
 held-year-there c sheet ss ss′ ms ms′ hs hs′ r p plain =
     Call.heldYears {κs = ([], ([], ([], ([], tt))))} {clock = lent c} {sheet = sheet} {ss = lent ss} {ms = lent ms} {hs = lent hs} {r = r} (record { bound = λ w. tt; contract = kept _ _ (p, plain) })
 
+lent-bookings-there : (c : Clock) (minutes : List ℕ) (hs hs′ : List ℤ) (answer : Answer) → BookingsPost c minutes hs hs′ (outcomeOf answer)
+    → Call c (Bookings minutes hs) (wrote (record { returned = outcomeOf answer; heights = hs′ })) c
+lent-bookings-there c minutes hs hs′ answer p =
+    Call.lentBookings {κs = ([], ([], ([], tt)))} {clock = lent c} {minutes = lent minutes} {before = lent hs} {r = answer} (record { bound = λ w. tt; contract = kept _ _ p })
+
+held-bookings-there : (c : Clock) (minutes : List ℕ) (hs hs′ : List ℤ) (r : Verdict) → BookingsPost c minutes hs hs′ (verdictReturned r) → Plain r
+    → Call c (Bookings minutes hs) (wrote (record { returned = verdictReturned r; heights = hs′ })) c
+held-bookings-there c minutes hs hs′ r p plain =
+    Call.heldBookings {κs = ([], ([], ([], tt)))} {clock = lent c} {minutes = lent minutes} {before = lent hs} {r = r} (record { bound = λ w. tt; contract = kept _ _ (p, plain) })
+
 held-names-there : (c : Clock) (r : TableNames) → namesFrom (r .bytes) 0 (r .count) ≡ namesIn (view c) → Call c Names (named (namesFrom (r .bytes) 0 (r .count))) c
 held-names-there c r p = Call.heldHands {κs = ([], tt)} {clock = lent c} {r = r} (record { bound = λ w. tt; contract = kept _ _ p })
 
@@ -207,6 +227,7 @@ each-kind c p =
     then series-there c 0 1 (pos 5 ∷ []) (pos 5 ∷ []) (Refused NoTable 0) (no-series c p 0 1 (pos 5 ∷ []))
     then turns-there c 0 1 (9 ∷ []) (9 ∷ []) (pos 5 ∷ []) (pos 5 ∷ []) (turns.Refused NoTable 0) (no-turns c p 0 1 (9 ∷ []) (pos 5 ∷ []))
     then year-there c aSheet (pos 3 ∷ []) (pos 3 ∷ []) (9 ∷ []) (9 ∷ []) (pos 5 ∷ []) (pos 5 ∷ []) (turns.Refused NoTable 0) (no-year c p aSheet (pos 3 ∷ []) (9 ∷ []) (pos 5 ∷ []))
+    then bookings-there c (9 ∷ 0 ∷ []) (pos 5 ∷ []) (pos 5 ∷ []) (Refused NoTable 0) (no-bookings c p (9 ∷ 0 ∷ []) (pos 5 ∷ []))
     then held-cards-there c c [] (verdictOf (refused 7 1)) (no-cards c p) refl
     then held-station-there c c (pos 0) [] (verdictOf (refused 21 0)) (no-station c p (pos 0) []) refl
     then held-date-there c c 1976 7 (verdictOf (refused 21 0)) (no-month c p 1976 7) refl
@@ -214,7 +235,9 @@ each-kind c p =
     then held-series-there c 0 1 (pos 5 ∷ []) (pos 5 ∷ []) (verdictOf (refused 21 0)) (no-series c p 0 1 (pos 5 ∷ [])) refl
     then held-turns-there c 0 1 (9 ∷ []) (9 ∷ []) (pos 5 ∷ []) (pos 5 ∷ []) (turningsOf (refused 21 0)) (no-turns c p 0 1 (9 ∷ []) (pos 5 ∷ [])) refl
     then held-year-there c aSheet (pos 3 ∷ []) (pos 3 ∷ []) (9 ∷ []) (9 ∷ []) (pos 5 ∷ []) (pos 5 ∷ []) (turningsOf (refused 21 0)) (no-year c p aSheet (pos 3 ∷ []) (9 ∷ []) (pos 5 ∷ [])) refl
+    then held-bookings-there c (9 ∷ 0 ∷ []) (pos 5 ∷ []) (pos 5 ∷ []) (verdictOf (refused 21 0)) (no-bookings c p (9 ∷ 0 ∷ []) (pos 5 ∷ [])) refl
     then lent-height-there c 0 (height.Refused NoTable 0) (no-height c p 0)
+    then lent-bookings-there c (9 ∷ 0 ∷ []) (pos 5 ∷ []) (pos 5 ∷ []) (Refused NoTable 0) (no-bookings c p (9 ∷ 0 ∷ []) (pos 5 ∷ []))
     then placing-there c c (pos 0) 0 noRows (Refused NoTable 0) (no-station c p (pos 0) [])
     then names-there c (record { count = 0; bytes = [] }) (sym (ap namesIn (p .leaves)))
     then held-names-there c (record { count = 0; bytes = [] }) (sym (ap namesIn (p .leaves)))
@@ -232,6 +255,7 @@ controls =
       series = series-there;
       turns = turns-there;
       year = year-there;
+      bookings = bookings-there;
       names = names-there;
       held-new = held-new-there;
       held-cards = held-cards-there;
@@ -242,6 +266,8 @@ controls =
       held-series = held-series-there;
       held-turns = held-turns-there;
       held-year = held-year-there;
+      lent-bookings = lent-bookings-there;
+      held-bookings = held-bookings-there;
       held-names = held-names-there;
       each-kind = each-kind;
     }

@@ -1,13 +1,14 @@
 -- Each height that the document gives for a list of calls is near the exact sum of its own month at its own minute. Rests on the distance of
--- one height (`height-is-near` of heights), over the cases of what a call gives (`Given`). Assumes nothing.
+-- one height (`height-is-near` of heights), over the cases of what a call gives (`Given`); that of bookings on the distance of a single height, which
+-- they equal (`as-single-requests` of calls). Assumes nothing.
 use Prim.Native.Nat.{ℕ, zero, suc, _+_, _*_}
 use mathlib.Core.List.{List, [], _∷_, _++_, map}
-use mathlib.Core.Path.{_≡_, subst, _∙_}
+use mathlib.Core.Path.{_≡_, refl, subst, _∙_}
 use native.Mathlib.Omega.{arith}
 use lib.ListN.{length, take, drop, length-map}
 use lib.Seq.{take-at}
 use lib.IntN.{ℤ}
-use Rattle.refusals.specs.Outcome.{answered, onAccepted}
+use Rattle.refusals.specs.Outcome.{Outcome, accepted, refused, answered, onAccepted}
 use Rattle.table.specs.Table.{Table}
 use Rattle.station.specs.Station as station
 use Rattle.month_prepared.specs.Prepared.{Month}
@@ -18,13 +19,15 @@ use Rattle.heights.specs.Series.{seriesFrom, seriesOf}
 use Rattle.heights.proofs.distance.Distance.{height-is-near}
 use Rattle.turns.specs.Search.{Turn, minutesOf}
 use Rattle.turns.specs.Written.{TurnsGiven, fromFront}
-use Rattle.calls.specs.State.{Maybe}
+use Rattle.calls.specs.State.{Maybe, State}
 use Rattle.calls.specs.Calls.{heightReturns, seriesHeights, seriesGives, turnsGives}
 use Rattle.calls.specs.Asked.{minuteOutside, seriesOutside}
 use Rattle.calls.specs.declared.annual.Sheet.{Sheet}
 use Rattle.calls.specs.Year.{yearGives}
+use Rattle.calls.specs.Bookings.{bookingsHeights, bookingsGives}
+use Rattle.calls.proofs.Singly.{as-single-requests}
 use Rattle.calls.proofs.Posed.{height-of, series-of}
-use Rattle.claim.specs.Document.{Request, Cards, Station, Date, Height, Series, Turns, Year, Names, Last, workedOut, after, gives, givesAll, Point, heightPoints, pointsFrom, seriesPoints, pointsOf, turnsPoints, sheetPoints, points, preparedMonth, monthsOn, monthsFor, AllNear, nil, cons, EachNear, end, next}
+use Rattle.claim.specs.Document.{Request, Cards, Station, Date, Height, Series, Turns, Year, Bookings, Names, Last, workedOut, after, gives, givesAll, Point, heightPoints, pointsFrom, seriesPoints, pointsOf, turnsPoints, sheetPoints, bookingsPoints, points, preparedMonth, monthsOn, monthsFor, AllNear, nil, cons, EachNear, end, next}
 use Rattle.claim.proofs.Given.{ready-by, all-found, turns-give, as-many, year-gives}
 
 -- ---- one height, of a month alone and of months that follow one another
@@ -97,9 +100,31 @@ module _ (t : Maybe Table) (s : Maybe station.Station) (m : Maybe Month) where
       year-gives (λ months y. AllNear months (sheetPoints sheet y)) sheet ss ms hs (λ months number place. nil) (λ months ts.
       both-near _ _ (series-near months (heightOver months) (over-near months) (sheet .start) (sheet .step) (length ss)) (turns-near months (heightOver months) (over-near months) ts ms hs)) t s m
 
+  abbrev before : State
+  before = record { table = t; station = s; month = m }
+
+  -- bookings, each as a single height
+  singly-given : (ms : List ℕ) (hs : List ℤ) → map (heightReturns before) ms ≡ map accepted hs → AllNear (preparedMonth m) (pointsOf ms hs)
+  unfolding pointsOf
+  singly-given [] hs e = nil
+  singly-given (minute ∷ ms) [] e = nil
+  singly-given (minute ∷ ms) (h ∷ hs) e =
+      let one : heightReturns before minute ≡ accepted h = cc in
+      let more : map (heightReturns before) ms ≡ map accepted hs = cc in
+      both-near (record { minute = minute; height = h } ∷ []) (pointsOf ms hs) (subst (λ (o : Outcome ℤ). AllNear (preparedMonth m) (heightPoints minute o)) one (height-given minute)) (singly-given ms hs more)
+
+  bookings-given : (minutes : List ℕ) (heights : List ℤ)
+      → AllNear (preparedMonth m) (bookingsPoints minutes (bookingsGives before minutes heights .returned) (bookingsGives before minutes heights .heights))
+  unfolding bookingsGives
+  bookings-given minutes heights = by (bookingsHeights before minutes (length heights)) refl
+    where
+      by : (o : Outcome (List ℤ)) → bookingsHeights before minutes (length heights) ≡ o → AllNear (preparedMonth m) (bookingsPoints minutes (answered o) (onAccepted o (λ hs. hs) heights))
+      by (accepted hs) e = singly-given minutes hs (as-single-requests before minutes (length heights) hs e)
+      by (refused number place) e = nil
+
 -- ---- the list
 
-near-call : (l : Last) (q : Request) → AllNear (monthsFor l q) (points q (gives l q))
+pub near-call : (l : Last) (q : Request) → AllNear (monthsFor l q) (points q (gives l q))
 unfolding gives
 near-call l (Cards file) = nil
 near-call l (Station latitude records) = nil
@@ -109,6 +134,7 @@ near-call l (Height minute) = height-given (workedOut l .table) (workedOut l .st
 near-call l (Series start step heights) = series-given (workedOut l .table) (workedOut l .station) (workedOut l .month) start step heights
 near-call l (Turns first last minutes heights) = turns-given (workedOut l .table) (workedOut l .station) (workedOut l .month) first last minutes heights
 near-call l (Year sheet series minutes heights) = year-given (workedOut l .table) (workedOut l .station) (workedOut l .month) sheet series minutes heights
+near-call l (Bookings minutes heights) = bookings-given (workedOut l .table) (workedOut l .station) (workedOut l .month) minutes heights
 
 pub near-calls : (l : Last) (qs : List Request) → EachNear l qs (givesAll l qs)
 unfolding givesAll

@@ -32,7 +32,7 @@ use Rattle.cuvalimodo_c.specs.declared.answers.Verdict.{Verdict}
 use Rattle.cuvalimodo_c.specs.declared.answers.Reading.{Reading}
 use Rattle.cuvalimodo_c.specs.declared.answers.Turnings.{Turnings}
 use Rattle.cuvalimodo_c.specs.Answers.{verdictReturned, readingReturned, turningsReturned}
-use Rattle.claim.specs.Document.{Request, Cards, Station, Date, Height, Series, Turns, Year, Names, Gave, told, predicted, wrote, found, filled, named}
+use Rattle.claim.specs.Document.{Request, Cards, Station, Date, Height, Series, Turns, Year, Bookings, Names, Gave, told, predicted, wrote, found, filled, named}
 use Rattle.claim.specs.Zeroed.{zeroed}
 use Rattle.clock.proofs.new as new
 use Rattle.clock.proofs.load_cards as load
@@ -44,6 +44,8 @@ use Rattle.clock.proofs.height_lent as heightLent
 use Rattle.clock.proofs.series as series
 use Rattle.clock.proofs.turns as turns
 use Rattle.clock.proofs.year as year
+use Rattle.clock.proofs.bookings as booking
+use Rattle.clock.proofs.bookings_lent as bookingLent
 use Rattle.clock.proofs.names as names
 use Rattle.cuvalimodo_c.proofs.cuvalimodo_new as heldNew
 use Rattle.cuvalimodo_c.proofs.cuvalimodo_load_cards as heldLoad
@@ -53,6 +55,7 @@ use Rattle.cuvalimodo_c.proofs.cuvalimodo_height as heldHeight
 use Rattle.cuvalimodo_c.proofs.cuvalimodo_series as heldSeries
 use Rattle.cuvalimodo_c.proofs.cuvalimodo_turns as heldTurns
 use Rattle.cuvalimodo_c.proofs.cuvalimodo_year as heldYear
+use Rattle.cuvalimodo_c.proofs.cuvalimodo_bookings as heldBooking
 use Rattle.cuvalimodo_c.proofs.cuvalimodo_names as heldNames
 
 -- What is known of a call whose `requires` is P and whose `ensures` is Q, at every model of the logic: where a plain fact φ gives P, and Q
@@ -83,7 +86,7 @@ pub data New : Clock → Type 2 where
   zeros : New zeroed
 
 -- One call: the clock that it gets, the call with all that is lent to it, what it gives, and the clock that it leaves. (Heights, series,
--- turns, years and names take the clock by value, or are lent it to be read, and give none back: what they leave is what they got.)
+-- turns, years, bookings and names take the clock by value, or are lent it to be read, and give none back: what they leave is what they got.)
 pub data Call : Clock → Request → Gave → Clock → Type 2 where
   loads : {κs : Lfts 1} {c : Clock} {file : RefT (List ℕ)} {r : After}
       → Once load.ended (λ M. load.clauses) κs (c, (file, tt)) r (tt, (tt, tt))
@@ -110,6 +113,9 @@ pub data Call : Clock → Request → Gave → Clock → Type 2 where
   years : {κs : Lfts 3} {c : Clock} {sheet : Sheet} {ss : RefT (List ℤ)} {ms : RefT (List ℕ)} {hs : RefT (List ℤ)} {ss′ : List ℤ} {ms′ : List ℕ} {hs′ : List ℤ} {r : TurnsAnswer}
       → Once year.ended (λ M. year.clauses) κs (c, (sheet, (ss, (ms, (hs, tt))))) r (tt, (tt, (ss′, (ms′, (hs′, tt)))))
       → Call c (Year sheet (now ss) (now ms) (now hs)) (filled (record { returned = turnsReturned r; series = ss′; minutes = ms′; heights = hs′ })) c
+  bookings : {κs : Lfts 2} {c : Clock} {minutes : RefT (List ℕ)} {before : RefT (List ℤ)} {after : List ℤ} {r : Answer}
+      → Once booking.ended (λ M. booking.clauses) κs (c, (minutes, (before, tt))) r (tt, (tt, (after, tt)))
+      → Call c (Bookings (now minutes) (now before)) (wrote (record { returned = outcomeOf r; heights = after })) c
   hands : {c : Clock} {r : TableNames}
       → Once names.ended (λ M. names.clauses) tt (c, tt) r (tt, tt)
       → Call c Names (named (namesFrom (r .bytes) 0 (r .count))) c
@@ -138,6 +144,12 @@ pub data Call : Clock → Request → Gave → Clock → Type 2 where
   heldYears : {κs : Lfts 4} {clock : RefT Clock} {sheet : Sheet} {ss : RefT (List ℤ)} {ms : RefT (List ℕ)} {hs : RefT (List ℤ)} {ss′ : List ℤ} {ms′ : List ℕ} {hs′ : List ℤ} {r : Turnings}
       → Once heldYear.ended (λ M. heldYear.clauses) κs (clock, (sheet .year, (sheet .start, (sheet .step, (sheet .first, (sheet .last, (ss, (ms, (hs, tt))))))))) r (tt, (tt, (tt, (tt, (tt, (tt, (ss′, (ms′, (hs′, tt)))))))))
       → Call (now clock) (Year sheet (now ss) (now ms) (now hs)) (filled (record { returned = turningsReturned r; series = ss′; minutes = ms′; heights = hs′ })) (now clock)
+  lentBookings : {κs : Lfts 3} {clock : RefT Clock} {minutes : RefT (List ℕ)} {before : RefT (List ℤ)} {after : List ℤ} {r : Answer}
+      → Once bookingLent.ended (λ M. bookingLent.clauses) κs (clock, (minutes, (before, tt))) r (tt, (tt, (after, tt)))
+      → Call (now clock) (Bookings (now minutes) (now before)) (wrote (record { returned = outcomeOf r; heights = after })) (now clock)
+  heldBookings : {κs : Lfts 3} {clock : RefT Clock} {minutes : RefT (List ℕ)} {before : RefT (List ℤ)} {after : List ℤ} {r : Verdict}
+      → Once heldBooking.ended (λ M. heldBooking.clauses) κs (clock, (minutes, (before, tt))) r (tt, (tt, (after, tt)))
+      → Call (now clock) (Bookings (now minutes) (now before)) (wrote (record { returned = verdictReturned r; heights = after })) (now clock)
   heldHands : {κs : Lfts 1} {clock : RefT Clock} {r : TableNames}
       → Once heldNames.ended (λ M. heldNames.clauses) κs (clock, tt) r (tt, tt)
       → Call (now clock) Names (named (namesFrom (r .bytes) 0 (r .count))) (now clock)

@@ -1,5 +1,5 @@
--- 01, demand 3: THE CLAIM, as it is proved (proofs/Claim.antt), and what it says of a single height, of a series, of turns and of a year's
--- sheet (proofs/AtEachHeight.antt).
+-- 01, demand 3: THE CLAIM, as it is proved (proofs/Claim.antt), and what it says of a single height, of a series, of turns, of a year's
+-- sheet and of bookings (proofs/AtEachHeight.antt).
 -- Assumes nothing.
 use Prim.Native.Nat.{ℕ, _+_, _*_, _<_}
 use mathlib.Core.Bool.{Bool}
@@ -11,7 +11,7 @@ use Rattle.heights.specs.Exact.{Near, NearOver}
 use Rattle.refusals.specs.Outcome.{accepted}
 use Rattle.calls.specs.declared.annual.Sheet.{Sheet}
 use Rattle.clock.specs.declared.Clock.{Clock}
-use Rattle.claim.specs.Document.{Request, Height, Series, Turns, Year, Gave, predicted, wrote, found, filled, Last, nothing, lastConstituents, lastYear, givesAll, lastAfter, EachNear}
+use Rattle.claim.specs.Document.{Request, Height, Series, Turns, Year, Bookings, Gave, predicted, wrote, found, filled, Last, nothing, lastConstituents, lastYear, gives, givesAll, lastAfter, EachNear}
 use Rattle.claim.specs.Calls.{New, Calls}
 
 -- `exactly`: what the calls return and write is what the document gives for the list, all of it and no other: each call accepted or refused
@@ -67,3 +67,12 @@ OfAYearsTurns =
     (qs : List Request) (gs : List Gave) (sheet : Sheet) (ss ss′ : List ℤ) (ms ms′ : List ℕ) (hs hs′ : List ℤ) (count : ℕ) (high : Bool)
     → Claim (qs ++ Year sheet ss ms hs ∷ []) (gs ++ filled (record { returned = accepted (record { count = count; high = high }); series = ss′; minutes = ms′; heights = hs′ }) ∷ [])
     → (n : ℕ) → n < count → NearOver (lastYear (Before qs) (sheet .year)) (getD ms′ n 0) (getD hs′ n (pos 0))
+
+-- 02, No. 3: "The height at each place must equal the one that a single request gives for the minute at that place, with its distance"
+abbrev pub OfBookings : Type 0
+OfBookings =
+    (qs : List Request) (gs : List Gave) (minutes : List ℕ) (before after : List ℤ)
+    → Claim (qs ++ Bookings minutes before ∷ []) (gs ++ wrote (record { returned = accepted tt; heights = after }) ∷ [])
+    → (n : ℕ) → n < length after
+    → (predicted (accepted (getD after n (pos 0))) ≡ gives (Before qs) (Height (getD minutes n 0)))
+    × Near (lastConstituents (Before qs)) (getD minutes n 0) (getD after n (pos 0))

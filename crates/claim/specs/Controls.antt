@@ -20,38 +20,40 @@ use Rattle.clock.specs.declared.TableNames.{TableNames}
 use Rattle.clock.specs.View.{view}
 use Rattle.calls.specs.Names.{namesIn}
 use Rattle.clock.specs.Returned.{heightReturned, turnsReturned}
-use Rattle.clock.specs.Posts.{NewPost, CardsPost, StationPost, DatePost, HeightPost, SeriesPost, TurnsPost, YearPost}
+use Rattle.clock.specs.Posts.{NewPost, CardsPost, StationPost, DatePost, HeightPost, SeriesPost, TurnsPost, YearPost, BookingsPost}
 use Rattle.cuvalimodo_c.specs.declared.answers.Verdict.{Verdict}
 use Rattle.cuvalimodo_c.specs.declared.answers.Reading.{Reading}
 use Rattle.cuvalimodo_c.specs.declared.answers.Turnings.{Turnings}
 use Rattle.cuvalimodo_c.specs.Answers.{verdictReturned, readingReturned, turningsReturned, Plain, PlainReading, PlainTurnings}
-use Rattle.claim.specs.Document.{Request, Cards, Station, Date, Height, Series, Turns, Year, Names, Gave, told, predicted, wrote, found, filled, named}
+use Rattle.claim.specs.Document.{Request, Cards, Station, Date, Height, Series, Turns, Year, Bookings, Names, Gave, told, predicted, wrote, found, filled, named}
 use Rattle.claim.specs.Calls.{New, Call, Calls}
 
 -- the calls of the papers, and what a clock with no table gives for them: an empty card file ends inside its first part, 7 at line 1; the others find
--- no table, 21, and leave the lent places as they were
+-- no table, 21, and leave the lent places as they were (bookings too, which have a place too few: "31, [..] after the state checks")
 abbrev pub aSheet : Sheet
 aSheet = record { year = 1976; start = 0; step = 1; first = 0; last = 1 }
 
 abbrev each : List Request
 each =
     Cards [] ∷ Station (pos 0) [] ∷ Date 1976 7 ∷ Height 0 ∷ Series 0 1 (pos 5 ∷ []) ∷ Turns 0 1 (9 ∷ []) (pos 5 ∷ [])
-    ∷ Year aSheet (pos 3 ∷ []) (9 ∷ []) (pos 5 ∷ []) ∷ []
+    ∷ Year aSheet (pos 3 ∷ []) (9 ∷ []) (pos 5 ∷ []) ∷ Bookings (9 ∷ 0 ∷ []) (pos 5 ∷ []) ∷ []
 
 abbrev refusals : List Gave
 refusals =
     told (refused 7 1) ∷ told (refused 21 0) ∷ told (refused 21 0) ∷ predicted (refused 21 0)
     ∷ wrote (record { returned = refused 21 0; heights = pos 5 ∷ [] })
     ∷ found (record { returned = refused 21 0; minutes = 9 ∷ []; heights = pos 5 ∷ [] })
-    ∷ filled (record { returned = refused 21 0; series = pos 3 ∷ []; minutes = 9 ∷ []; heights = pos 5 ∷ [] }) ∷ []
+    ∷ filled (record { returned = refused 21 0; series = pos 3 ∷ []; minutes = 9 ∷ []; heights = pos 5 ∷ [] })
+    ∷ wrote (record { returned = refused 21 0; heights = pos 5 ∷ [] }) ∷ []
 
--- a list with each kind of call in it: a call of the papers with the clock by value, and with the clock lent; a height of `clock::height_lent`, a
--- station whose records are in arrays, and the names, of which there are none, with the clock by value and lent
+-- a list with each kind of call in it: a call of the papers with the clock by value, and with the clock lent; a height of `clock::height_lent` and
+-- bookings of `clock::bookings_lent`, a station whose records are in arrays, and the names, of which there are none, with the clock by value and lent
 abbrev pub eachKind : List Request
-eachKind = each ++ each ++ Height 0 ∷ Station (pos 0) [] ∷ Names ∷ Names ∷ []
+eachKind = each ++ each ++ Height 0 ∷ Bookings (9 ∷ 0 ∷ []) (pos 5 ∷ []) ∷ Station (pos 0) [] ∷ Names ∷ Names ∷ []
 
 abbrev pub eachRefused : List Gave
-eachRefused = refusals ++ refusals ++ predicted (refused 21 0) ∷ told (refused 21 0) ∷ named [] ∷ named [] ∷ []
+eachRefused =
+    refusals ++ refusals ++ predicted (refused 21 0) ∷ wrote (record { returned = refused 21 0; heights = pos 5 ∷ [] }) ∷ told (refused 21 0) ∷ named [] ∷ named [] ∷ []
 
 pub record Controls : Type 2 where
   pub new : (c : Clock) → NewPost c → New c
@@ -68,6 +70,8 @@ pub record Controls : Type 2 where
       → Call c (Turns first last ms hs) (found (record { returned = turnsReturned answer; minutes = ms′; heights = hs′ })) c
   pub year : (c : Clock) (sheet : Sheet) (ss ss′ : List ℤ) (ms ms′ : List ℕ) (hs hs′ : List ℤ) (answer : TurnsAnswer) → YearPost c sheet ss ss′ ms ms′ hs hs′ (turnsReturned answer)
       → Call c (Year sheet ss ms hs) (filled (record { returned = turnsReturned answer; series = ss′; minutes = ms′; heights = hs′ })) c
+  pub bookings : (c : Clock) (minutes : List ℕ) (hs hs′ : List ℤ) (answer : Answer) → BookingsPost c minutes hs hs′ (outcomeOf answer)
+      → Call c (Bookings minutes hs) (wrote (record { returned = outcomeOf answer; heights = hs′ })) c
   pub names : (c : Clock) (r : TableNames) → namesFrom (r .bytes) 0 (r .count) ≡ namesIn (view c) → Call c Names (named (namesFrom (r .bytes) 0 (r .count))) c
   -- with the clock lent: c is what is behind the reference
   pub held-new : (c c′ : Clock) → NewPost c′ → New c′
@@ -83,5 +87,9 @@ pub record Controls : Type 2 where
       → Call c (Turns first last ms hs) (found (record { returned = turningsReturned r; minutes = ms′; heights = hs′ })) c
   pub held-year : (c : Clock) (sheet : Sheet) (ss ss′ : List ℤ) (ms ms′ : List ℕ) (hs hs′ : List ℤ) (r : Turnings) → YearPost c sheet ss ss′ ms ms′ hs hs′ (turningsReturned r) → PlainTurnings r
       → Call c (Year sheet ss ms hs) (filled (record { returned = turningsReturned r; series = ss′; minutes = ms′; heights = hs′ })) c
+  pub lent-bookings : (c : Clock) (minutes : List ℕ) (hs hs′ : List ℤ) (answer : Answer) → BookingsPost c minutes hs hs′ (outcomeOf answer)
+      → Call c (Bookings minutes hs) (wrote (record { returned = outcomeOf answer; heights = hs′ })) c
+  pub held-bookings : (c : Clock) (minutes : List ℕ) (hs hs′ : List ℤ) (r : Verdict) → BookingsPost c minutes hs hs′ (verdictReturned r) → Plain r
+      → Call c (Bookings minutes hs) (wrote (record { returned = verdictReturned r; heights = hs′ })) c
   pub held-names : (c : Clock) (r : TableNames) → namesFrom (r .bytes) 0 (r .count) ≡ namesIn (view c) → Call c Names (named (namesFrom (r .bytes) 0 (r .count))) c
   pub each-kind : (c : Clock) → NewPost c → Calls c eachKind eachRefused c

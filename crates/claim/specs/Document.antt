@@ -1,4 +1,4 @@
--- 01, "Heights and turns", demand 3, and 02, No. 1: what the documents say of a list of calls. Over the calls alone, with all that is lent to them:
+-- 01, "Heights and turns", demand 3, and 02, No. 1 and 3: what the documents say of a list of calls. Over the calls alone, with all that is lent to them:
 -- no clock, and nothing that a program keeps.
 -- Assumes nothing.
 use Prim.{Unit}
@@ -20,10 +20,11 @@ use Rattle.turns.specs.Written.{TurnsFound, TurnsGiven}
 use Rattle.calls.specs.Calls.{cardsReturns, stationReturns, dateGives, dateReturns, heightReturns, SeriesGiven, seriesGives, turnsGives}
 use Rattle.calls.specs.declared.annual.Sheet.{Sheet}
 use Rattle.calls.specs.Year.{yearAsked, YearGiven, yearGives}
+use Rattle.calls.specs.Bookings.{bookingsGives}
 
 -- "The calls are a card file, a station, a date, a height, a series and turns", each with all that is lent to it; "A call that a change request
--- adds to the clock joins the list": 02's year; and, though it is no call of the papers and gives nothing of the tide, the clock's handing out of
--- names
+-- adds to the clock joins the list": 02's year and its bookings, "a list of minutes, in any order and with repeats"; and, though it is no call of the
+-- papers and gives nothing of the tide, the clock's handing out of names
 pub data Request : Type 0 where
   Cards : List ℕ → Request
   Station : ℤ → List Record → Request
@@ -32,6 +33,7 @@ pub data Request : Type 0 where
   Series : ℕ → ℕ → List ℤ → Request
   Turns : ℕ → ℕ → List ℕ → List ℤ → Request
   Year : Sheet → List ℤ → List ℕ → List ℤ → Request
+  Bookings : List ℕ → List ℤ → Request
   Names : Request
 
 -- what a call gives: what it returns, and its lent buffers as it leaves them
@@ -93,6 +95,8 @@ after l (Series start step heights) = l
 after l (Turns first end minutes heights) = l
 -- "the prepared month stays, whether the year is given or refused"
 after l (Year sheet series minutes heights) = l
+-- "a call that a request adds leaves table, station and month as they were"
+after l (Bookings minutes heights) = l
 after l Names = l
 
 -- what the document gives for a call, from what was last accepted before it
@@ -104,6 +108,7 @@ gives l (Height minute) = predicted (heightReturns (workedOut l) minute)
 gives l (Series start step heights) = wrote (seriesGives (workedOut l) start step heights)
 gives l (Turns first end minutes heights) = found (turnsGives (workedOut l) first end minutes heights)
 gives l (Year sheet series minutes heights) = filled (yearGives (workedOut l) sheet series minutes heights)
+gives l (Bookings minutes heights) = wrote (bookingsGives (workedOut l) minutes heights)
 gives l Names = named (namesIn (workedOut l))
 
 -- what it gives for each call of a list, the first one first
@@ -148,6 +153,10 @@ abbrev pub sheetPoints : Sheet → YearGiven → List Point
 sheetPoints sheet y =
     seriesPoints (sheet .start) (sheet .step) (y .returned) (y .series) ++ turnsPoints (y .returned) (y .minutes) (y .heights)
 
+-- "The height at each place must equal the one that a single request gives for the minute at that place, with its distance"
+abbrev pub bookingsPoints : {A : Type 0} → List ℕ → Outcome A → List ℤ → List Point
+bookingsPoints minutes returned heights = onAccepted returned (λ _. pointsOf minutes heights) []
+
 -- "The claim covers each height that a call in the list gives"
 abbrev pub points : Request → Gave → List Point
 points (Cards file) g = []
@@ -178,6 +187,12 @@ points (Year sheet series minutes heights) (wrote s) = []
 points (Year sheet series minutes heights) (found t) = []
 points (Year sheet series minutes heights) (filled y) = sheetPoints sheet y
 points (Year sheet series minutes heights) (named names) = []
+points (Bookings minutes heights) (told r) = []
+points (Bookings minutes heights) (predicted r) = []
+points (Bookings minutes heights) (wrote s) = bookingsPoints minutes (s .returned) (s .heights)
+points (Bookings minutes heights) (found t) = []
+points (Bookings minutes heights) (filled y) = []
+points (Bookings minutes heights) (named names) = []
 
 -- V, P and Q of the station's constituents, worked out from what was last accepted
 abbrev pub constituentsThere : Maybe Month → List Constituent
@@ -208,6 +223,7 @@ monthsFor l (Height minute) = preparedMonth (workedOut l .month)
 monthsFor l (Series start step heights) = preparedMonth (workedOut l .month)
 monthsFor l (Turns first end minutes heights) = preparedMonth (workedOut l .month)
 monthsFor l (Year sheet series minutes heights) = lastYear l (sheet .year)
+monthsFor l (Bookings minutes heights) = preparedMonth (workedOut l .month)
 monthsFor l Names = preparedMonth (workedOut l .month)
 
 -- each point near the exact sum of the month that owns its minute

@@ -57,11 +57,12 @@ use Rattle.calls.specs.Names.{namesIn}
 use Rattle.refusals.specs.Outcome.{accepted}
 use Rattle.calls.specs.Calls.{cardsReturns, stationReturns, dateGives, dateReturns, heightReturns, seriesHeights, seriesGives, turnsGives}
 use Rattle.calls.specs.Year.{sheetAsked, yearGives}
+use Rattle.calls.specs.Bookings.{minutesFrom, bookingsHeights, bookingsGives}
 use Rattle.clock.proofs.Clock.Laws as ClockLaws
 use Rattle.claim.specs.Zeroed.{zeroed, zeroOf}
 use Rattle.claim.proofs.Zeros.{zeros-are-zeroed}
 use Rattle.claim.specs.Document.{Last, workedOut, gives, after, givesAll}
-use Rattle.claim_runs.specs.Accepted.{z0, frequencyLine, fiveLine, mainLine, cardLines, ended, smallFile, z0-records, year-sheet, acceptedCalls, AcceptedByTheDocument, AcceptedFrom, AcceptedByTheMachine}
+use Rattle.claim_runs.specs.Accepted.{z0, frequencyLine, fiveLine, mainLine, cardLines, ended, smallFile, z0-records, year-sheet, threeMinutes, threePlaces, acceptedCalls, AcceptedByTheDocument, AcceptedFrom, AcceptedByTheMachine}
 use Rattle.claim_runs.specs.Values.{clockAt, zeroMemory}
 use Rattle.claim_runs.specs.Runs.{Started, GiveAll}
 use Rattle.claim_runs.proofs.EachKind.{all-reached, new-run, held-new-run}
@@ -143,6 +144,10 @@ year-is = refl
 height-is : heightAt z0-month 0 ≡ pos 100
 unfolding heightAt sumOfShares share angle fixedCosine fixedBase entry base added taken whole term factorial arc unit
 height-is = refl
+
+noon-is : heightAt z0-month 720 ≡ pos 100
+unfolding heightAt sumOfShares share angle fixedCosine fixedBase entry base added taken whole term factorial arc unit
+noon-is = refl
 
 over-is : heightOver z0-year 0 ≡ pos 100
 unfolding ownerOf
@@ -228,13 +233,17 @@ one-of-a-year : yearGives (workedOut afterDate) year-sheet (pos 0 ∷ []) [] [] 
 unfolding sheetAsked yearGives written.given seriesFrom between yearMinutes monthsDays monthDays isFourth
 one-of-a-year = rw (month-worked, year-is, over-is, stride-is, year-turns-are 357)
 
+bookings-given : bookingsGives (workedOut afterDate) threeMinutes threePlaces ≡ record { returned = accepted tt; heights = pos 100 ∷ pos 100 ∷ pos 100 ∷ [] }
+unfolding bookingsHeights bookingsGives minutesFrom
+bookings-given = rw (month-worked, height-is, noon-is)
+
 names-given : namesIn (workedOut afterDate) ≡ z0 ∷ []
 names-given = rw month-worked
 
 pub accepted-by-the-document : AcceptedByTheDocument
 unfolding givesAll gives after
 accepted-by-the-document =
-    rw (cards-accepted, none-accepted, station-accepted (some none-station), station-accepted none, date-accepted, height-given, series-given, one-given, turns-given, year-given, one-of-a-year, names-given)
+    rw (cards-accepted, none-accepted, station-accepted (some none-station), station-accepted none, date-accepted, height-given, series-given, one-given, turns-given, year-given, one-of-a-year, bookings-given, names-given)
 
 -- the machine's runs of these calls give what the document gives
 accepted-from : (vc : Val) → Started vc → AcceptedFrom vc

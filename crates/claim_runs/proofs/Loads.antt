@@ -120,6 +120,11 @@ pub heights-left : (σ : Memory) (hs hs′ : List ℤ) (b o : ℕ) (F : Assertio
 heights-left σ hs hs′ b o F n s =
     ∥∥₁-map (heights-read σ hs′ b o (emp (w₀ .𝓤) ∗ F) (in-front σ ⟦ cells (mem i64) hs′ b o ⟧₀ (emp (w₀ .𝓤)) F s)) (λ e. sym e ∙ ap (heightsAt σ b o) n)
 
+-- .. behind what lay there to be read
+pub heights-left-behind : (σ : Memory) (P : Fml) (hs hs′ : List ℤ) (b o : ℕ) (F : Assertion) → length hs′ ≡ length hs → σ ⊨ ⟦ fsep P (fsep (cells (mem i64) hs′ b o) ftrue) ⟧₀ ∗ F
+    → ∥ (hs′ ≡ heightsAt σ b o (length hs)) ∥₁
+heights-left-behind σ P hs hs′ b o F n s = heights-left σ hs hs′ b o (⟦ P ⟧₀ ∗ F) n (behind σ ⟦ P ⟧₀ ⟦ fsep (cells (mem i64) hs′ b o) ftrue ⟧₀ F s)
+
 pub turns-left : (σ : Memory) (ms ms′ : List ℕ) (b o : ℕ) (hs hs′ : List ℤ) (b₁ o₁ : ℕ) (F : Assertion) → length ms′ ≡ length ms → length hs′ ≡ length hs
     → σ ⊨ ⟦ fsep (cells (mem u32) ms′ b o) (fsep (cells (mem i64) hs′ b₁ o₁) ftrue) ⟧₀ ∗ F → ∥ ((ms′ ≡ minutesAt σ b o (length ms)) × (hs′ ≡ heightsAt σ b₁ o₁ (length hs))) ∥₁
 turns-left σ ms ms′ b o hs hs′ b₁ o₁ F m n s =

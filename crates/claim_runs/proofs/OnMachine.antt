@@ -15,6 +15,7 @@ use prog.Memory.{Memory}
 use prog.Routine.{Routine}
 use contract.Adequate.{Satisfies}
 use contract.Monad.{fact, factI, top}
+use denote.Builtin.{u32}
 use denote.Laws.{Is}
 use borrow.Fn.World.{w₀}
 use Rattle.refusals.specs.Outcome.{Outcome}
@@ -35,19 +36,19 @@ use Rattle.cuvalimodo_c.proofs.cuvalimodo_new as heldNew
 use Rattle.cuvalimodo_c.proofs.cuvalimodo_new.Symbol as heldNewCode
 use Rattle.cuvalimodo_c.proofs.cuvalimodo_new.Met as heldNewMet
 use Rattle.claim.specs.Zeroed.{zeroed}
-use Rattle.claim.specs.Document.{Request, Cards, Station, Date, Series, Turns, Year, Gave, told, predicted, wrote, found, filled, named, Last, nothing, after, gives, givesAll, lastAfter}
+use Rattle.claim.specs.Document.{Request, Cards, Station, Date, Series, Turns, Year, Bookings, Gave, told, predicted, wrote, found, filled, named, Last, nothing, after, gives, givesAll, lastAfter}
 use Rattle.claim.specs.Calls as call
 use Rattle.claim.specs.Calls.{Call}
 use Rattle.claim.proofs.Points.{near-calls}
 use Rattle.claim.proofs.Decided.{gave-once}
 use Rattle.claim.proofs.Claim.{Agrees, new-agrees, call-agrees}
-use Rattle.claim_runs.specs.Handed.{Assertion, _∗_, ⟦_⟧₀, _⊨_, Handed, value, sees, changes, At, Written, lieAfter, Ran, Leaves}
+use Rattle.claim_runs.specs.Handed.{Assertion, _∗_, ⟦_⟧₀, _⊨_, Handed, value, sees, changes, Lie, At, Written, lieAfter, Ran, Leaves}
 use Rattle.claim_runs.specs.Values.{clockIn, answerIn, turnsIn, verdictIn, turningsIn, clockAt}
-use Rattle.claim_runs.specs.Runs.{Run, loads, stations, placed, dates, heights, serieses, searches, years, hands, heldLoads, heldStations, heldDates, lentHeights, heldHeights, heldSerieses, heldSearches, heldYears, heldHands, Gives, Started, returned, left, zeros, Runs, done, _then_, GiveAll}
+use Rattle.claim_runs.specs.Runs.{Run, loads, stations, placed, dates, heights, serieses, searches, years, bookings, hands, heldLoads, heldStations, heldDates, lentHeights, heldHeights, heldSerieses, heldSearches, heldYears, lentBookings, heldBookings, heldHands, Gives, Started, returned, left, zeros, Runs, done, _then_, GiveAll}
 use Rattle.claim_runs.specs.OnMachine.{OfAnyRuns, Returns, EveryCallEnds, AlwaysEnds}
 use Rattle.claim_runs.proofs.Handing.{Came, comes, every-comes}
-use Rattle.claim_runs.proofs.Parameters.{clock-makes, clock-lawful, Callable, new-takes, load-call, station-call, placing-call, date-call, height-call, series-call, turns-call, year-call, names-call, clock-means, held-new-takes, held-load-call, held-station-call, held-date-call, lent-height-call, held-height-call, held-series-call, held-turns-call, held-year-call, held-names-call}
-use Rattle.claim_runs.proofs.Loads.{zeros-load, in-front, behind, value-loads, heights-left, turns-left, sheet-left}
+use Rattle.claim_runs.proofs.Parameters.{clock-makes, clock-lawful, Callable, new-takes, load-call, station-call, placing-call, date-call, height-call, series-call, turns-call, year-call, bookings-call, names-call, clock-means, held-new-takes, held-load-call, held-station-call, held-date-call, lent-height-call, held-height-call, held-series-call, held-turns-call, held-year-call, lent-bookings-call, held-bookings-call, held-names-call}
+use Rattle.claim_runs.proofs.Loads.{zeros-load, in-front, behind, value-loads, heights-left, heights-left-behind, turns-left, sheet-left}
 use Rattle.claim_runs.proofs.Laid.{laid}
 use Rattle.claim_runs.proofs.Values.{answer-reads, height-reads, turns-reads, names-read, after-reads, clock-is, verdict-reads, reading-reads, turnings-read}
 
@@ -102,9 +103,19 @@ module _ {vc : Val} (l : Last) (h : Holds vc l) where
       ∥∥₁-map (leaves is-clock k) (λ a.
       subst (λ (v : Val). (Leaves x (v, ws) × (gives l q ≡ told (verdictIn (x .value)))) × Holds v (after l q)) e ((lies, a .0 ∙ ap told (sym (verdict-reads r (x .value) is))), a .1)))
 
+  -- heights that are written are read off the memory at the end
+  left-wrote : {q : Request} {hs′ zs : List ℤ} {said : Outcome Unit} (Left : List ℤ → Type 1) (r : Outcome Unit) → r ≡ said → Left hs′ → Call (h .clock) q (wrote (record { returned = said; heights = hs′ })) (h .clock)
+      → ∥ (hs′ ≡ zs) ∥₁ → ∥ ((Left zs × (gives l q ≡ wrote (record { returned = r; heights = zs }))) × Holds vc (after l q)) ∥₁
+  left-wrote {q = q} {hs′ = hs′} Left r is lies k e =
+      ∥∥₁-elim e ∥∥₁-prop (λ there.
+      ∥∥₁-map (left-same k) (λ a. (
+        subst (λ (ys : List ℤ). Left ys × (gives l q ≡ wrote (record { returned = r; heights = ys }))) there (lies, a .0 ∙ ap (λ (o : Outcome Unit). wrote (record { returned = o; heights = hs′ })) (sym is)),
+        a .1,
+      )))
+
   -- a run gives what the document gives, and leaves a clock that holds what is worked out after it
   run-gives : {vc′ : Val} {q : Request} (x : Run vc q vc′) → ∥ (Gives x (gives l q) × Holds vc′ (after l q)) ∥₁
-  unfolding Gives load-call station-call placing-call date-call height-call series-call turns-call year-call names-call held-load-call held-station-call held-date-call lent-height-call held-height-call held-series-call held-turns-call held-year-call held-names-call
+  unfolding Gives load-call station-call placing-call date-call height-call series-call turns-call year-call bookings-call names-call held-load-call held-station-call held-date-call lent-height-call held-height-call held-series-call held-turns-call held-year-call lent-bookings-call held-bookings-call held-names-call
   run-gives (loads {file = file} {q = q} {b = b} {o = o} x) =
       ∥∥₁-elim (ran (load-call (h .clock) vc file q b o) (on-value x)) ∥∥₁-prop (λ k.
       ∥∥₁-map (left-anew (k .result) (k .is) (call.loads (k .once))) (λ a. ((k .leaves, a .0 ∙ ap told (sym (after-reads (k .result) (x .value) (k .is)))), a .1)))
@@ -122,13 +133,8 @@ module _ {vc : Val} (l : Last) (h : Holds vc l) where
       ∥∥₁-map (left-same (call.heights (k .once))) (λ a. ((k .leaves, a .0 ∙ ap predicted (sym (height-reads (k .result) (x .value) (k .is)))), a .1)))
   run-gives (serieses {start = start} {step = step} {vs = vs} {vt = vt} {hs = hs} {b = b} {o = o} x) =
       ∥∥₁-elim (ran (series-call (h .clock) vc start step vs vt hs b o) (on-value x)) ∥∥₁-prop (λ k.
-      let hs′ : List ℤ = k .last .1 .1 .1 .0 in
-      ∥∥₁-elim (heights-left (x .left) hs hs′ b o (x .rest) (k .as-many .0) (k .leaves)) ∥∥₁-prop (λ e.
-      ∥∥₁-map (left-same (call.serieses (k .once))) (λ a. (
-        subst (λ (zs : List ℤ). Leaves x (zs, tt) × (gives l (Series start step hs) ≡ wrote (record { returned = answerIn (x .value); heights = zs }))) e
-            (k .leaves, a .0 ∙ ap (λ (r : Outcome Unit). wrote (record { returned = r; heights = hs′ })) (sym (answer-reads (k .result) (x .value) (k .is)))),
-        a .1,
-      ))))
+      left-wrote {q = Series start step hs} (λ zs. Leaves x (zs, tt)) (answerIn (x .value)) (answer-reads (k .result) (x .value) (k .is)) (k .leaves) (call.serieses (k .once))
+      (heights-left (x .left) hs _ b o (x .rest) (k .as-many .0) (k .leaves)))
   run-gives (searches {first = first} {last = last} {vf = vf} {vl = vl} {ms = ms} {b = b} {o = o} {hs = hs} {b₁ = b₁} {o₁ = o₁} x) =
       ∥∥₁-elim (ran (turns-call (h .clock) vc first last vf vl ms b o hs b₁ o₁) (on-value x)) ∥∥₁-prop (λ k.
       let ms′ : List ℕ = k .last .1 .1 .1 .0 in
@@ -151,6 +157,10 @@ module _ {vc : Val} (l : Last) (h : Holds vc l) where
             (k .leaves, a .0 ∙ ap (λ (r : Outcome TurnsFound). filled (record { returned = r; series = ss′; minutes = ms′; heights = hs′ })) (sym (turns-reads (k .result) (x .value) (k .is)))),
         a .1,
       ))))
+  run-gives (bookings {minutes = minutes} {q = q} {b = b} {o = o} {hs = hs} {b₁ = b₁} {o₁ = o₁} x) =
+      ∥∥₁-elim (ran (bookings-call (h .clock) vc minutes q b o hs b₁ o₁) (on-value x)) ∥∥₁-prop (λ k.
+      left-wrote {q = Bookings minutes hs} (λ zs. Leaves x (zs, tt)) (answerIn (x .value)) (answer-reads (k .result) (x .value) (k .is)) (k .leaves) (call.bookings (k .once))
+      (heights-left-behind (x .left) (Lie u32 q minutes b o) hs _ b₁ o₁ (x .rest) (k .as-many .0) (k .leaves)))
   run-gives (hands x) =
       ∥∥₁-elim (ran (names-call (h .clock) vc) (on-value x)) ∥∥₁-prop (λ k.
       ∥∥₁-map (left-same (call.hands (k .once))) (λ a. ((k .leaves, a .0 ∙ ap named (sym (names-read (k .result) (x .value) (k .is)))), a .1)))
@@ -169,13 +179,8 @@ module _ {vc : Val} (l : Last) (h : Holds vc l) where
       ∥∥₁-map (left-same (call.heldHeights (k .once))) (λ a. ((k .leaves, a .0 ∙ ap predicted (sym (reading-reads (k .result) (x .value) (k .is)))), a .1)))
   run-gives (heldSerieses {s = s} {b = b} {o = o} {start = start} {step = step} {vs = vs} {vt = vt} {hs = hs} {b₁ = b₁} {o₁ = o₁} x) =
       ∥∥₁-elim (ran (held-series-call (h .clock) vc (h .is) s b o start step vs vt hs b₁ o₁) x) ∥∥₁-prop (λ k.
-      let hs′ : List ℤ = k .last .1 .1 .1 .0 in
-      ∥∥₁-elim (heights-left (x .left) hs hs′ b₁ o₁ (⟦ At ClockType.the-row s vc b o ⟧₀ ∗ x .rest) (k .as-many .0) (beside-clock x (hs′, tt) (k .leaves))) ∥∥₁-prop (λ e.
-      ∥∥₁-map (left-same (call.heldSerieses (k .once))) (λ a. (
-        subst (λ (zs : List ℤ). Leaves x (zs, tt) × (gives l (Series start step hs) ≡ wrote (record { returned = verdictIn (x .value); heights = zs }))) e
-            (k .leaves, a .0 ∙ ap (λ (r : Outcome Unit). wrote (record { returned = r; heights = hs′ })) (sym (verdict-reads (k .result) (x .value) (k .is)))),
-        a .1,
-      ))))
+      left-wrote {q = Series start step hs} (λ zs. Leaves x (zs, tt)) (verdictIn (x .value)) (verdict-reads (k .result) (x .value) (k .is)) (k .leaves) (call.heldSerieses (k .once))
+      (heights-left (x .left) hs _ b₁ o₁ (⟦ At ClockType.the-row s vc b o ⟧₀ ∗ x .rest) (k .as-many .0) (beside-clock x (k .last .1 .1 .1 .0, tt) (k .leaves))))
   run-gives (heldSearches {s = s} {b = b} {o = o} {first = first} {last = last} {vf = vf} {vl = vl} {ms = ms} {b₁ = b₁} {o₁ = o₁} {hs = hs} {b₂ = b₂} {o₂ = o₂} x) =
       ∥∥₁-elim (ran (held-turns-call (h .clock) vc (h .is) s b o first last vf vl ms b₁ o₁ hs b₂ o₂) x) ∥∥₁-prop (λ k.
       let ms′ : List ℕ = k .last .1 .1 .1 .0 in
@@ -198,6 +203,14 @@ module _ {vc : Val} (l : Last) (h : Holds vc l) where
             (k .leaves, a .0 ∙ ap (λ (r : Outcome TurnsFound). filled (record { returned = r; series = ss′; minutes = ms′; heights = hs′ })) (sym (turnings-read (k .result) (x .value) (k .is)))),
         a .1,
       ))))
+  run-gives (lentBookings {s = s} {b = b} {o = o} {minutes = minutes} {q = q} {b₁ = b₁} {o₁ = o₁} {hs = hs} {b₂ = b₂} {o₂ = o₂} x) =
+      ∥∥₁-elim (ran (lent-bookings-call (h .clock) vc (h .is) s b o minutes q b₁ o₁ hs b₂ o₂) x) ∥∥₁-prop (λ k.
+      left-wrote {q = Bookings minutes hs} (λ zs. Leaves x (zs, tt)) (answerIn (x .value)) (answer-reads (k .result) (x .value) (k .is)) (k .leaves) (call.lentBookings (k .once))
+      (heights-left-behind (x .left) (Lie u32 q minutes b₁ o₁) hs _ b₂ o₂ (⟦ At ClockType.the-row s vc b o ⟧₀ ∗ x .rest) (k .as-many .0) (beside-clock x (k .last .1 .1 .0, tt) (k .leaves))))
+  run-gives (heldBookings {s = s} {b = b} {o = o} {minutes = minutes} {q = q} {b₁ = b₁} {o₁ = o₁} {hs = hs} {b₂ = b₂} {o₂ = o₂} x) =
+      ∥∥₁-elim (ran (held-bookings-call (h .clock) vc (h .is) s b o minutes q b₁ o₁ hs b₂ o₂) x) ∥∥₁-prop (λ k.
+      left-wrote {q = Bookings minutes hs} (λ zs. Leaves x (zs, tt)) (verdictIn (x .value)) (verdict-reads (k .result) (x .value) (k .is)) (k .leaves) (call.heldBookings (k .once))
+      (heights-left-behind (x .left) (Lie u32 q minutes b₁ o₁) hs _ b₂ o₂ (⟦ At ClockType.the-row s vc b o ⟧₀ ∗ x .rest) (k .as-many .0) (beside-clock x (k .last .1 .1 .0, tt) (k .leaves))))
   run-gives (heldHands {s = s} {b = b} {o = o} x) =
       ∥∥₁-elim (ran (held-names-call (h .clock) vc (h .is) s b o) x) ∥∥₁-prop (λ k.
       ∥∥₁-map (left-same (call.heldHands (k .once))) (λ a. ((k .leaves, a .0 ∙ ap named (sym (names-read (k .result) (x .value) (k .is)))), a .1)))
@@ -220,6 +233,7 @@ module _ {vc : Val} (l : Last) (h : Holds vc l) where
         serieses = λ start step vs vt hs b o. ends-on (series-call (h .clock) vc start step vs vt hs b o);
         searches = λ first last vf vl ms b o hs b₁ o₁. ends-on (turns-call (h .clock) vc first last vf vl ms b o hs b₁ o₁);
         years = λ sheet vs ss b o ms b₁ o₁ hs b₂ o₂. ends-on (year-call (h .clock) vc sheet vs ss b o ms b₁ o₁ hs b₂ o₂);
+        bookings = λ minutes q b o hs b₁ o₁. ends-on (bookings-call (h .clock) vc minutes q b o hs b₁ o₁);
         hands = ends-on (names-call (h .clock) vc);
         laid = laid ClockType.the-row (clock-means (h .clock) vc (h .is)) clock-lawful;
         heldLoads = λ b o file q b₁ o₁. ends-lent (held-load-call (h .clock) vc (h .is) b o file q b₁ o₁);
@@ -230,6 +244,8 @@ module _ {vc : Val} (l : Last) (h : Holds vc l) where
         heldSerieses = λ s b o start step vs vt hs b₁ o₁. ends-lent (held-series-call (h .clock) vc (h .is) s b o start step vs vt hs b₁ o₁);
         heldSearches = λ s b o first last vf vl ms b₁ o₁ hs b₂ o₂. ends-lent (held-turns-call (h .clock) vc (h .is) s b o first last vf vl ms b₁ o₁ hs b₂ o₂);
         heldYears = λ s b o sheet vy vs vt vf vl ss b₁ o₁ ms b₂ o₂ hs b₃ o₃. ends-lent (held-year-call (h .clock) vc (h .is) s b o sheet vy vs vt vf vl ss b₁ o₁ ms b₂ o₂ hs b₃ o₃);
+        lentBookings = λ s b o minutes q b₁ o₁ hs b₂ o₂. ends-lent (lent-bookings-call (h .clock) vc (h .is) s b o minutes q b₁ o₁ hs b₂ o₂);
+        heldBookings = λ s b o minutes q b₁ o₁ hs b₂ o₂. ends-lent (held-bookings-call (h .clock) vc (h .is) s b o minutes q b₁ o₁ hs b₂ o₂);
         heldHands = λ s b o. ends-lent (held-names-call (h .clock) vc (h .is) s b o);
       }
 
@@ -255,6 +271,7 @@ gives-once (heights x) g = ×-prop (lies-once (x .left) _) (gave-once g _)
 gives-once (serieses x) g = ×-prop (lies-once (x .left) _) (gave-once g _)
 gives-once (searches x) g = ×-prop (lies-once (x .left) _) (gave-once g _)
 gives-once (years x) g = ×-prop (lies-once (x .left) _) (gave-once g _)
+gives-once (bookings x) g = ×-prop (lies-once (x .left) _) (gave-once g _)
 gives-once (hands x) g = ×-prop (lies-once (x .left) _) (gave-once g _)
 gives-once (heldLoads x) g = ×-prop (lies-once (x .left) _) (gave-once g _)
 gives-once (heldStations x) g = ×-prop (lies-once (x .left) _) (gave-once g _)
@@ -264,6 +281,8 @@ gives-once (heldHeights x) g = ×-prop (lies-once (x .left) _) (gave-once g _)
 gives-once (heldSerieses x) g = ×-prop (lies-once (x .left) _) (gave-once g _)
 gives-once (heldSearches x) g = ×-prop (lies-once (x .left) _) (gave-once g _)
 gives-once (heldYears x) g = ×-prop (lies-once (x .left) _) (gave-once g _)
+gives-once (lentBookings x) g = ×-prop (lies-once (x .left) _) (gave-once g _)
+gives-once (heldBookings x) g = ×-prop (lies-once (x .left) _) (gave-once g _)
 gives-once (heldHands x) g = ×-prop (lies-once (x .left) _) (gave-once g _)
 
 all-once : {vc vc′ : Val} {qs : List Request} (xs : Runs vc qs vc′) (gs : List Gave) → IsProp (GiveAll xs gs)

@@ -56,6 +56,12 @@ use Rattle.clock.proofs.turns.Met as turnsMet
 use Rattle.clock.proofs.year as year
 use Rattle.clock.proofs.year.Symbol as yearCode
 use Rattle.clock.proofs.year.Met as yearMet
+use Rattle.clock.proofs.bookings as booking
+use Rattle.clock.proofs.bookings.Symbol as bookingCode
+use Rattle.clock.proofs.bookings.Met as bookingMet
+use Rattle.clock.proofs.bookings_lent as lentBooking
+use Rattle.clock.proofs.bookings_lent.Symbol as lentBookingCode
+use Rattle.clock.proofs.bookings_lent.Met as lentBookingMet
 use Rattle.clock.proofs.names as names
 use Rattle.clock.proofs.names.Symbol as namesCode
 use Rattle.clock.proofs.names.Met as namesMet
@@ -81,6 +87,9 @@ use Rattle.cuvalimodo_c.proofs.cuvalimodo_turns.Met as heldTurnsMet
 use Rattle.cuvalimodo_c.proofs.cuvalimodo_year as heldYear
 use Rattle.cuvalimodo_c.proofs.cuvalimodo_year.Symbol as heldYearCode
 use Rattle.cuvalimodo_c.proofs.cuvalimodo_year.Met as heldYearMet
+use Rattle.cuvalimodo_c.proofs.cuvalimodo_bookings as heldBooking
+use Rattle.cuvalimodo_c.proofs.cuvalimodo_bookings.Symbol as heldBookingCode
+use Rattle.cuvalimodo_c.proofs.cuvalimodo_bookings.Met as heldBookingMet
 use Rattle.cuvalimodo_c.proofs.cuvalimodo_names as heldNames
 use Rattle.cuvalimodo_c.proofs.cuvalimodo_names.Symbol as heldNamesCode
 use Rattle.cuvalimodo_c.proofs.cuvalimodo_names.Met as heldNamesMet
@@ -236,6 +245,18 @@ module _ (c : Clock) (vc : Val) where
         takes = record { enters = λ ns. ((lifetimes all ns, wholes all, tt, denotes 0 all tt ns, valuesOf 0 all ns), (λ w. tt), refl, refl, refl); writes = λ ns ws. ((ws .1 .1 .0, (ws .1 .1 .1 .0, (ws .1 .1 .1 .1 .0, tt))), refl) };
       }
 
+  unfoldable pub bookings-call : (minutes : List ℕ) (q : Share) (b o : ℕ) (hs : List ℤ) (b₁ o₁ : ℕ) → Callable c bookingCode.routine (clock ∷ reads u32 q minutes b o ∷ writes i64 hs b₁ o₁ ∷ [])
+  bookings-call minutes q b o hs b₁ o₁ =
+      let all : List Handed = clock ∷ reads u32 q minutes b o ∷ writes i64 hs b₁ o₁ ∷ [] in
+      record {
+        ended = booking.ended;
+        clauses = λ M. booking.clauses;
+        met = λ M. bookingMet.met;
+        meant = tt;
+        makes = (clock-makes, tt);
+        takes = record { enters = λ ns. ((lifetimes all ns, wholes all, tt, denotes 0 all tt ns, valuesOf 0 all ns), (λ w. tt), refl, refl, refl); writes = λ ns ws. ((ws .1 .1 .0, tt), refl) };
+      }
+
   unfoldable pub names-call : Callable c namesCode.routine (clock ∷ [])
   names-call =
       let all : List Handed = clock ∷ [] in
@@ -353,6 +374,30 @@ module _ (c : Clock) (vc : Val) (is : Is ClockType.the-row c (vc ∷ [])) where
         meant = (clock-means, tt);
         makes = (clock-makes, (u32-makes, (u32-makes, (u32-makes, (u32-makes, (u32-makes, tt))))));
         takes = record { enters = λ ns. ((lifetimes all ns, wholes all, tt, denotes 0 all (clock-means, tt) ns, valuesOf 0 all ns), (λ w. tt), refl, refl, refl); writes = λ ns ws. ((ws .1 .1 .1 .1 .1 .1 .0, (ws .1 .1 .1 .1 .1 .1 .1 .0, (ws .1 .1 .1 .1 .1 .1 .1 .1 .0, tt))), refl) };
+      }
+
+  unfoldable pub lent-bookings-call : (s : Share) (b o : ℕ) (minutes : List ℕ) (q : Share) (b₁ o₁ : ℕ) (hs : List ℤ) (b₂ o₂ : ℕ) → Callable c lentBookingCode.routine (sees ClockType.the-row s vc b o ∷ reads u32 q minutes b₁ o₁ ∷ writes i64 hs b₂ o₂ ∷ [])
+  lent-bookings-call s b o minutes q b₁ o₁ hs b₂ o₂ =
+      let all : List Handed = sees ClockType.the-row s vc b o ∷ reads u32 q minutes b₁ o₁ ∷ writes i64 hs b₂ o₂ ∷ [] in
+      record {
+        ended = lentBooking.ended;
+        clauses = λ M. lentBooking.clauses;
+        met = λ M. lentBookingMet.met;
+        meant = (clock-means, tt);
+        makes = (clock-makes, tt);
+        takes = record { enters = λ ns. ((lifetimes all ns, wholes all, tt, denotes 0 all (clock-means, tt) ns, valuesOf 0 all ns), (λ w. tt), refl, refl, refl); writes = λ ns ws. ((ws .1 .1 .0, tt), refl) };
+      }
+
+  unfoldable pub held-bookings-call : (s : Share) (b o : ℕ) (minutes : List ℕ) (q : Share) (b₁ o₁ : ℕ) (hs : List ℤ) (b₂ o₂ : ℕ) → Callable c heldBookingCode.routine (sees ClockType.the-row s vc b o ∷ reads u32 q minutes b₁ o₁ ∷ writes i64 hs b₂ o₂ ∷ [])
+  held-bookings-call s b o minutes q b₁ o₁ hs b₂ o₂ =
+      let all : List Handed = sees ClockType.the-row s vc b o ∷ reads u32 q minutes b₁ o₁ ∷ writes i64 hs b₂ o₂ ∷ [] in
+      record {
+        ended = heldBooking.ended;
+        clauses = λ M. heldBooking.clauses;
+        met = λ M. heldBookingMet.met;
+        meant = (clock-means, tt);
+        makes = (clock-makes, tt);
+        takes = record { enters = λ ns. ((lifetimes all ns, wholes all, tt, denotes 0 all (clock-means, tt) ns, valuesOf 0 all ns), (λ w. tt), refl, refl, refl); writes = λ ns ws. ((ws .1 .1 .0, tt), refl) };
       }
 
   unfoldable pub held-names-call : (s : Share) (b o : ℕ) → Callable c heldNamesCode.routine (sees ClockType.the-row s vc b o ∷ [])

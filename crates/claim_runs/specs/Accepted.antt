@@ -5,7 +5,7 @@ use mathlib.Core.Path.{_≡_}
 use mathlib.Core.Bool.{false}
 use mathlib.Core.List.{List, [], _∷_, _++_}
 use lib.ListN.{replicate}
-use lib.IntN.{pos}
+use lib.IntN.{ℤ, pos}
 use mir.Val.{Val}
 use prog.Routine.{Routine}
 use Rattle.refusals.specs.Outcome.{accepted}
@@ -22,6 +22,8 @@ use Rattle.clock.proofs.height_lent.Symbol as lentHeightCode
 use Rattle.clock.proofs.series.Symbol as seriesCode
 use Rattle.clock.proofs.turns.Symbol as turnsCode
 use Rattle.clock.proofs.year.Symbol as yearCode
+use Rattle.clock.proofs.bookings.Symbol as bookingCode
+use Rattle.clock.proofs.bookings_lent.Symbol as lentBookingCode
 use Rattle.clock.proofs.names.Symbol as namesCode
 use Rattle.cuvalimodo_c.proofs.cuvalimodo_new.Symbol as heldNewCode
 use Rattle.cuvalimodo_c.proofs.cuvalimodo_load_cards.Symbol as heldLoadCode
@@ -31,8 +33,9 @@ use Rattle.cuvalimodo_c.proofs.cuvalimodo_height.Symbol as heldHeightCode
 use Rattle.cuvalimodo_c.proofs.cuvalimodo_series.Symbol as heldSeriesCode
 use Rattle.cuvalimodo_c.proofs.cuvalimodo_turns.Symbol as heldTurnsCode
 use Rattle.cuvalimodo_c.proofs.cuvalimodo_year.Symbol as heldYearCode
+use Rattle.cuvalimodo_c.proofs.cuvalimodo_bookings.Symbol as heldBookingCode
 use Rattle.cuvalimodo_c.proofs.cuvalimodo_names.Symbol as heldNamesCode
-use Rattle.claim.specs.Document.{Request, Cards, Station, Date, Height, Series, Turns, Year, Names, Gave, told, predicted, wrote, found, filled, named, nothing, givesAll}
+use Rattle.claim.specs.Document.{Request, Cards, Station, Date, Height, Series, Turns, Year, Bookings, Names, Gave, told, predicted, wrote, found, filled, named, nothing, givesAll}
 use Rattle.claim_runs.specs.Handed.{changes, Ran}
 use Rattle.claim_runs.specs.Values.{clockAt, zeroMemory}
 use Rattle.claim_runs.specs.Runs.{Started, Runs, GiveAll, routinesOf}
@@ -90,6 +93,13 @@ z0-records = z0-record ∷ []
 abbrev pub year-sheet : Sheet
 year-sheet = record { year = 1976; start = 0; step = 1; first = 0; last = 360 }
 
+-- "a list of minutes, in any order and with repeats": a later one first, and once more at the end; and a place for each height
+abbrev pub threeMinutes : List ℕ
+threeMinutes = 720 ∷ 0 ∷ 720 ∷ []
+
+abbrev pub threePlaces : List ℤ
+threePlaces = pos 0 ∷ pos 0 ∷ pos 0 ∷ []
+
 -- Z0, 100 tenths of a millimetre high, on the equator, in July 1976: by value, with a station that has no records before the other; and then
 -- over a clock that is lent, with a place for one height
 abbrev pub acceptedCalls : List Request
@@ -102,6 +112,7 @@ acceptedCalls =
     ∷ Series 0 1 []
     ∷ Turns 0 360 [] []
     ∷ Year year-sheet [] [] []
+    ∷ Bookings threeMinutes threePlaces
     ∷ Names
     ∷ Cards smallFile
     ∷ Station (pos 0) z0-records
@@ -111,6 +122,8 @@ acceptedCalls =
     ∷ Series 0 1 (pos 0 ∷ [])
     ∷ Turns 0 360 [] []
     ∷ Year year-sheet (pos 0 ∷ []) [] []
+    ∷ Bookings threeMinutes threePlaces
+    ∷ Bookings threeMinutes threePlaces
     ∷ Names
     ∷ []
 
@@ -125,6 +138,7 @@ acceptedRoutines =
     ∷ seriesCode.routine
     ∷ turnsCode.routine
     ∷ yearCode.routine
+    ∷ bookingCode.routine
     ∷ namesCode.routine
     ∷ heldLoadCode.routine
     ∷ heldStationCode.routine
@@ -134,6 +148,8 @@ acceptedRoutines =
     ∷ heldSeriesCode.routine
     ∷ heldTurnsCode.routine
     ∷ heldYearCode.routine
+    ∷ lentBookingCode.routine
+    ∷ heldBookingCode.routine
     ∷ heldNamesCode.routine
     ∷ []
 
@@ -148,6 +164,7 @@ allAccepted =
     ∷ wrote (record { returned = accepted tt; heights = [] })
     ∷ found (record { returned = accepted (record { count = 0; high = false }); minutes = []; heights = [] })
     ∷ filled (record { returned = accepted (record { count = 0; high = false }); series = []; minutes = []; heights = [] })
+    ∷ wrote (record { returned = accepted tt; heights = pos 100 ∷ pos 100 ∷ pos 100 ∷ [] })
     ∷ named (z0 ∷ [])
     ∷ told (accepted tt)
     ∷ told (accepted tt)
@@ -157,6 +174,8 @@ allAccepted =
     ∷ wrote (record { returned = accepted tt; heights = pos 100 ∷ [] })
     ∷ found (record { returned = accepted (record { count = 0; high = false }); minutes = []; heights = [] })
     ∷ filled (record { returned = accepted (record { count = 0; high = false }); series = pos 100 ∷ []; minutes = []; heights = [] })
+    ∷ wrote (record { returned = accepted tt; heights = pos 100 ∷ pos 100 ∷ pos 100 ∷ [] })
+    ∷ wrote (record { returned = accepted tt; heights = pos 100 ∷ pos 100 ∷ pos 100 ∷ [] })
     ∷ named (z0 ∷ [])
     ∷ []
 

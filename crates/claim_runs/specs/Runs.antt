@@ -30,6 +30,8 @@ use Rattle.clock.proofs.height_lent.Symbol as lentHeightCode
 use Rattle.clock.proofs.series.Symbol as seriesCode
 use Rattle.clock.proofs.turns.Symbol as turnsCode
 use Rattle.clock.proofs.year.Symbol as yearCode
+use Rattle.clock.proofs.bookings.Symbol as bookingCode
+use Rattle.clock.proofs.bookings_lent.Symbol as lentBookingCode
 use Rattle.clock.proofs.names.Symbol as namesCode
 use Rattle.cuvalimodo_c.proofs.cuvalimodo_new.Symbol as heldNewCode
 use Rattle.cuvalimodo_c.proofs.cuvalimodo_load_cards.Symbol as heldLoadCode
@@ -39,8 +41,9 @@ use Rattle.cuvalimodo_c.proofs.cuvalimodo_height.Symbol as heldHeightCode
 use Rattle.cuvalimodo_c.proofs.cuvalimodo_series.Symbol as heldSeriesCode
 use Rattle.cuvalimodo_c.proofs.cuvalimodo_turns.Symbol as heldTurnsCode
 use Rattle.cuvalimodo_c.proofs.cuvalimodo_year.Symbol as heldYearCode
+use Rattle.cuvalimodo_c.proofs.cuvalimodo_bookings.Symbol as heldBookingCode
 use Rattle.cuvalimodo_c.proofs.cuvalimodo_names.Symbol as heldNamesCode
-use Rattle.claim.specs.Document.{Request, Cards, Station, Date, Height, Series, Turns, Year, Names, Gave, told, predicted, wrote, found, filled, named}
+use Rattle.claim.specs.Document.{Request, Cards, Station, Date, Height, Series, Turns, Year, Bookings, Names, Gave, told, predicted, wrote, found, filled, named}
 use Rattle.claim_runs.specs.Handed.{value, reads, writes, sees, changes, Ran, Leaves}
 use Rattle.claim_runs.specs.Values.{answerIn, heightIn, turnsIn, tableNamesIn, minutesAt, heightsAt, answerPart, clockIn, verdictIn, readingIn, turningsIn, clockAt, zeroMemory}
 
@@ -78,6 +81,9 @@ pub data Run : Val → Request → Val → Type 2 where
   years : {vc : Val} {sheet : Sheet} {vs : Val} {ss : List ℤ} {b o : ℕ} {ms : List ℕ} {b₁ o₁ : ℕ} {hs : List ℤ} {b₂ o₂ : ℕ}
       → Ran yearCode.routine (vc ∷ []) (value SheetType.the-row sheet vs ∷ writes i64 ss b o ∷ writes u32 ms b₁ o₁ ∷ writes i64 hs b₂ o₂ ∷ [])
       → Run vc (Year sheet ss ms hs) vc
+  bookings : {vc : Val} {minutes : List ℕ} {q : Share} {b o : ℕ} {hs : List ℤ} {b₁ o₁ : ℕ}
+      → Ran bookingCode.routine (vc ∷ []) (reads u32 q minutes b o ∷ writes i64 hs b₁ o₁ ∷ [])
+      → Run vc (Bookings minutes hs) vc
   hands : {vc : Val} → Ran namesCode.routine (vc ∷ []) [] → Run vc Names vc
   -- the clock lies in memory and is lent: what lies there at the end is the clock that the call leaves
   heldLoads : {vc : Val} {b o : ℕ} {file : List ℕ} {q : Share} {b₁ o₁ : ℕ}
@@ -104,6 +110,12 @@ pub data Run : Val → Request → Val → Type 2 where
   heldYears : {vc : Val} {s : Share} {b o : ℕ} {sheet : Sheet} {vy vs vt vf vl : Val} {ss : List ℤ} {b₁ o₁ : ℕ} {ms : List ℕ} {b₂ o₂ : ℕ} {hs : List ℤ} {b₃ o₃ : ℕ}
       → Ran heldYearCode.routine [] (sees ClockType.the-row s vc b o ∷ value u32 (sheet .year) vy ∷ value u32 (sheet .start) vs ∷ value u32 (sheet .step) vt ∷ value u32 (sheet .first) vf ∷ value u32 (sheet .last) vl ∷ writes i64 ss b₁ o₁ ∷ writes u32 ms b₂ o₂ ∷ writes i64 hs b₃ o₃ ∷ [])
       → Run vc (Year sheet ss ms hs) vc
+  lentBookings : {vc : Val} {s : Share} {b o : ℕ} {minutes : List ℕ} {q : Share} {b₁ o₁ : ℕ} {hs : List ℤ} {b₂ o₂ : ℕ}
+      → Ran lentBookingCode.routine [] (sees ClockType.the-row s vc b o ∷ reads u32 q minutes b₁ o₁ ∷ writes i64 hs b₂ o₂ ∷ [])
+      → Run vc (Bookings minutes hs) vc
+  heldBookings : {vc : Val} {s : Share} {b o : ℕ} {minutes : List ℕ} {q : Share} {b₁ o₁ : ℕ} {hs : List ℤ} {b₂ o₂ : ℕ}
+      → Ran heldBookingCode.routine [] (sees ClockType.the-row s vc b o ∷ reads u32 q minutes b₁ o₁ ∷ writes i64 hs b₂ o₂ ∷ [])
+      → Run vc (Bookings minutes hs) vc
   heldHands : {vc : Val} {s : Share} {b o : ℕ} → Ran heldNamesCode.routine [] (sees ClockType.the-row s vc b o ∷ []) → Run vc Names vc
 
 -- What a run gave is g: g is read off the value that it returned and, where it wrote to a buffer, off the memory at its end; and the buffers
@@ -126,6 +138,9 @@ Gives (years {ss = ss} {b = b} {o = o} {ms = ms} {b₁ = b₁} {o₁ = o₁} {hs
     let ms′ : List ℕ = minutesAt (x .left) b₁ o₁ (length ms) in
     let hs′ : List ℤ = heightsAt (x .left) b₂ o₂ (length hs) in
     Leaves x (ss′, (ms′, (hs′, tt))) × (g ≡ filled (record { returned = turnsIn (x .value); series = ss′; minutes = ms′; heights = hs′ }))
+Gives (bookings {hs = hs} {b₁ = b₁} {o₁ = o₁} x) g =
+    let hs′ : List ℤ = heightsAt (x .left) b₁ o₁ (length hs) in
+    Leaves x (hs′, tt) × (g ≡ wrote (record { returned = answerIn (x .value); heights = hs′ }))
 Gives (hands x) g = Leaves x tt × (g ≡ named (tableNamesIn (x .value)))
 Gives (heldLoads {b = b} {o = o} x) g = Leaves x (clockAt (x .left) b o, tt) × (g ≡ told (verdictIn (x .value)))
 Gives (heldStations {b = b} {o = o} x) g = Leaves x (clockAt (x .left) b o, tt) × (g ≡ told (verdictIn (x .value)))
@@ -144,6 +159,12 @@ Gives (heldYears {ss = ss} {b₁ = b₁} {o₁ = o₁} {ms = ms} {b₂ = b₂} {
     let ms′ : List ℕ = minutesAt (x .left) b₂ o₂ (length ms) in
     let hs′ : List ℤ = heightsAt (x .left) b₃ o₃ (length hs) in
     Leaves x (ss′, (ms′, (hs′, tt))) × (g ≡ filled (record { returned = turningsIn (x .value); series = ss′; minutes = ms′; heights = hs′ }))
+Gives (lentBookings {hs = hs} {b₂ = b₂} {o₂ = o₂} x) g =
+    let hs′ : List ℤ = heightsAt (x .left) b₂ o₂ (length hs) in
+    Leaves x (hs′, tt) × (g ≡ wrote (record { returned = answerIn (x .value); heights = hs′ }))
+Gives (heldBookings {hs = hs} {b₂ = b₂} {o₂ = o₂} x) g =
+    let hs′ : List ℤ = heightsAt (x .left) b₂ o₂ (length hs) in
+    Leaves x (hs′, tt) × (g ≡ wrote (record { returned = verdictIn (x .value); heights = hs′ }))
 Gives (heldHands x) g = Leaves x tt × (g ≡ named (tableNamesIn (x .value)))
 
 -- the routine that was run
@@ -156,6 +177,7 @@ routineOf (heights x) = heightCode.routine
 routineOf (serieses x) = seriesCode.routine
 routineOf (searches x) = turnsCode.routine
 routineOf (years x) = yearCode.routine
+routineOf (bookings x) = bookingCode.routine
 routineOf (hands x) = namesCode.routine
 routineOf (heldLoads x) = heldLoadCode.routine
 routineOf (heldStations x) = heldStationCode.routine
@@ -165,6 +187,8 @@ routineOf (heldHeights x) = heldHeightCode.routine
 routineOf (heldSerieses x) = heldSeriesCode.routine
 routineOf (heldSearches x) = heldTurnsCode.routine
 routineOf (heldYears x) = heldYearCode.routine
+routineOf (lentBookings x) = lentBookingCode.routine
+routineOf (heldBookings x) = heldBookingCode.routine
 routineOf (heldHands x) = heldNamesCode.routine
 
 -- "Each later one gets the clock as the one before it returned or left it." What is done to the memory between two calls is the caller's.

@@ -2,6 +2,7 @@
 //
 // It takes a card file of 262,143 bytes and 65,536 places in each lent buffer. What asks for more ends the run as a line that is not of the form does.
 ghost use mathlib.Core.Path.{_≡_};
+ghost use Prim.Native.Nat.{_≤_};
 ghost use lib.ListN.{length};
 ghost use Rattle.clock.specs.View.{Made};
 ghost use Rattle.transcript.specs.inner.Posts.{Lent};
@@ -154,6 +155,20 @@ fn turns_call(
     put_turns(page, at, answer, minutes, heights)
 }
 
+// The line of a list of bookings, whose heights are worked out in the places that are lent.
+fn bookings_call(
+    clock: Clock,
+    minutes: &[u32],
+    heights: &mut [i64],
+    page: &mut [u8],
+    at: usize,
+) -> usize
+    requires { ⌜ Made clock ⌝ }
+{
+    let answer = clock::bookings(clock, minutes, heights);
+    answers::put_series(page, at, answer, heights)
+}
+
 // The year's sheet that a line asks.
 fn sheet_of(line: YearLine) -> Sheet {
     Sheet {
@@ -184,7 +199,7 @@ fn put_sheet<'a>(
 }
 
 // The line of a year's sheet, which is worked out in the places that are lent.
-fn year_call(
+fn sheet_call(
     clock: Clock,
     sheet: Sheet,
     series: &mut [i64],
@@ -197,6 +212,33 @@ fn year_call(
 {
     let answer = clock::year(clock, sheet, series, minutes, heights);
     put_sheet(page, at, answer, series, minutes, heights)
+}
+
+// The line of a year's sheet, in as many of the places as its line asks.
+fn year_call(
+    clock: Clock,
+    line: YearLine,
+    series: &mut [i64],
+    minutes: &mut [u32],
+    heights: &mut [i64],
+    page: &mut [u8],
+    at: usize,
+) -> usize
+    requires { ⌜ Made clock ⌝ }
+    requires { ⌜ (line .count ≤ length (now series)) × (line .minutes ≤ length (now minutes)) × (line .heights ≤ length (now heights)) ⌝ }
+{
+    let n = line.count as usize;
+    let m = line.minutes as usize;
+    let h = line.heights as usize;
+    sheet_call(
+        clock,
+        sheet_of(line),
+        &mut series[..n],
+        &mut minutes[..m],
+        &mut heights[..h],
+        page,
+        at,
+    )
 }
 
 // The answer to a call. At the end of the input the run ends with no word.
@@ -248,19 +290,16 @@ fn answer_call(
             return left(clock, next);
         }
         Asked::Year(line) => {
-            let n = line.count as usize;
-            let m = line.minutes as usize;
-            let h = line.heights as usize;
-            let next = year_call(
+            return left(
                 clock,
-                sheet_of(line),
-                &mut series[..n],
-                &mut minutes[..m],
-                &mut heights[..h],
-                page,
-                at,
+                year_call(clock, line, series, minutes, heights, page, at),
             );
-            return left(clock, next);
+        }
+        Asked::Bookings(n, h) => {
+            return left(
+                clock,
+                bookings_call(clock, &minutes[..n], &mut heights[..h], page, at),
+            );
         }
         Asked::End => {
             return Step {
@@ -296,7 +335,7 @@ fn run(
     let mut window = input::start();
     let mut calls = u64::MAX;
     while 0 < calls && step.more {
-        let heard = reading::next_call(buffer, window, minutes.len(), heights.len());
+        let heard = reading::next_call(buffer, window, minutes, heights.len());
         let next = heard.window;
         window = next;
         step = answer_call(

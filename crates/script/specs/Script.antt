@@ -1,4 +1,4 @@
--- docs/FORMATS.md, "The list of calls that `replay` plays": one line of a script, without its LF, as the call or the record that it says; Bad where it is not of the form.
+-- docs/FORMATS.md, "The list of calls that `replay` plays": one line of a script, without its LF, as the call, the record or the minute that it says; Bad, or no number, where it is not of the form.
 use Prim.Native.Nat.{ℕ, _-_, _^_}
 use mathlib.Core.List.{List, [], _∷_}
 use mathlib.Core.Bool.{Bool, false, cond}
@@ -7,7 +7,8 @@ use lib.IntN.{ℤ, pos, negℤ}
 use Rattle.columns.specs.Names.{same}
 use Rattle.script.specs.Words.{words, largest, reading, onward, lastNumber, given}
 use Rattle.script.specs.declared.Call.{Call}
-use Rattle.script.specs.declared.Call.the-variants.{Cards, Station, Date, Height, Series, Turns, Year, Bad}
+use Rattle.script.specs.declared.Call.the-variants.{Cards, Station, Date, Height, Series, Turns, Year, Bookings, Bad}
+use Rattle.script.specs.declared.Number.{Number}
 use Rattle.script.specs.declared.Entry.{Entry}
 use Rattle.script.specs.declared.Entry.the-variants.{Record, Bad as NoRecord}
 
@@ -79,6 +80,10 @@ yearOf ws =
     onward Bad (reading largest ws) (λ step ws.
     onward Bad (reading largest ws) (λ count ws. yearSearchOf year start step count ws))))
 
+-- "bookings COUNT HEIGHTS"
+unfoldable pub bookingsOf : List (List ℕ) → Call
+bookingsOf ws = onward Bad (reading largest ws) (λ count ws. given Bad (lastNumber ws) (λ heights. Bookings count heights))
+
 -- the words of the calls, letter by letter
 abbrev pub cardsWord : List ℕ
 cardsWord = 99 ∷ 97 ∷ 114 ∷ 100 ∷ 115 ∷ []
@@ -101,6 +106,9 @@ turnsWord = 116 ∷ 117 ∷ 114 ∷ 110 ∷ 115 ∷ []
 abbrev pub yearWord : List ℕ
 yearWord = 121 ∷ 101 ∷ 97 ∷ 114 ∷ []
 
+abbrev pub bookingsWord : List ℕ
+bookingsWord = 98 ∷ 111 ∷ 111 ∷ 107 ∷ 105 ∷ 110 ∷ 103 ∷ 115 ∷ []
+
 -- "Each call is a line: a word, then decimal numbers"
 unfoldable pub callOfWords : List (List ℕ) → Call
 callOfWords [] = Bad
@@ -111,7 +119,8 @@ callOfWords (w ∷ ws) =
     (cond (same w heightWord) (heightOf ws)
     (cond (same w seriesWord) (seriesOf ws)
     (cond (same w turnsWord) (turnsOf ws)
-    (cond (same w yearWord) (yearOf ws) Bad))))))
+    (cond (same w yearWord) (yearOf ws)
+    (cond (same w bookingsWord) (bookingsOf ws) Bad)))))))
 
 abbrev pub callOf : List ℕ → Call
 callOf line = callOfWords (words line)
@@ -127,3 +136,9 @@ recordOfWords ws =
 
 abbrev pub recordOf : List ℕ → Entry
 recordOf line = recordOfWords (words line)
+
+-- ---- the lines behind a list of bookings
+
+-- "COUNT lines, a minute each": one number, and nothing behind it
+abbrev pub minuteOf : List ℕ → Number
+minuteOf line = lastNumber (words line)

@@ -4,8 +4,8 @@ use mathlib.Core.List.{List, [], _∷_}
 use mathlib.Core.Bool.{Bool, cond, _&&_}
 use lib.Dec.{leb, eqb}
 use Rattle.columns.specs.Lines.{inFront}
-use Rattle.script.specs.declared.words.Number.{Number}
-use Rattle.script.specs.declared.words.Number.the-variants.{Value, NoNumber}
+use Rattle.script.specs.declared.Number.{Number}
+use Rattle.script.specs.declared.Number.the-variants.{Value, NoNumber}
 
 -- ---- words
 

@@ -1,18 +1,17 @@
-// The lines of a replay script: each read as a call, or as a record of a station.
+// The lines of a replay script: each read as a call, as a record of a station, or as a minute of a list of bookings.
 ghost use mathlib.Core.Path.{_≡_};
 ghost use mathlib.Core.List.{_∷_};
 ghost use Prim.Native.Nat.{_+_, _-_, _≤_, _^_};
 ghost use lib.ListN.{length};
 ghost use lib.IntN.{pos, negℤ};
 ghost use Rattle.columns.specs.Names.{same};
-ghost use Rattle.script.specs.Script.{callOf, callOfWords, recordOf, hasMinus, stationAt, stationOf, cardsOf, dateOf, heightOf, seriesOf, turnsOf, yearOf};
+ghost use Rattle.script.specs.Script.{callOf, callOfWords, recordOf, hasMinus, stationAt, stationOf, cardsOf, dateOf, heightOf, seriesOf, turnsOf, yearOf, bookingsOf, minuteOf};
 ghost use Rattle.script.specs.inner.Left.{wordsFrom, withSearch};
 
 mod words; // words and decimal numbers
 
 use crate::words::Field;
 use crate::words::LARGEST;
-use crate::words::Number;
 use crate::words::field_at;
 use crate::words::last_at;
 use crate::words::word_end;
@@ -38,7 +37,14 @@ pub enum Call {
     Series(u32, u32, u32),
     Turns(u32, u32, u32, u32),
     Year(YearLine),
+    Bookings(u32, u32),
     Bad,
+}
+
+// A word that is a number, or is not.
+pub enum Number {
+    Value(u32),
+    NoNumber,
 }
 
 // A line of a station.
@@ -172,6 +178,21 @@ fn year_at(line: &[u8], at: usize) -> Call
     with_search(turns_at(line, search), year, start, step, count)
 }
 
+// bookings COUNT HEIGHTS
+fn bookings_at(line: &[u8], at: usize) -> Call
+    ensures { λ r. ⌜ r ≡ bookingsOf (wordsFrom (now (line .entry)) at) ⌝ }
+{
+    let first = field_at(line, at, LARGEST);
+    let Field::Read(count, next) = first else {
+        return Call::Bad;
+    };
+    let last = last_at(line, next);
+    let Number::Value(heights) = last else {
+        return Call::Bad;
+    };
+    Call::Bookings(count, heights)
+}
+
 // A latitude without a minus.
 fn north(size: u32) -> i32
     requires { ⌜ size ≤ 2 ^ 31 - 1 ⌝ }
@@ -261,6 +282,9 @@ fn call_at(word: &[u8], line: &[u8], at: usize) -> Call
     if is_word(word, b"year") {
         return year_at(line, at);
     }
+    if is_word(word, b"bookings") {
+        return bookings_at(line, at);
+    }
     Call::Bad
 }
 
@@ -293,4 +317,11 @@ pub fn parse_record(line: &[u8]) -> Entry
         amplitude,
         phase,
     }
+}
+
+// A minute's line behind a list of bookings, without its LF: no number where it is not of the form.
+pub fn parse_minute(line: &[u8]) -> Number
+    ensures { λ r. ⌜ r ≡ minuteOf (now (line .entry)) ⌝ }
+{
+    last_at(line, 0)
 }

@@ -4,12 +4,7 @@ ghost use Prim.Native.Nat.{_+_, _-_, _≤_};
 ghost use lib.ListN.{length, drop};
 ghost use Rattle.script.specs.Words.{number, reading, lastNumber};
 ghost use Rattle.script.specs.inner.Left.{wordsFrom, wordLength, readingAt};
-
-// A word that is a number, or is not.
-pub enum Number {
-    Value(u32),
-    NoNumber,
-}
+use crate::Number;
 
 // A number in a line, and where the next word begins; past the line's end where there is none.
 pub enum Field {

@@ -1,6 +1,6 @@
 // Reading standard input by lines and by counts of bytes, in one lent buffer.
 ghost use mathlib.Core.Path.{_≡_};
-ghost use Prim.Native.Nat.{_+_, _-_, _≤_, _<_};
+ghost use Prim.Native.Nat.{_+_, _-_, _≤_, _<_, _%_, _^_};
 ghost use lib.Dec.{eqb};
 ghost use lib.ListN.{length};
 ghost use Rattle.transcript.specs.inner.Window.{Within, Ends, oneIf, feedsFrom};
@@ -60,6 +60,7 @@ fn read_behind(buffer: &mut [u8], to: usize) -> usize
 pub fn more(buffer: &mut [u8], window: Window) -> Window
     requires { ⌜ Within (length (now buffer)) window ⌝ }
     ensures { λ r. ⌜ Within (length (now (buffer .entry))) r ⌝ }
+    ensures { λ r. ⌜ r .line ≡ window .line ⌝ }
 {
     let to = to_front(buffer, window.from, window.to);
     let got = read_behind(buffer, to);
@@ -90,6 +91,7 @@ fn line_feed(buffer: &[u8], from: usize, to: usize) -> usize
 pub fn next_line(buffer: &mut [u8], window: Window) -> Line
     requires { ⌜ Within (length (now buffer)) window ⌝ }
     ensures { λ r. ⌜ Ends (length (now (buffer .entry))) r ⌝ }
+    ensures { λ r. ⌜ r .window .line ≡ window .line ⌝ }
 {
     // Each turn brings a byte or ends the input, so that a turn for each byte of the buffer and one more are enough.
     let mut turns = buffer.len() + 1;
@@ -127,6 +129,7 @@ pub fn gather(buffer: &mut [u8], window: Window, bytes: usize) -> Window
 pub fn behind(window: Window, end: usize, line: u64) -> Window
     requires { ⌜ end < window .to ⌝ }
     ensures { λ r. ⌜ (r .from ≡ end + 1) × (r .to ≡ window .to) ⌝ }
+    ensures { λ r. ⌜ r .line ≡ (line + 1) % 2 ^ 64 ⌝ }
 {
     Window {
         from: end + 1,

@@ -1,14 +1,15 @@
-// A call of a script, read whole from the input: its line, and behind it a card file's bytes or a station's lines.
+// A call of a script, read whole from the input: its line, and behind it a card file's bytes, a station's lines or those of minutes.
 ghost use mathlib.Core.Path.{_≡_};
 ghost use Prim.Native.Nat.{_+_, _<_};
 ghost use lib.ListN.{length};
 ghost use Rattle.transcript.specs.inner.Window.{Within};
-ghost use Rattle.transcript.specs.inner.Posts.{FilePost, HeardPost, Lent, keptRow};
+ghost use Rattle.transcript.specs.inner.Posts.{FilePost, MinutePost, MinutesPost, HeardPost, Lent, keptRow};
 use crate::input;
 use crate::input::Window;
 use limits::RECORDS;
 use script::Call;
 use script::Entry;
+use script::Number;
 use script::YearLine;
 use station::records::Rows;
 use station::records::no_rows;
@@ -16,7 +17,8 @@ use station::records::put;
 use std::num::wrapping_add_u64;
 
 // What a call asks. A card file stands in the buffer from the first place to the second; a station has a latitude and so many records; a series,
-// a search and a year's sheet end with how many places they are lent. Stop: the input is not of the form.
+// a search and a year's sheet end with how many places they are lent; bookings have so many minutes, which stand in the lent places, and so many places for heights.
+// Stop: the input is not of the form.
 pub enum Asked {
     Cards(usize, usize),
     Station(i32, usize),
@@ -25,6 +27,7 @@ pub enum Asked {
     Series(u32, u32, usize),
     Turns(u32, u32, usize, usize),
     Year(YearLine),
+    Bookings(usize, usize),
     End,
     Stop,
 }
@@ -63,6 +66,18 @@ struct Told {
 struct Records {
     good: bool,
     rows: Rows,
+    window: Window,
+}
+
+// A minute's line; where it is bad the window still begins with it.
+struct MinuteLine {
+    number: Number,
+    window: Window,
+}
+
+// Whether minutes' lines were all of the form, and the window behind them, or at the bad line.
+struct Minutes {
+    good: bool,
     window: Window,
 }
 
@@ -205,6 +220,63 @@ fn read_records(buffer: &mut [u8], window: Window, count: u32) -> Records
     }
 }
 
+// The next line as a minute.
+fn read_minute(buffer: &mut [u8], window: Window) -> MinuteLine
+    requires { ⌜ Within (length (now buffer)) window ⌝ }
+    ensures { λ r. ⌜ MinutePost (length (now (buffer .entry))) window r ⌝ }
+{
+    let line = input::next_line(buffer, window);
+    let held = line.window;
+    let from = held.from;
+    let end = line.end;
+    if held.to <= end {
+        return MinuteLine {
+            number: Number::NoNumber,
+            window: held,
+        };
+    }
+    let number = script::parse_minute(&buffer[from..end]);
+    match number {
+        Number::Value(_) => {
+            let next = input::behind(held, end, held.line);
+            MinuteLine {
+                number,
+                window: next,
+            }
+        }
+        Number::NoNumber => MinuteLine {
+            number,
+            window: held,
+        },
+    }
+}
+
+// Minutes' lines, one for each of the lent places, or up to the first that is bad.
+fn read_minutes(buffer: &mut [u8], window: Window, minutes: &mut [u32]) -> Minutes
+    requires { ⌜ Within (length (now buffer)) window ⌝ }
+    ensures { λ r. ⌜ MinutesPost (length (now (buffer .entry))) (length (now (minutes .entry))) window r ⌝ }
+{
+    let mut held = window;
+    let mut k = 0;
+    while k < minutes.len() {
+        let told = read_minute(buffer, held);
+        held = told.window;
+        let number = told.number;
+        let Number::Value(minute) = number else {
+            return Minutes {
+                good: false,
+                window: held,
+            };
+        };
+        minutes[k] = minute;
+        k += 1;
+    }
+    Minutes {
+        good: true,
+        window: held,
+    }
+}
+
 // A call that is read whole, with no records.
 fn heard_line(asked: Asked, line: u64, window: Window) -> Heard
     ensures { λ r. ⌜ (r .asked ≡ asked) × (r .window ≡ window) ⌝ }
@@ -287,10 +359,35 @@ fn asked_year(minutes: usize, heights: usize, line: YearLine) -> Asked
     Asked::Year(line)
 }
 
-// What a line's call asks, with what stands behind the line, for a program that can lend so many places for minutes and for heights.
-fn hear(buffer: &mut [u8], told: CallLine, minutes: usize, heights: usize) -> Heard
+// bookings COUNT HEIGHTS, where so many places can be lent, and the minutes behind its line.
+fn hear_bookings(
+    buffer: &mut [u8],
+    told: CallLine,
+    minutes: &mut [u32],
+    heights: usize,
+    count: u32,
+    h: u32,
+) -> Heard
     requires { ⌜ Within (length (now buffer)) (told .window) ⌝ }
-    ensures { λ r. ⌜ HeardPost (length (now (buffer .entry))) minutes heights r ⌝ }
+    ensures { λ r. ⌜ HeardPost (length (now (buffer .entry))) (length (now (minutes .entry))) heights r ⌝ }
+{
+    let n = count as usize;
+    let places = h as usize;
+    if minutes.len() < n || heights < places {
+        return heard_line(Asked::Stop, told.line, told.window);
+    }
+    let read = read_minutes(buffer, told.window, &mut minutes[..n]);
+    let next = read.window;
+    if read.good {
+        return heard_line(Asked::Bookings(n, places), told.line, next);
+    }
+    heard_line(Asked::Stop, next.line, next)
+}
+
+// What a line's call asks, with what stands behind the line, for a program that lends these places for minutes and so many for heights.
+fn hear(buffer: &mut [u8], told: CallLine, minutes: &mut [u32], heights: usize) -> Heard
+    requires { ⌜ Within (length (now buffer)) (told .window) ⌝ }
+    ensures { λ r. ⌜ HeardPost (length (now (buffer .entry))) (length (now (minutes .entry))) heights r ⌝ }
 {
     let line = told.line;
     let call = told.call;
@@ -312,13 +409,16 @@ fn hear(buffer: &mut [u8], told: CallLine, minutes: usize, heights: usize) -> He
         }
         Call::Turns(first, last, m, h) => {
             return heard_line(
-                asked_turns(minutes, heights, first, last, m, h),
+                asked_turns(minutes.len(), heights, first, last, m, h),
                 line,
                 told.window,
             );
         }
         Call::Year(year) => {
-            return heard_line(asked_year(minutes, heights, year), line, told.window);
+            return heard_line(asked_year(minutes.len(), heights, year), line, told.window);
+        }
+        Call::Bookings(count, h) => {
+            return hear_bookings(buffer, told, minutes, heights, count, h);
         }
         Call::Bad => {
             return heard_line(Asked::Stop, line, told.window);
@@ -326,10 +426,11 @@ fn hear(buffer: &mut [u8], told: CallLine, minutes: usize, heights: usize) -> He
     }
 }
 
-// The next call, for a program that can lend so many places for minutes and for heights. At the end of the input there is none.
-pub fn next_call(buffer: &mut [u8], window: Window, minutes: usize, heights: usize) -> Heard
+// The next call, for a program that lends these places for minutes and so many for heights. Only the minutes of bookings are read into the places. At the end of
+// the input there is no call.
+pub fn next_call(buffer: &mut [u8], window: Window, minutes: &mut [u32], heights: usize) -> Heard
     requires { ⌜ Within (length (now buffer)) window ⌝ }
-    ensures { λ r. ⌜ HeardPost (length (now (buffer .entry))) minutes heights r ⌝ }
+    ensures { λ r. ⌜ HeardPost (length (now (buffer .entry))) (length (now (minutes .entry))) heights r ⌝ }
 {
     let held = input::gather(buffer, window, 1);
     if held.to <= held.from {

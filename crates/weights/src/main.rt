@@ -206,11 +206,13 @@ fn answer_call(heard: Heard, kept: Kept, buffer: &[u8], page: &mut [u8], at: usi
 
 // Calls until the run ends. A proved loop has to end, and nothing says that the input does, so the calls are counted down from a number that no run uses up.
 fn run(buffer: &mut [u8], page: &mut [u8]) {
+    // No bookings are answered, so no place is lent for their minutes.
+    let mut minutes = [0u32; 0];
     let mut step = left(nothing(), 0);
     let mut window = input::start();
     let mut calls = u64::MAX;
     while 0 < calls && step.more {
-        let heard = reading::next_call(buffer, window, 0, 0);
+        let heard = reading::next_call(buffer, window, &mut minutes, 0);
         let next = heard.window;
         window = next;
         step = answer_call(heard, step.kept, buffer, page, step.at);

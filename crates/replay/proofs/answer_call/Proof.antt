@@ -127,44 +127,15 @@ returns-6 c = search needs
 enum-known-asked-7 : tie.Need-enum-known-asked-7
 enum-known-asked-7 c = search needs
 
-cast-n : tie.Need-cast-n
-cast-n c = search needs
-
-cast-m : tie.Need-cast-m
-cast-m c = search needs
-
-cast-h : tie.Need-cast-h
-cast-h c = search needs
-
-sheet-of-requires : tie.Need-sheet-of-requires
-sheet-of-requires c κs = search needs
-
-slice-relend-prefix-year-call : tie.Need-slice-relend-prefix-year-call
-slice-relend-prefix-year-call c =
-    let p = c .before .before .before .before .before .before .before .before .before .before .pre .1 in
-    let a = c .before .before .before .before .before .asked7 .given in
-    subst (λ (k : ℕ). a .0 .0 .count ≤ k) (sym (p .1)) ((subst (Lent _ _ _) (a .1) (p .0)) .fits .0)
-
-slice-aggregate-year-call : tie.Need-slice-aggregate-year-call
-slice-aggregate-year-call c = sym (length-take-le _ _ (slice-relend-prefix-year-call (c .before)))
-
-slice-relend-prefix-year-call-2 : tie.Need-slice-relend-prefix-year-call-2
-slice-relend-prefix-year-call-2 c = (subst (Lent _ _ _) (c .before .before .before .before .before .before .asked7 .given .1) (c .before .before .before .before .before .before .before .before .before .before .before .pre .1 .0)) .fits .1
-
-slice-aggregate-year-call-2 : tie.Need-slice-aggregate-year-call-2
-slice-aggregate-year-call-2 c = sym (length-take-le _ _ (slice-relend-prefix-year-call-2 (c .before)))
-
-slice-relend-prefix-year-call-3 : tie.Need-slice-relend-prefix-year-call-3
-slice-relend-prefix-year-call-3 c = (subst (Lent _ _ _) (c .before .before .before .before .before .before .before .asked7 .given .1) (c .before .before .before .before .before .before .before .before .before .before .before .before .pre .1 .0)) .fits .2
-
-slice-aggregate-year-call-3 : tie.Need-slice-aggregate-year-call-3
-slice-aggregate-year-call-3 c = sym (length-take-le _ _ (slice-relend-prefix-year-call-3 (c .before)))
-
 year-call-requires : tie.Need-year-call-requires
-year-call-requires c κs = search needs
+year-call-requires c κs =
+    let p = c .before .before .before .before .before .before .before .before .before .before .pre in
+    let a = c .before .before .before .before .before .asked7 .given in
+    let f = (subst (Lent _ _ _) (a .1) (p .1 .0)) .fits in
+    (p .0, (subst (λ (k : ℕ). a .0 .0 .count ≤ k) (sym (p .1 .1)) (f .0), f .1, f .2))
 
 left-requires-4 : tie.Need-left-requires-4
-left-requires-4 c κs = c .before .before .before .before .before .before .before .before .before .before .before .before .before .before .before .before .before .before .before .before .before .pre .0
+left-requires-4 c κs = search needs
 
 same-length-10 : tie.Need-same-length-10
 same-length-10 c = search needs
@@ -181,11 +152,44 @@ same-length-13 c = search needs
 returns-7 : tie.Need-returns-7
 returns-7 c = search needs
 
-enum-told : tie.Need-enum-told
-enum-told c = search needs
+enum-known-asked-8 : tie.Need-enum-known-asked-8
+enum-known-asked-8 c = search needs
+
+slice-reshare-prefix-bookings-call : tie.Need-slice-reshare-prefix-bookings-call
+slice-reshare-prefix-bookings-call c = (subst (Lent _ _ _) (c .before .asked8 .given .1) (c .before .before .before .before .before .before .pre .1 .0)) .fits .0
+
+slice-aggregate-bookings-call : tie.Need-slice-aggregate-bookings-call
+slice-aggregate-bookings-call c = sym (length-take-le _ _ (slice-reshare-prefix-bookings-call (c .before)))
+
+slice-relend-prefix-bookings-call : tie.Need-slice-relend-prefix-bookings-call
+slice-relend-prefix-bookings-call c = (subst (Lent _ _ _) (c .before .before .asked8 .given .1) (c .before .before .before .before .before .before .before .pre .1 .0)) .fits .1
+
+slice-aggregate-bookings-call-2 : tie.Need-slice-aggregate-bookings-call-2
+slice-aggregate-bookings-call-2 c = sym (length-take-le _ _ (slice-relend-prefix-bookings-call (c .before)))
+
+bookings-call-requires : tie.Need-bookings-call-requires
+bookings-call-requires c κs = search needs
+
+left-requires-5 : tie.Need-left-requires-5
+left-requires-5 c κs = search needs
+
+same-length-14 : tie.Need-same-length-14
+same-length-14 c = search needs
+
+same-length-15 : tie.Need-same-length-15
+same-length-15 c = search needs
+
+same-length-16 : tie.Need-same-length-16
+same-length-16 c = search needs
 
 returns-8 : tie.Need-returns-8
 returns-8 c = search needs
+
+enum-told : tie.Need-enum-told
+enum-told c = search needs
+
+returns-9 : tie.Need-returns-9
+returns-9 c = search needs
 
 enum-told-2 : tie.Need-enum-told-2
 enum-told-2 c = search needs
@@ -193,11 +197,11 @@ enum-told-2 c = search needs
 stop-requires : tie.Need-stop-requires
 stop-requires c κs = search needs
 
-same-length-14 : tie.Need-same-length-14
-same-length-14 c = search needs
+same-length-17 : tie.Need-same-length-17
+same-length-17 c = search needs
 
-returns-9 : tie.Need-returns-9
-returns-9 c = search needs
+returns-10 : tie.Need-returns-10
+returns-10 c = search needs
 
 pub answer-call-spec : {M : Type 1} → statement M
 answer-call-spec =
@@ -243,16 +247,6 @@ answer-call-spec =
     same-length-9
     returns-6
     enum-known-asked-7
-    cast-n
-    cast-m
-    cast-h
-    sheet-of-requires
-    slice-relend-prefix-year-call
-    slice-aggregate-year-call
-    slice-relend-prefix-year-call-2
-    slice-aggregate-year-call-2
-    slice-relend-prefix-year-call-3
-    slice-aggregate-year-call-3
     year-call-requires
     left-requires-4
     same-length-10
@@ -260,9 +254,20 @@ answer-call-spec =
     same-length-12
     same-length-13
     returns-7
-    enum-told
+    enum-known-asked-8
+    slice-reshare-prefix-bookings-call
+    slice-aggregate-bookings-call
+    slice-relend-prefix-bookings-call
+    slice-aggregate-bookings-call-2
+    bookings-call-requires
+    left-requires-5
+    same-length-14
+    same-length-15
+    same-length-16
     returns-8
+    enum-told
+    returns-9
     enum-told-2
     stop-requires
-    same-length-14
-    returns-9)
+    same-length-17
+    returns-10)

@@ -30,22 +30,23 @@ next-call-requires c κs = search needs
 
 answer-call-requires : tie.Need-answer-call-requires Inv-loop μ-loop
 answer-call-requires c κs =
-    let s = c .before .before .before .before .before .before .before .before .before .before .before .before .loop in
-    let n = c .before .before .before .before .before .before .before .before .next-call in
-    (s .inv .5, (subst (λ (k : ℕ). Lent k (length (s .minutes)) (length (s .heights)) (n .result .asked)) (sym (n .kept .0)) (n .ensures .lent), s .inv .1 ∙ c .before .before .before .before .before .before .before .before .before .before .before .before .before .before .before .before .before .before .pre ∙ sym (s .inv .3)))
+    let s = c .before .before .before .before .before .before .before .before .before .before .before .before .before .before .before .loop in
+    let n = c .before .before .before .before .before .before .before .before .before .before .next-call in
+    let lent = subst (λ (k : ℕ). Lent (length (s .buffer)) k (length (s .heights)) (n .result .asked)) (sym (n .kept .1 .1 .0)) (n .ensures .lent) in
+    (s .inv .5, (subst (λ (k : ℕ). Lent k (length (n .last .1 .1 .0)) (length (s .heights)) (n .result .asked)) (sym (n .kept .0)) lent, s .inv .1 ∙ c .before .before .before .before .before .before .before .before .before .before .before .before .before .before .before .before .before .before .before .before .before .pre ∙ sym (s .inv .3)))
 
 sub-calls : tie.Need-sub-calls Inv-loop μ-loop
-sub-calls c = search needs
+sub-calls c = omega (arith, c .before .before .before .before .before .before .before .before .before .before .before .before .before .before .before .before .before .before .before .before .before .loop-test .taken)
 
 loop-less : tie.Need-loop-less Inv-loop μ-loop
-loop-less c = search needs
+loop-less c = omega (arith, c .before .before .before .before .before .before .before .before .before .before .before .before .before .before .before .before .before .before .before .before .before .loop-test .taken)
 
 loop-again : tie.Need-loop-again Inv-loop μ-loop
 loop-again c =
-    let s = c .before .before .before .before .before .before .before .before .before .before .before .before .before .before .before .before .before .before .before .loop .inv in
-    let n = c .before .before .before .before .before .before .before .before .before .before .before .before .before .before .before .next-call in
+    let s = c .before .before .before .before .before .before .before .before .before .before .before .before .before .before .before .before .before .before .before .before .before .before .loop .inv in
+    let n = c .before .before .before .before .before .before .before .before .before .before .before .before .before .before .before .before .before .next-call in
     let a = c .before .before .before .before .before .before .answer-call in
-    (n .kept .0 ∙ s .0, a .kept .1 .1 .1 .0 ∙ s .1, a .kept .1 .1 .1 .1 .0 ∙ s .2, a .kept .1 .1 .1 .1 .1 .0 ∙ s .3, a .kept .1 .1 .1 .1 .1 .1 .0 ∙ s .4, a .ensures, subst (λ (k : ℕ). Within k (n .result .window)) (s .0) (n .ensures .within))
+    (n .kept .0 ∙ s .0, a .kept .1 .1 .1 .0 ∙ s .1, a .kept .1 .1 .1 .1 .0 ∙ n .kept .1 .1 .0 ∙ s .2, a .kept .1 .1 .1 .1 .1 .0 ∙ s .3, a .kept .1 .1 .1 .1 .1 .1 .0 ∙ s .4, a .ensures, subst (λ (k : ℕ). Within k (n .result .window)) (s .0) (n .ensures .within))
 
 flush-requires : tie.Need-flush-requires Inv-loop μ-loop
 flush-requires c κs = search needs

@@ -3,7 +3,7 @@ use borrow.Author.Needs.{needs}
 use mathlib.Core.Path.{_≡_, sym, _∙_}
 use mathlib.Core.Bool.{true}
 use Rattle.columns.specs.Names.{same}
-use Rattle.script.specs.Script.{callOfWords, turnsWord, yearWord}
+use Rattle.script.specs.Script.{callOfWords, turnsWord, yearWord, bookingsWord}
 use Rattle.script.proofs.call_at.Statement.{statement}
 use Rattle.script.proofs.call_at.Tie as tie
 
@@ -102,9 +102,24 @@ returns-7 c =
     let year : same _ yearWord ≡ true = sym (c .before .before .is-word7 .ensures) ∙ c .before .if7 .taken in
     rw (← c .before .before .before .before .before .before .before .before .before .before .before .before .before .before .before .before .before .before .before .before .is-word .ensures, c .before .before .before .before .before .before .before .before .before .before .before .before .before .before .before .before .before .before .before .if1 .left, ← c .before .before .before .before .before .before .before .before .before .before .before .before .before .before .before .before .before .is-word2 .ensures, c .before .before .before .before .before .before .before .before .before .before .before .before .before .before .before .before .if2 .left, ← c .before .before .before .before .before .before .before .before .before .before .before .before .before .before .is-word3 .ensures, c .before .before .before .before .before .before .before .before .before .before .before .before .before .if3 .left, ← c .before .before .before .before .before .before .before .before .before .before .before .is-word4 .ensures, c .before .before .before .before .before .before .before .before .before .before .if4 .left, ← c .before .before .before .before .before .before .before .before .is-word5 .ensures, c .before .before .before .before .before .before .before .if5 .left, ← c .before .before .before .before .before .is-word6 .ensures, c .before .before .before .before .if6 .left, year) (c .year-at .ensures)
 
+slice-aggregate-is-word-8 : tie.Need-slice-aggregate-is-word-8
+slice-aggregate-is-word-8 c = search needs
+
+is-word-requires-8 : tie.Need-is-word-requires-8
+is-word-requires-8 c κs = search needs
+
+bookings-at-requires : tie.Need-bookings-at-requires
+bookings-at-requires c κs = search needs
+
 returns-8 : tie.Need-returns-8
 unfolding callOfWords
-returns-8 c = rw (← c .before .before .before .before .before .before .before .before .before .before .before .before .before .before .before .before .before .before .before .is-word .ensures, c .before .before .before .before .before .before .before .before .before .before .before .before .before .before .before .before .before .before .if1 .left, ← c .before .before .before .before .before .before .before .before .before .before .before .before .before .before .before .before .is-word2 .ensures, c .before .before .before .before .before .before .before .before .before .before .before .before .before .before .before .if2 .left, ← c .before .before .before .before .before .before .before .before .before .before .before .before .before .is-word3 .ensures, c .before .before .before .before .before .before .before .before .before .before .before .before .if3 .left, ← c .before .before .before .before .before .before .before .before .before .before .is-word4 .ensures, c .before .before .before .before .before .before .before .before .before .if4 .left, ← c .before .before .before .before .before .before .before .is-word5 .ensures, c .before .before .before .before .before .before .if5 .left, ← c .before .before .before .before .is-word6 .ensures, c .before .before .before .if6 .left, ← c .before .is-word7 .ensures, c .if7 .left)
+returns-8 c =
+    let bookings : same _ bookingsWord ≡ true = sym (c .before .before .is-word8 .ensures) ∙ c .before .if8 .taken in
+    rw (← c .before .before .before .before .before .before .before .before .before .before .before .before .before .before .before .before .before .before .before .before .before .before .before .is-word .ensures, c .before .before .before .before .before .before .before .before .before .before .before .before .before .before .before .before .before .before .before .before .before .before .if1 .left, ← c .before .before .before .before .before .before .before .before .before .before .before .before .before .before .before .before .before .before .before .before .is-word2 .ensures, c .before .before .before .before .before .before .before .before .before .before .before .before .before .before .before .before .before .before .before .if2 .left, ← c .before .before .before .before .before .before .before .before .before .before .before .before .before .before .before .before .before .is-word3 .ensures, c .before .before .before .before .before .before .before .before .before .before .before .before .before .before .before .before .if3 .left, ← c .before .before .before .before .before .before .before .before .before .before .before .before .before .before .is-word4 .ensures, c .before .before .before .before .before .before .before .before .before .before .before .before .before .if4 .left, ← c .before .before .before .before .before .before .before .before .before .before .before .is-word5 .ensures, c .before .before .before .before .before .before .before .before .before .before .if5 .left, ← c .before .before .before .before .before .before .before .before .is-word6 .ensures, c .before .before .before .before .before .before .before .if6 .left, ← c .before .before .before .before .before .is-word7 .ensures, c .before .before .before .before .if7 .left, bookings) (c .bookings-at .ensures)
+
+returns-9 : tie.Need-returns-9
+unfolding callOfWords
+returns-9 c = rw (← c .before .before .before .before .before .before .before .before .before .before .before .before .before .before .before .before .before .before .before .before .before .before .is-word .ensures, c .before .before .before .before .before .before .before .before .before .before .before .before .before .before .before .before .before .before .before .before .before .if1 .left, ← c .before .before .before .before .before .before .before .before .before .before .before .before .before .before .before .before .before .before .before .is-word2 .ensures, c .before .before .before .before .before .before .before .before .before .before .before .before .before .before .before .before .before .before .if2 .left, ← c .before .before .before .before .before .before .before .before .before .before .before .before .before .before .before .before .is-word3 .ensures, c .before .before .before .before .before .before .before .before .before .before .before .before .before .before .before .if3 .left, ← c .before .before .before .before .before .before .before .before .before .before .before .before .before .is-word4 .ensures, c .before .before .before .before .before .before .before .before .before .before .before .before .if4 .left, ← c .before .before .before .before .before .before .before .before .before .before .is-word5 .ensures, c .before .before .before .before .before .before .before .before .before .if5 .left, ← c .before .before .before .before .before .before .before .is-word6 .ensures, c .before .before .before .before .before .before .if6 .left, ← c .before .before .before .before .is-word7 .ensures, c .before .before .before .if7 .left, ← c .before .is-word8 .ensures, c .if8 .left)
 
 pub call-at-spec : {M : Type 1} → statement M
 call-at-spec =
@@ -138,4 +153,8 @@ call-at-spec =
     is-word-requires-7
     year-at-requires
     returns-7
-    returns-8)
+    slice-aggregate-is-word-8
+    is-word-requires-8
+    bookings-at-requires
+    returns-8
+    returns-9)

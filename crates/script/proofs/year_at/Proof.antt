@@ -3,8 +3,8 @@ use mathlib.Core.Path.{_≡_, refl, sym, _∙_, ap}
 use mathlib.Core.List.{List}
 use Prim.Native.Nat.{ℕ}
 use Rattle.script.specs.Words.{Reading, read, unread, largest, reading, lastNumber, onward, given}
-use Rattle.script.specs.declared.words.Number.{Number}
-use Rattle.script.specs.declared.words.Number.the-variants.{Value, NoNumber}
+use Rattle.script.specs.declared.Number.{Number}
+use Rattle.script.specs.declared.Number.the-variants.{Value, NoNumber}
 use Rattle.script.specs.declared.Call.{Call}
 use Rattle.script.specs.declared.Call.the-variants.{Bad}
 use Rattle.script.specs.Script.{turnsOf, yearSearchOf, yearOf}

@@ -1,5 +1,5 @@
 -- Only inner contracts cite this: where what is read and not yet taken stands in a buffer of n bytes, and the line feeds there. Assumes nothing.
-use Prim.Native.Nat.{ℕ, zero, suc, _+_, _≤_}
+use Prim.Native.Nat.{ℕ, zero, suc, _+_, _≤_, _%_, _^_}
 use mathlib.Core.Bool.{Bool, true, false}
 use mathlib.Core.List.{List}
 use lib.Dec.{eqb}
@@ -26,3 +26,8 @@ oneIf false = 0
 unfoldable pub feedsFrom : List ℕ → ℕ → ℕ → ℕ
 feedsFrom bytes k zero = 0
 feedsFrom bytes k (suc n) = oneIf (eqb (getD bytes k 0) 10) + feedsFrom bytes (k + 1) n
+
+-- the input line that many lines below a line, as it is counted in 64 bits
+unfoldable pub linesBelow : ℕ → ℕ → ℕ
+linesBelow line zero = line
+linesBelow line (suc n) = (linesBelow line n + 1) % 2 ^ 64

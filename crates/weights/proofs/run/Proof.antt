@@ -1,4 +1,4 @@
--- `weights::run` is safe and ends. What holds before each call: the window stands in the buffer. The measure is the calls left. Assumes nothing.
+-- `weights::run` is safe and ends. What holds before each call: the window stands in the buffer, and no place is lent for minutes. The measure is the calls left. Assumes nothing.
 use mathlib.Core.Path.{_≡_, refl, sym, subst, _∙_}
 use Prim.Native.Nat.{ℕ}
 use native.Mathlib.Omega.{arith}
@@ -10,10 +10,10 @@ use Rattle.weights.proofs.run.Statement.{statement}
 use Rattle.weights.proofs.run.Tie as tie
 
 abbrev Inv-loop : tie.InvT-loop
-Inv-loop buffer₀ page₀ step₀ window₀ calls₀ buffer page step window calls = (length buffer ≡ length buffer₀) × (length page ≡ length page₀) × Within (length buffer₀) window
+Inv-loop buffer₀ page₀ minutes₀ step₀ window₀ calls₀ buffer page minutes step window calls = (length buffer ≡ length buffer₀) × (length page ≡ length page₀) × Within (length buffer₀) window × (length minutes ≡ 0)
 
 abbrev μ-loop : tie.MeasureT-loop
-μ-loop buffer₀ page₀ step₀ window₀ calls₀ buffer page step window calls = calls
+μ-loop buffer₀ page₀ minutes₀ step₀ window₀ calls₀ buffer page minutes step window calls = calls
 
 nothing-requires : tie.Need-nothing-requires Inv-loop μ-loop
 nothing-requires c κs = tt
@@ -25,13 +25,19 @@ start-requires : tie.Need-start-requires Inv-loop μ-loop
 start-requires c κs = tt
 
 loop-holds : tie.Need-loop-holds Inv-loop μ-loop
-loop-holds c = (refl, refl, record { ordered = c .start .ensures .ordered; inside = omega (arith, c .start .ensures .inside) })
+loop-holds c = (refl, refl, record { ordered = c .start .ensures .ordered; inside = omega (arith, c .start .ensures .inside) }, refl)
+
+slice-aggregate-next-call : tie.Need-slice-aggregate-next-call Inv-loop μ-loop
+slice-aggregate-next-call c = search needs
 
 next-call-requires : tie.Need-next-call-requires Inv-loop μ-loop
 next-call-requires c κs = search needs
 
 answer-call-requires : tie.Need-answer-call-requires Inv-loop μ-loop
-answer-call-requires c κs = let n = c .before .before .before .before .before .next-call in subst (λ (k : ℕ). Lent k 0 0 (n .result .asked)) (sym (n .kept .0)) (n .ensures .lent)
+answer-call-requires c κs =
+    let s = c .before .before .before .before .before .before .before .before .before .before .before .loop in
+    let n = c .before .before .before .before .before .before .next-call in
+    subst (λ (k : ℕ). Lent k 0 0 (n .result .asked)) (sym (n .kept .0)) (subst (λ (k : ℕ). Lent (length (s .buffer)) k 0 (n .result .asked)) (s .inv .3) (n .ensures .lent))
 
 sub-calls : tie.Need-sub-calls Inv-loop μ-loop
 sub-calls c = search needs
@@ -41,10 +47,10 @@ loop-less c = search needs
 
 loop-again : tie.Need-loop-again Inv-loop μ-loop
 loop-again c =
-    let s = c .before .before .before .before .before .before .before .before .before .before .before .before .loop .inv in
-    let n = c .before .before .before .before .before .before .before .before .next-call in
+    let s = c .before .before .before .before .before .before .before .before .before .before .before .before .before .before .loop .inv in
+    let n = c .before .before .before .before .before .before .before .before .before .next-call in
     let a = c .before .before .answer-call in
-    (n .kept .0 ∙ s .0, a .kept .1 .1 .1 .0 ∙ s .1, subst (λ (k : ℕ). Within k (n .result .window)) (s .0) (n .ensures .within))
+    (n .kept .0 ∙ s .0, a .kept .1 .1 .1 .0 ∙ s .1, subst (λ (k : ℕ). Within k (n .result .window)) (s .0) (n .ensures .within), n .kept .1 .1 .0 ∙ s .3)
 
 flush-requires : tie.Need-flush-requires Inv-loop μ-loop
 flush-requires c κs = search needs
@@ -68,6 +74,7 @@ run-spec =
     left-requires
     start-requires
     loop-holds
+    slice-aggregate-next-call
     next-call-requires
     answer-call-requires
     sub-calls

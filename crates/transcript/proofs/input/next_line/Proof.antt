@@ -1,4 +1,4 @@
--- `transcript::input::next_line` meets its contract: each read leaves the window in the buffer and the line's end in the window. The measure is the turns left. Assumes nothing.
+-- `transcript::input::next_line` meets its contract: each read leaves the window in the buffer, the line's end in the window and its number. The measure is the turns left. Assumes nothing.
 use Prim.Native.Nat.{_≤_}
 use mathlib.Core.Path.{_≡_}
 use lib.ListN.{length}
@@ -8,7 +8,7 @@ use Rattle.transcript.proofs.input.next_line.Statement.{statement}
 use Rattle.transcript.proofs.input.next_line.Tie as tie
 
 abbrev Inv-loop : tie.InvT-loop
-Inv-loop buffer₀ turns₀ held₀ end₀ buffer turns held end = (length buffer ≡ length buffer₀) × Within (length buffer₀) held × (held .from ≤ end) × (end ≤ held .to)
+Inv-loop buffer₀ turns₀ held₀ end₀ buffer turns held end = (length buffer ≡ length buffer₀) × Within (length buffer₀) held × (held .from ≤ end) × (end ≤ held .to) × (held .line ≡ held₀ .line)
 
 abbrev μ-loop : tie.MeasureT-loop
 μ-loop buffer₀ turns₀ held₀ end₀ buffer turns held end = turns

@@ -85,14 +85,29 @@ heard-line-requires-5 c κs = search needs
 returns-7 : tie.Need-returns-7
 returns-7 c = heard-said _ _ _ (c .heard-line5 .ensures) (search needs) (lent-both _ (c .before .asked-year .ensures))
 
+enum-known-call-8 : tie.Need-enum-known-call-8
+enum-known-call-8 c = search needs
+
+hear-bookings-requires : tie.Need-hear-bookings-requires
+hear-bookings-requires c κs = search needs
+
+same-length-3 : tie.Need-same-length-3
+same-length-3 c = search needs
+
+same-length-4 : tie.Need-same-length-4
+same-length-4 c = search needs
+
+returns-8 : tie.Need-returns-8
+returns-8 c = c .before .before .before .before .hear-bookings .ensures
+
 enum-told : tie.Need-enum-told
 enum-told c = search needs
 
 heard-line-requires-6 : tie.Need-heard-line-requires-6
 heard-line-requires-6 c κs = search needs
 
-returns-8 : tie.Need-returns-8
-returns-8 c = heard-said _ _ _ (c .heard-line6 .ensures) (search needs) (record { fits = tt })
+returns-9 : tie.Need-returns-9
+returns-9 c = heard-said _ _ _ (c .heard-line6 .ensures) (search needs) (record { fits = tt })
 
 pub hear-spec : {M : Type 1} → statement M
 hear-spec =
@@ -125,6 +140,11 @@ hear-spec =
     asked-year-requires
     heard-line-requires-5
     returns-7
+    enum-known-call-8
+    hear-bookings-requires
+    same-length-3
+    same-length-4
+    returns-8
     enum-told
     heard-line-requires-6
-    returns-8)
+    returns-9)

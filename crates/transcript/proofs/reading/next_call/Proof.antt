@@ -25,8 +25,11 @@ hear-requires c κs = search needs
 same-length-2 : tie.Need-same-length-2
 same-length-2 c = search needs
 
+same-length-3 : tie.Need-same-length-3
+same-length-3 c = search needs
+
 returns-2 : tie.Need-returns-2
-returns-2 c = heard-over _ (c .before .before .hear .ensures) (search needs)
+returns-2 c = heard-over _ (c .before .before .before .before .hear .ensures) (search needs)
 
 pub next-call-spec : {M : Type 1} → statement M
 next-call-spec =
@@ -39,4 +42,5 @@ next-call-spec =
     read-call-requires
     hear-requires
     same-length-2
+    same-length-3
     returns-2)
