@@ -6,6 +6,10 @@ use Rattle.daybook.specs.Booking.{withoutReturn, bookingOf}
 use Rattle.daybook.specs.declared.booking.Booking.{Booking}
 use Rattle.daybook.specs.declared.booking.Booking.the-variants.{At, NoBooking}
 
+-- "The file has at most 65,536 bytes", and a booking takes eight at the least
+abbrev pub mostBookings : ℕ
+mostBookings = 8_192
+
 -- the minutes of all bookings, or the number of the first line that is none
 pub data Read : Type 0 where
   bookings : List ℕ → Read

@@ -1,6 +1,8 @@
 // The lines of the file, each with its height.
-ghost use Prim.Native.Nat.{_≤_};
+ghost use mathlib.Core.Path.{_≡_};
+ghost use Prim.Native.Nat.{_-_, _≤_};
 ghost use lib.ListN.{length};
+ghost use Rattle.daybook.specs.Booking.{shownAs};
 use crate::booking;
 use crate::reading;
 use card::lines;
@@ -10,7 +12,9 @@ use page::figures;
 use page::shown::Date;
 
 // A byte of a line as it is shown: a question mark for a control character, but a TAB as it is.
-fn shown(byte: u8) -> u8 {
+fn shown(byte: u8) -> u8
+    ensures { λ r. ⌜ r ≡ shownAs byte ⌝ }
+{
     if byte == 9 {
         return 9;
     }
@@ -33,20 +37,19 @@ fn put_shown(page: &mut [u8], at: usize, line: &[u8]) -> usize
     next
 }
 
+// How much of a width so many bytes leave over.
+fn left_over(bytes: usize, width: usize) -> usize
+    ensures { λ r. ⌜ r ≡ width - bytes ⌝ }
+{
+    if bytes < width { width - bytes } else { 0 }
+}
+
 // Puts a line, blanks up to a width, and a height.
 fn put_line(page: &mut [u8], at: usize, line: &[u8], width: usize, height: i64) -> usize
     ensures { λ r. ⌜ r ≤ length (now (page .entry)) ⌝ }
 {
     let a = put_shown(page, at, line);
-    let b = figures::put_blanks(
-        page,
-        a,
-        if line.len() < width {
-            width - line.len()
-        } else {
-            0
-        },
-    );
+    let b = figures::put_blanks(page, a, left_over(line.len(), width));
     let c = output::put(page, b, 32);
     let d = figures::put_height(page, c, height, 3);
     output::put(page, d, 10)

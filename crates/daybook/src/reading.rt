@@ -3,7 +3,7 @@ ghost use mathlib.Core.Path.{_≡_};
 ghost use Prim.Native.Nat.{_*_, _≤_};
 ghost use lib.ListN.{length, take};
 ghost use Rattle.columns.specs.Lines.{linesOf};
-ghost use Rattle.daybook.specs.Bookings.{longestOf};
+ghost use Rattle.daybook.specs.Bookings.{longestOf, mostBookings};
 ghost use Rattle.daybook.specs.inner.Reading.{ReadPost};
 use crate::booking;
 use crate::booking::Booking;
@@ -23,14 +23,14 @@ pub enum Reading {
 
 // Room for the minutes of a file's bookings. (Each a function's result, so that its length is known as a fact.)
 pub fn minute_places() -> [u32; PLACES]
-    ensures { λ r. ⌜ 8_192 ≡ length r ⌝ }
+    ensures { λ r. ⌜ mostBookings ≡ length r ⌝ }
 {
     [0; PLACES]
 }
 
 // Room for their heights.
 pub fn height_places() -> [i64; PLACES]
-    ensures { λ r. ⌜ 8_192 ≡ length r ⌝ }
+    ensures { λ r. ⌜ mostBookings ≡ length r ⌝ }
 {
     [0; PLACES]
 }
@@ -56,7 +56,7 @@ fn fill_minutes(file: &[u8], minutes: &mut [u32]) -> Reading
 
 // Fills in the minutes of the bookings of a file, which is the first bytes of a buffer.
 pub fn read(buffer: &[u8; FILE], bytes: usize, minutes: &mut [u32; PLACES]) -> Reading
-    ensures { λ r. ⌜ ReadPost (take bytes (now (buffer .entry))) 8_192 (now (minutes .exit)) r ⌝ }
+    ensures { λ r. ⌜ ReadPost (take bytes (now (buffer .entry))) mostBookings (now (minutes .exit)) r ⌝ }
 {
     fill_minutes(columns::part(buffer, 0, bytes), minutes)
 }

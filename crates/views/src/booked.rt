@@ -2,6 +2,7 @@
 ghost use Prim.Native.Nat.{_≤_};
 ghost use lib.ListN.{length};
 ghost use Rattle.clock.specs.View.{Made};
+ghost use Rattle.daybook.specs.Bookings.{mostBookings};
 use clock::Clock;
 use daybook::answered;
 use daybook::reading;
@@ -28,7 +29,7 @@ fn with_minutes<'a>(
     minutes: &'a [u32],
 )
     requires { ⌜ Made clock ⌝ }
-    requires { ⌜ length (now minutes) ≤ 8_192 ⌝ }
+    requires { ⌜ length (now minutes) ≤ mostBookings ⌝ }
 {
     let mut places = reading::height_places();
     let count = minutes.len();

@@ -20,6 +20,7 @@ use Rattle.daybook.specs.Booking.{withoutReturn, bookingOf}
 use Rattle.daybook.specs.Bookings.{noBooking, minutesFrom, longestOf}
 use Rattle.daybook.specs.declared.booking.Booking.the-variants.{At, NoBooking}
 
+-- a line without its CR is no longer
 pub without-short : (line : List ℕ) → length (withoutReturn line) ≤ length line
 unfolding withoutReturn
 without-short line = go (eqb (column line (length line - 1)) 13)
@@ -28,11 +29,12 @@ without-short line = go (eqb (column line (length line - 1)) 13)
     go true = omega (arith, length-take (length line - 1) line)
     go false = omega arith
 
--- a booking takes eight bytes at the least: its time has five, behind the day's three
+-- a word of another length is no time
 no-time : (word : List ℕ) → (length word ≡ 5 → ⊥) → timeOf word ≡ time.NoTime
 unfolding timeOf
 no-time word h = rw (ne-eqb _ _ h)
 
+-- a booking takes eight bytes at the least: its time has five, behind the day's three
 pub booked-long : (line : List ℕ) (minute : ℕ) → bookingOf line ≡ At minute → 8 ≤ length line
 unfolding bookingOf
 booked-long line minute e = go (leb 8 (length line)) refl
@@ -49,7 +51,7 @@ booked-long line minute e = go (leb 8 (length line)) refl
         absurd (let z : _≡_ {A = ℕ} 0 1 = cc in omega arith)
 
 module _ (file : List ℕ) (at : ℕ) (here : at < length file) where
-  -- they lie in the file
+  -- they are the line's, and lie in the file
   pub line-far : (minute : ℕ) → bookingOf (withoutReturn (firstLine (drop at file))) ≡ At minute → (8 ≤ length (firstLine (drop at file))) × (at + 8 ≤ length file)
   line-far minute e =
       let line = firstLine (drop at file) in

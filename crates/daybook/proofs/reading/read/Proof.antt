@@ -3,6 +3,7 @@ use native.Mathlib.Omega.{arith}
 use mathlib.Core.Path.{_≡_, ap}
 use lib.ListN.{length, length-take}
 use borrow.Author.Needs.{needs}
+use Rattle.daybook.specs.Bookings.{mostBookings}
 use Rattle.daybook.proofs.reading.read.Statement.{statement}
 use Rattle.daybook.proofs.reading.read.Tie as tie
 
@@ -16,7 +17,7 @@ fill-minutes-requires c κs =
 
 returns : tie.Need-returns
 returns c =
-    let places : length (c .before .before .before .before .args .minutes .now) ≡ 8_192 = omega arith in
+    let places : length (c .before .before .before .before .args .minutes .now) ≡ mostBookings = omega arith in
     rw (← c .before .before .part .ensures) (rw places at (c .fill-minutes .ensures))
 
 pub read-spec : {M : Type 1} → statement M
