@@ -173,11 +173,11 @@ REFUSALS = """1 line over 80 columns or a byte outside 32 to 126
 """
 
 # April's bookings: their lines, and what is said of the last one
-NONE = "no booking, DD HH:MM and a name are expected"
+NONE = "no booking, DD HH:MM is expected"
 BOOKED = [
     (["14 08:30 Otter", "14 8:30 Wren"], NONE),
     (["14 08:30 Otter", ""], NONE),
-    (["14 08:30Otter"], NONE),
+    (["14 08:305 Otter"], NONE),
     (["14  08:30 Otter"], NONE),
     (["14 08:3"], NONE),
     (["14 24:00"], NONE),

@@ -26,11 +26,11 @@ abbrev pub bookedOn : ℕ → Time → Booking
 bookedOn day (time.At minute) = At (minuteOfMonth day minute)
 bookedOn day time.NoTime = NoBooking
 
--- "DD HH:MM, and then the line ends or a blank follows": the blank is byte 32, and counts as standing behind the line's end. "day 00 is none"
+-- "DD HH:MM, and anything after it that does not begin with a digit": the blank is byte 32, and stands behind the line's end. "day 00 is none"
 unfoldable pub bookingOf : List ℕ → Booking
 bookingOf line =
     cond
-    (eqb (column line 2) 32 && eqb (column line 8) 32 && not (eqb (dayOf line) 0))
+    (eqb (column line 2) 32 && not (every (among 48 57) (columns line 8 1)) && not (eqb (dayOf line) 0))
     (bookedOn (dayOf line) (timeOf (take 5 (drop 3 line))))
     NoBooking
 

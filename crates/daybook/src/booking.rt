@@ -62,7 +62,7 @@ pub fn booking_of(line: &[u8]) -> Booking
     if columns::column(line, 2) != b' ' {
         return Booking::NoBooking;
     }
-    if columns::column(line, 8) != b' ' {
+    if columns::all_among(line, 8, 9, b'0', b'9') {
         return Booking::NoBooking;
     }
     let day = day_of(line);

@@ -132,7 +132,7 @@ pub fn refused_count(year: u32, month: u32, count: u32, refusal: Refusal) {
 // FILE line N: it is no booking.
 pub fn no_booking(file: &[u8], line: usize) {
     say_line(file, line);
-    say(b"no booking, DD HH:MM and a name are expected\n");
+    say(b"no booking, DD HH:MM is expected\n");
 }
 
 // Says the day and the time of a booking on a line of a text, which are its first eight bytes.

@@ -12,19 +12,19 @@ returns : tie.Need-returns
 unfolding bookingOf
 returns c = rw (← c .before .column .ensures, ne-eqb _ _ (c .if1 .taken))
 
-column-requires-2 : tie.Need-column-requires-2
-column-requires-2 c κs = search needs
+all-among-requires : tie.Need-all-among-requires
+all-among-requires c κs = search needs
 
 returns-2 : tie.Need-returns-2
 unfolding bookingOf
-returns-2 c = rw (← c .before .before .before .column .ensures, c .before .before .if1 .left, ← c .before .column2 .ensures, ne-eqb _ _ (c .if2 .taken))
+returns-2 c = rw (← c .before .before .before .column .ensures, c .before .before .if1 .left, ← c .before .all-among .ensures, c .if2 .taken)
 
 day-of-requires : tie.Need-day-of-requires
 day-of-requires c κs = search needs
 
 returns-3 : tie.Need-returns-3
 unfolding bookingOf
-returns-3 c = rw (← c .before .before .before .before .before .column .ensures, c .before .before .before .before .if1 .left, ← c .before .before .before .column2 .ensures, c .before .before .if2 .left, ← c .before .day-of .ensures, c .if3 .taken)
+returns-3 c = rw (← c .before .before .before .before .before .column .ensures, c .before .before .before .before .if1 .left, ← c .before .before .before .all-among .ensures, c .before .before .if2 .left, ← c .before .day-of .ensures, c .if3 .taken)
 
 part-requires : tie.Need-part-requires
 part-requires c κs = search needs
@@ -47,7 +47,7 @@ returns-4 c =
     rw (
       ← c .before .before .before .before .before .before .before .before .before .before .before .column .ensures,
       c .before .before .before .before .before .before .before .before .before .before .if1 .left,
-      ← c .before .before .before .before .before .before .before .before .before .column2 .ensures,
+      ← c .before .before .before .before .before .before .before .before .before .all-among .ensures,
       c .before .before .before .before .before .before .before .before .if2 .left,
       ← c .before .before .before .before .before .before .before .day-of .ensures,
       ne-eqb _ _ (c .before .before .before .before .before .before .if3 .left),
@@ -63,7 +63,7 @@ returns-5 c =
     rw (
       ← c .before .before .before .before .before .before .before .before .before .column .ensures,
       c .before .before .before .before .before .before .before .before .if1 .left,
-      ← c .before .before .before .before .before .before .before .column2 .ensures,
+      ← c .before .before .before .before .before .before .before .all-among .ensures,
       c .before .before .before .before .before .before .if2 .left,
       ← c .before .before .before .before .before .day-of .ensures,
       ne-eqb _ _ (c .before .before .before .before .if3 .left),
@@ -78,7 +78,7 @@ booking-of-spec =
     (tie.spec
     column-requires
     returns
-    column-requires-2
+    all-among-requires
     returns-2
     day-of-requires
     returns-3
