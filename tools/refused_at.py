@@ -48,8 +48,8 @@ def refusals(folder, log):
 
 
 def first(said):
-    """The first thing that the prover said of it."""
-    return (said or [("nothing", "-", "-", "-")])[0]
+    """The first thing that the prover said of it and that does not only follow from another."""
+    return ([one for one in said if one[0] != "follows"] or said or [("nothing", "-", "-", "-")])[0]
 
 
 def main():
