@@ -170,6 +170,9 @@ REFUSALS = """1 line over 80 columns or a byte outside 32 to 126
 22 no station
 23 no month
 31 the two lent buffers differ in length
+32 station number over 99999
+33 a height outside -999 to 9998
+34 buffer too short for the month
 """
 
 # April's bookings: their lines, and what is said of the last one

@@ -66,7 +66,10 @@ enum cuvalimodo_refusal {
     CUVALIMODO_NO_TABLE = 21,       /* the clock has no table: load_cards comes first */
     CUVALIMODO_NO_STATION = 22,     /* no station: set_station comes before */
     CUVALIMODO_NO_MONTH = 23,       /* no month: set_date comes before */
-    CUVALIMODO_UNEQUAL_BUFFERS = 31 /* the two lent buffers of bookings differ in length */
+    CUVALIMODO_UNEQUAL_BUFFERS = 31, /* the two lent buffers of bookings differ in length */
+    CUVALIMODO_BAD_STATION_NUMBER = 32, /* a station number over 99999, for hourly cards */
+    CUVALIMODO_BAD_HEIGHT = 33, /* a height outside -999 to 9998 centimetres; place: the first hourly card with one */
+    CUVALIMODO_SHORT_BUFFER = 34 /* the lent buffer is too short for the month's hourly cards */
 };
 
 /* A clock: a table of constituents, a station and a month, each there or not. What is inside is the library's own. */

@@ -76,6 +76,9 @@ class Refusal(IntEnum):
     NO_STATION = 22
     NO_MONTH = 23
     UNEQUAL_BUFFERS = 31
+    BAD_STATION_NUMBER = 32
+    BAD_HEIGHT = 33
+    SHORT_BUFFER = 34
 
 
 class Refused(Exception):

@@ -73,6 +73,12 @@ impl Refusal {
     pub const NO_MONTH: u32 = 23;
     /// The two lent buffers differ in length.
     pub const UNEQUAL_BUFFERS: u32 = 31;
+    /// A station number over 99999, for hourly cards.
+    pub const BAD_STATION_NUMBER: u32 = 32;
+    /// A height outside -999 to 9998 centimetres.
+    pub const BAD_HEIGHT: u32 = 33;
+    /// The lent buffer is too short for the month's hourly cards.
+    pub const SHORT_BUFFER: u32 = 34;
 
     /// The library's words for it.
     ///

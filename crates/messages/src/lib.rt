@@ -205,4 +205,7 @@ pub fn list_refusals() {
     list_one(Refusal::NoStation);
     list_one(Refusal::NoMonth);
     list_one(Refusal::UnequalBuffers);
+    list_one(Refusal::BadStationNumber);
+    list_one(Refusal::BadHeight);
+    list_one(Refusal::ShortBuffer);
 }

@@ -26,6 +26,9 @@ refusalRows =
     (22, "no station") ∷
     (23, "no month") ∷
     (31, "the two lent buffers differ in length") ∷
+    (32, "station number over 99999") ∷
+    (33, "a height outside -999 to 9998") ∷
+    (34, "buffer too short for the month") ∷
     []
 
 -- the words of a number; none where no row has it

@@ -38,6 +38,9 @@ pub fn text_of(number: u32) -> [u8; 64]
         22 => with_zeros(b"no station"),
         23 => with_zeros(b"no month"),
         31 => with_zeros(b"the two lent buffers differ in length"),
+        32 => with_zeros(b"station number over 99999"),
+        33 => with_zeros(b"a height outside -999 to 9998"),
+        34 => with_zeros(b"buffer too short for the month"),
         _ => with_zeros(b""),
     }
 }

@@ -19,6 +19,9 @@ pub enum Refusal {
     NoStation,
     NoMonth,
     UnequalBuffers,
+    BadStationNumber,
+    BadHeight,
+    ShortBuffer,
 }
 
 // What a call says: it is accepted, or refused, with the place that 01 gives the refusal.
@@ -47,5 +50,8 @@ pub fn number_of(r: Refusal) -> u32
         Refusal::NoStation => 22,
         Refusal::NoMonth => 23,
         Refusal::UnequalBuffers => 31,
+        Refusal::BadStationNumber => 32,
+        Refusal::BadHeight => 33,
+        Refusal::ShortBuffer => 34,
     }
 }
