@@ -1,0 +1,38 @@
+// The manual's hourly cards, (I1,1X,I5,7X,3I2,12A4): a month's heights at its full hours, in centimetres, two cards a day.
+ghost use mathlib.Core.Path.{_≡_};
+ghost use mathlib.Core.Bool.{true};
+ghost use Prim.Native.Nat.{_*_, _≤_};
+ghost use lib.ListN.{length};
+ghost use Rattle.calendar.specs.Calendar.{inRange, monthDays};
+ghost use Rattle.hourly.specs.Answers.{cardsReturned};
+ghost use Rattle.hourly.specs.Month.{bytesOf, intoBuffer, mostStationNumber};
+ghost use Rattle.hourly.specs.inner.Hours.{cardsIn};
+
+use refusals::Answer;
+use refusals::Refusal;
+
+// The largest station number.
+pub const STATION_NUMBER: u32 = 99_999;
+
+// The full hours of the longest month.
+pub const HOURS: usize = 744;
+
+// How many bytes the cards take; or a refusal.
+pub enum CardsAnswer {
+    Bytes(usize),
+    Refused(Refusal, usize),
+}
+
+// Writes the cards of a month's hours, the heights at 01:00 of the 1st and on; or it is refused: 33 of all heights before 34 of the buffer.
+pub fn write_cards(
+    hours: &[i64],
+    station: u32,
+    year: u32,
+    month: u32,
+    out: &mut [u8],
+) -> CardsAnswer
+    requires { ⌜ (length (now hours) ≡ 24 * monthDays year month) × ((inRange year month ≡ true) × (station ≤ mostStationNumber)) ⌝ }
+    ensures { λ r. ⌜ record { returned = cardsReturned r; buffer = now (out .exit) } ≡ intoBuffer (bytesOf (cardsIn (now (hours .entry)) station year month) (length (now (out .entry)))) (now (out .entry)) ⌝ }
+{
+    CardsAnswer::Bytes(0)
+}
