@@ -355,10 +355,10 @@ SLOW, SWIFT = b"SLOW ", b"SWIFT"
 
 
 def still_file(rng):
-    """A file of still constituents, one with a turn in some months and one with a turn in some hours."""
+    """A file of still constituents, one with a turn in more than two months and one with a turn in some hours."""
     deck = Deck(rng, rng.random() < 0.5)
     frequencies = {name: 0 for name in STILLS}
-    frequencies[SLOW] = rng.randint(1_000_000, 9_000_000)
+    frequencies[SLOW] = rng.randint(1_000_000, 6_500_000)
     frequencies[SWIFT] = rng.randint(370_000_000, 840_000_000)
     for name in rng.sample(sorted(frequencies), len(frequencies)):
         deck.start()
