@@ -297,7 +297,7 @@ class ScriptWriter:
                 records = hours.limited_records(rng, cards, self.place_of, self.frequency_at, date)
             self.put_station(self.latitude(), rng.sample(records, len(records)))
             self.put_date(*date)
-            for _ in range(rng.randint(1, 2)):
+            for _ in range(rng.randint(1, 3)):
                 self.hourly()
 
     # Years
@@ -348,7 +348,7 @@ class ScriptWriter:
         if self.clock.month is None:
             choices.append((0.7, self.bookings))  # The state is asked before its 31 and 9.
             choices.append((0.3, self.hourly))  # And before its 32 and 34.
-        chance(self.rng, *choices, (0.06, self.late_year), (0.12, self.limited_hourly))()
+        chance(self.rng, *choices, (0.06, self.late_year), (0.18, self.limited_hourly))()
 
     def malformed_line(self):
         """A last line that is not of the format; the run ends there."""

@@ -78,7 +78,7 @@ def still_records(rng, place_of, level):
 
 
 def moving_records(rng, place_of, frequency_of, minute):
-    """Records of a tide that is highest about a minute of the month, or lowest: slow, swift or both."""
+    """Records of a tide that is highest about a minute, or lowest: slow, swift or both."""
     records = []
     for name in rng.choice([[SLOW], [SLOW], [SWIFT], [SLOW, SWIFT]]):
         place = place_of(name)
@@ -89,23 +89,23 @@ def moving_records(rng, place_of, frequency_of, minute):
     return records
 
 
-def pick_hour(rng, days):
-    """A minute of the month at a full hour: the first, which is on no card, the ends of cards, the last, any."""
-    day = rng.randint(0, days - 1) * DAY
-    return rng.choice([0, 60, 720, 780, DAY, days * DAY, days * DAY, days * DAY - 60, day + 60 * rng.randint(1, 24)])
+def pick_peak(rng, days):
+    """A minute at a full hour, in the month; or before or behind it, so that the tide falls or rises through a month's end."""
+    away = rng.randint(3, 9) * DAY
+    return chance(rng, (3, 60 * rng.randint(0, 24 * days)), (2, -away), (2, days * DAY + away))
 
 
 def limited_records(rng, cards, place_of, frequency_of, date):
-    """A moving tide on a still level, such that its highest or lowest full hour is at a limit, or just past it. The hour is of
-    those on a card, or of all with 00:00 of the 1st."""
+    """A moving tide on a still level, such that its highest or lowest full hour is at a limit, or just past it. The hour is one
+    of those on cards; at times 00:00 of the 1st counts too, and may alone be past the limit, or the one at it."""
     days = days_in_month(*date)
-    moving = moving_records(rng, place_of, frequency_of, pick_hour(rng, days))
+    moving = moving_records(rng, place_of, frequency_of, pick_peak(rng, days))
     clock = Clock()
     clock.set_cards(cards)
     clock.set_station(0, moving)
     clock.set_date(*date)
     tide = clock.series(60, 60, days * 24)
     tide += [clock.height(0)] if rng.random() < 0.3 else []
-    # A low limit is near enough to the high tides too; a high one needs many still constituents.
-    level = rng.choice([LOWEST - min(tide), HIGHEST - max(tide)]) + rng.choice([-1, 0, 0, 0, 1, rng.randint(-2_000, 2_000)])
+    past = rng.choice([0, 0, 1, 1, 1, 30, 99, rng.randint(-2_000, 2_000)])
+    level = rng.choice([LOWEST - min(tide) - past, HIGHEST - max(tide) + past])
     return moving + still_records(rng, place_of, level)
