@@ -1,9 +1,10 @@
-"""The berth clock: the six calls of document 01, the year of change request No. 1 and the bookings of No. 3, what they
-leave, and the order of their refusals."""
+"""The berth clock: the six calls of document 01, the year of change request No. 1, the bookings of No. 3 and the hourly
+cards of No. 4, what they leave, and the order of their refusals."""
 
 from collections import namedtuple
 
 import heights
+import hourly
 import sheet
 from cards import read_card_file
 from month import prepare
@@ -129,6 +130,11 @@ class Clock:
         self.need_month()
         check_bookings(self.month.days * 1_440, minutes, places)
         return [heights.height(self.month, minute) for minute in minutes]
+
+    def hourly(self, station, places):
+        """The bytes of the prepared month's hourly cards; station is the station number, places how many bytes are lent."""
+        self.need_month()
+        return hourly.write(self.month, station, places)
 
     def turns(self, first, last, minute_places, height_places):
         """The turns as (minute, height), and whether the first is high."""

@@ -348,6 +348,45 @@ def late_satellites(rng, solar_perigee):
     return [Satellite([0, 0, 1], phase, ratio, b" "[0]) for ratio in ratios]
 
 
+# Constituents whose pair is (2^20, 0) and whose V is 0 on every date; the still ones have frequency 0 too, and add their
+# amplitude to every height, or take it off with lag 180.00.
+STILLS = [b"ST%02d " % number for number in range(20)]
+SLOW, SWIFT = b"SLOW ", b"SWIFT"
+
+
+def still_file(rng):
+    """A file of still constituents, one with a turn in more than two months and one with a turn in some hours."""
+    deck = Deck(rng, rng.random() < 0.5)
+    frequencies = {name: 0 for name in STILLS}
+    frequencies[SLOW] = rng.randint(1_000_000, 6_500_000)
+    frequencies[SWIFT] = rng.randint(370_000_000, 840_000_000)
+    for name in rng.sample(sorted(frequencies), len(frequencies)):
+        deck.start()
+        deck.skip(4)
+        deck.put(name, "frequency name")
+        deck.skip(3)
+        deck.number(frequencies[name], FREQUENCY)
+        deck.end()
+    deck.blank()
+    write_longitudes(deck, [[random_value(rng, form) for _ in range(5)] for form in (LONGITUDE, INCREASE)])
+    for name in rng.sample(sorted(frequencies), len(frequencies)):
+        write_still(deck, name)
+    deck.blank()
+    deck.blank()
+    return deck.data()
+
+
+def write_still(deck, name):
+    """Doodson numbers, phase and satellite count 0."""
+    deck.start()
+    deck.skip(6)
+    deck.put(name, "main name")
+    deck.skip(1)
+    for form in [DOODSON] * 6 + [PHASE, COUNT]:
+        deck.number(0, form)
+    deck.end()
+
+
 # Shapes
 
 

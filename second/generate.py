@@ -14,6 +14,7 @@ import sys
 
 import bookings
 import decks
+import hours
 import years
 from clock import Clock
 from month import day_count
@@ -193,13 +194,16 @@ class ScriptWriter:
 
     def date(self, good=0.85):
         rng = self.rng
-        year = rng.choice([1950, 1976, 2049, rng.randint(1950, 2049), rng.randint(1950, 2049)])
+        year = rng.choice([1950, 1976, 2049, rng.choice([1999, 2000, 2005]), rng.randint(1950, 2049), rng.randint(1950, 2049)])
         month = rng.choice([1, 2, 2, 12, rng.randint(1, 12), rng.randint(1, 12)])
         if rng.random() > good:
             if rng.random() < 0.5:
                 year = rng.choice([0, 1949, 2050, 2100, LARGEST])
             else:
                 month = rng.choice([0, 13, LARGEST, rng.randint(13, 300)])
+        self.put_date(year, month)
+
+    def put_date(self, year, month):
         self.write(b"date", year, month)
         self.follow(self.clock.set_date, year, month)
 
@@ -267,6 +271,35 @@ class ScriptWriter:
         if minutes and self.rng.random() < 0.3:
             self.write(b"height", self.rng.choice(minutes))
 
+    # Hourly cards
+
+    def hourly(self):
+        """The month's cards, now and then with a height behind them: the month is as it was."""
+        rng = self.rng
+        days = self.clock.month.days if self.clock.month else 31
+        self.write(b"hourly", hours.pick_station(rng), hours.pick_buffer(rng, days))
+        if rng.random() < 0.2:
+            self.height()
+
+    def frequency_at(self, place):
+        return self.clock.table.frequencies[place][1]
+
+    def limited_hourly(self):
+        """A table of still constituents, and stations whose heights reach the limits of a card or the half of a centimetre."""
+        rng = self.rng
+        cards = decks.still_file(rng)
+        self.put_cards(cards)
+        for _ in range(rng.randint(1, 3)):
+            date = hours.pick_date(rng)
+            if rng.random() < 0.4:
+                records = hours.still_records(rng, self.place_of, hours.pick_level(rng))
+            else:
+                records = hours.limited_records(rng, cards, self.place_of, self.frequency_at, date)
+            self.put_station(self.latitude(), rng.sample(records, len(records)))
+            self.put_date(*date)
+            for _ in range(rng.randint(1, 3)):
+                self.hourly()
+
     # Years
 
     def year(self):
@@ -302,7 +335,7 @@ class ScriptWriter:
 
     def any_call(self):
         """A call fit for the state as a rule, and any call now and then."""
-        reading = [(3, self.height), (3, self.series), (3, self.bookings), (4, self.turns), (1.2, self.year)]
+        reading = [(3, self.height), (3, self.series), (3, self.bookings), (4, self.turns), (1.2, self.year), (1.2, self.hourly)]
         if self.clock.table is None:
             choices = [(6, self.cards), (1, self.station), (1, self.date)] + [(0.4, call) for _, call in reading]
         elif self.clock.station is None:
@@ -314,7 +347,8 @@ class ScriptWriter:
             choices = [(0.5, self.cards), (1, self.station), (1.5, self.date)] + reading
         if self.clock.month is None:
             choices.append((0.7, self.bookings))  # The state is asked before its 31 and 9.
-        chance(self.rng, *choices, (0.06, self.late_year))()
+            choices.append((0.3, self.hourly))  # And before its 32 and 34.
+        chance(self.rng, *choices, (0.06, self.late_year), (0.18, self.limited_hourly))()
 
     def malformed_line(self):
         """A last line that is not of the format; the run ends there."""
@@ -327,6 +361,7 @@ class ScriptWriter:
             b"year\n", b"year 1976\n", b"year 1976 0 60 1 0 0 0\n", b"year 1976 0 60 1 0 0 0 0 0\n", b"year 1976 0 60 1 0 0 0 -1\n",
             b"year -1976 0 60 1 0 0 0 0\n", b"year 1976 0 60 1 0 0 0 4294967296\n", b"years 1976 0 60 1 0 0 0 0\n",
             b"year 1976 0 60  1 0 0 0 0\n", b"year 1976 0 60 1 0 0 0 0", *bookings.MALFORMED,
+            *hours.MALFORMED,
         ]))
 
 

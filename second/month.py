@@ -19,7 +19,8 @@ LARGEST_PAIR = 2**22
 
 # One station record made ready: V - lag in ticks, frequency in 10^-10 cycle an hour, weights P and Q.
 Constituent = namedtuple("Constituent", "angle frequency P Q")
-Month = namedtuple("Month", "days constituents")
+# number is the month's in its year, 1 to 12
+Month = namedtuple("Month", "year number days constituents")
 
 
 def is_leap(year):
@@ -155,4 +156,4 @@ def prepare(table, station, year, month):
                 amplitude * Y // 256,
             )
         )
-    return Month(days_in_month(year, month), constituents)
+    return Month(year, month, days_in_month(year, month), constituents)

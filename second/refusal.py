@@ -1,4 +1,4 @@
-"""A refused call: its number and its place (card line, station record or booked minute, from 1; else 0)."""
+"""A refused call: its number and its place (card line, station record, booked minute or hourly card, from 1; else 0)."""
 
 
 class Refusal(Exception):

@@ -1,4 +1,5 @@
-"""Answers a replay script: bytes on standard input, one line for each call on standard output.
+"""Answers a replay script: bytes on standard input, one line for each call on standard output, and the cards behind it
+for `hourly`.
 
 Usage: python3 second/replay.py < script
 """
@@ -99,7 +100,7 @@ def read_minute(script):
 
 
 def read_call(script):
-    """Reads one whole call; gives what asks a clock for its answer line."""
+    """Reads one whole call; gives what asks a clock for its answer, as a rule a line."""
     word, *rest = script.words()
     if word == b"cards":
         (size,) = script.numbers(rest, 1)
@@ -131,6 +132,10 @@ def read_call(script):
         script.done()
         minutes = [read_minute(script) for _ in range(count)]
         return lambda clock: spaced("heights", clock.bookings(minutes, places))
+    if word == b"hourly":
+        station, places = script.numbers(rest, 2)
+        script.done()
+        return lambda clock: hourly_lines(clock.hourly(station, places))
     if word == b"turns":
         first, last, minutes, heights = script.numbers(rest, 4)
         script.done()
@@ -150,6 +155,11 @@ def spaced(word, numbers):
     return " ".join([word] + [str(number) for number in numbers])
 
 
+def hourly_lines(cards):
+    """How many bytes, and the cards on lines of their own; the last one's LF is written as every answer's."""
+    return "hourly %d\n%s" % (len(cards), cards.decode().removesuffix("\n"))
+
+
 def turns_line(found, first_is_high):
     numbers = [len(found), int(first_is_high)]
     for minute, height in found:
@@ -162,7 +172,7 @@ def year_line(heights, found, first_is_high):
 
 
 def play(script, clock, read):
-    """Yields the answer line of each call, until the script's end or its first error."""
+    """Yields the answer to each call, without its last LF, until the script's end or its first error."""
     while not script.ended():
         try:
             call = read(script)
@@ -176,7 +186,7 @@ def play(script, clock, read):
 
 
 def replay(data):
-    """The answer lines of a script."""
+    """The answers to a script."""
     return play(Script(data), Clock(), read_call)
 
 

@@ -1,5 +1,5 @@
 """Document 01's "Checked against" cases, its limits and the card file readings, change request No. 1 against single months,
-and No. 3 against single heights, as plain asserts.
+No. 3 against single heights, and No. 4 column by column and read back, as plain asserts.
 
 Usage: python3 second/test_model.py [folder with the standard cards]
 """
@@ -11,6 +11,8 @@ import sys
 
 import decks
 import heights
+import hourly
+import hours
 from cards import Main, Shallow, read_card_file
 from clock import Clock
 from cosine import COSINES, DENOMINATOR, QUARTER, STEP, base_fraction, fixed_cosine, fixed_sine
@@ -444,6 +446,180 @@ def check_bookings():
     check_bookings_refusals()
 
 
+def still_clock(level, year=1976, month=7, others=()):
+    """A clock with a still level in tenths of a millimetre, of constituents without satellites; others as (name, amplitude, lag)."""
+    clock = Clock()
+    clock.set_cards(decks.still_file(random.Random(1)))
+    lag, left, records = 0 if level >= 0 else 18_000, abs(level), list(others)
+    for name in decks.STILLS:
+        records.append((name, min(left, 65_535), lag))
+        left -= min(left, 65_535)
+    clock.set_station(0, [(place_of(clock, name), a, g) for name, a, g in records])
+    clock.set_date(year, month)
+    return clock
+
+
+def cards_of(clock, station=7_120):
+    return clock.hourly(station, 138 * clock.month.days)
+
+
+def check_hourly_columns():
+    """Cards as they stand, column by column."""
+    cards = cards_of(still_clock(12_345, 2005, 3), 5)
+    check("a card", cards[:69], b"1     5        1 3 5 123 123 123 123 123 123 123 123 123 123 123 123\n")
+    check("the second", cards[69:138], b"2     5        1 3 5 123 123 123 123 123 123 123 123 123 123 123 123\n")
+    check("the last", cards[-69:], b"2     5       31 3 5 123 123 123 123 123 123 123 123 123 123 123 123\n")
+    low = cards_of(still_clock(-99_950, 1999, 11), 99_999)
+    check("low", low[-69:], b"2 99999       301199-999-999-999-999-999-999-999-999-999-999-999-999\n")
+    high = cards_of(still_clock(999_849, 2000, 2), 0)
+    check("high", high[-69:], b"2     0       29 2 0" + b"9998" * 12 + b"\n")
+    empty = cards_of(clock_with(0, [], 1977, 2), 6_485)
+    check("empty station", empty[:69], b"1  6485        1 277" + b"   0" * 12 + b"\n")
+    check("order of cards", [(line[:1], int(line[14:16])) for line in empty.split(b"\n")[:-1]],
+          [(number, day) for day in range(1, 29) for number in (b"1", b"2")])
+    for year, digits in ((1950, b"50"), (1999, b"99"), (2000, b" 0"), (2005, b" 5"), (2009, b" 9"), (2010, b"10"), (2049, b"49")):
+        check("year %d" % year, cards_of(still_clock(0, year, 1))[18:20], digits)
+    for year, month, days in ((1977, 2, 28), (1976, 2, 29), (2000, 2, 29), (1976, 4, 30), (1976, 12, 31)):
+        check("length of %d %d" % (year, month), len(cards_of(still_clock(0, year, month))), 138 * days)
+
+
+def check_hourly_rounding():
+    """ "Heights are in centimetres, the nearest, a half going up." """
+    for height, wanted in (
+        (-50, 0), (-51, -1), (-49, 0), (49, 0), (50, 1), (51, 1), (0, 0), (-1, 0), (-150, -1), (-151, -2), (149, 1), (150, 2),
+        (-99_900, -999), (-99_949, -999), (-99_950, -999), (999_800, 9_998), (999_750, 9_998), (999_749, 9_997), (999_849, 9_998),
+    ):
+        check("%d tenths" % height, cards_of(still_clock(height))[20:68], b"%4d" % wanted * 12)
+
+
+def check_hourly_hours():
+    """Every height is that of its hour: 24:00 is the next midnight, the month's last included; 00:00 of the 1st is on no card."""
+    for year, month in ((1976, 7), (1977, 2), (2000, 2), (2049, 12), (1950, 4)):
+        clock = clock_with(2_905, TIDE, year, month)
+        days = clock.month.days
+        left = clock.table, clock.station, clock.month
+        wanted = [(tenths + 50) // 100 for tenths in clock.series(60, 60, 24 * days)]
+        cards = hourly.read(cards_of(clock))
+        check("all hours of %d %d" % (year, month), [height for card in cards for height in card.heights], wanted)
+        check("24:00 of the last day", cards[-1].heights[11], (clock.height(days * 1_440) + 50) // 100)
+        check("01:00 of the 1st", cards[0].heights[0], (clock.height(60) + 50) // 100)
+        check("not 00:00", cards[0].heights[0] != (clock.height(0) + 50) // 100, True)
+        check("hourly leaves all", all(a is b for a, b in zip(left, (clock.table, clock.station, clock.month))), True)
+
+
+def check_hourly_back():
+    """Cards read back: station number, dates and heights are those written."""
+    for year, month, station in ((1950, 1, 0), (1999, 12, 5), (2000, 2, 99_999), (2005, 9, 7_120), (2049, 11, 10)):
+        clock = clock_with(2_905, TIDE, year, month)
+        cards = hourly.read(cards_of(clock, station))
+        days = range(1, clock.month.days + 1)
+        dates = [(number, year, month, day) for day in days for number in (1, 2)]
+        check("dates read back", [(card.number, card.year, card.month, card.day) for card in cards], dates)
+        check("station read back", {card.station for card in cards}, {station})
+        check("cards read back", cards, hourly.month_cards(clock.month, station))
+
+
+def check_hourly_read():
+    """A card of the manual, 001, appendix 7.2, in the columns of its format; and edits of it."""
+    manual = b"1  6485        7 775 229 218 206 200 193 187 179 176 183 199 215 231"
+    numbers = [229, 218, 206, 200, 193, 187, 179, 176, 183, 199, 215, 231]
+    check("the manual's card", hourly.read(manual), [hourly.HourlyCard(1, 6_485, 1975, 7, 7, numbers)])
+
+    def edited(start, text):
+        return manual[: start - 1] + text + manual[start - 1 + len(text) :]
+
+    def edit(what, start, text, wanted):
+        check("hourly card: " + what, refused(hourly.read, edited(start, text)), wanted)
+
+    other = edited(3, b"06485" + b"xxxxxxx" + b"07" + b"7 " + b" 0" + b" 1  " + b"-9  " + b"-001")
+    check("zeros and blanks", hourly.read(other), [hourly.HourlyCard(1, 6_485, 2000, 7, 7, [1, -9, -1] + numbers[3:])])
+    edit("skipped columns", 2, b"x", None)
+    edit("past the format", 69, b"x" * 12, None)
+    edit("81 columns", 69, b"x" * 13, (1, 1))
+    edit("byte 127", 2, b"\x7f", (1, 1))
+    edit("card 0", 1, b"0", (3, 1))
+    edit("card 3", 1, b"3", (3, 1))
+    edit("no card number", 1, b" ", (2, 1))
+    edit("blank station", 3, b"     ", (2, 1))
+    edit("negative station", 3, b"   -1", (3, 1))
+    edit("blank inside", 3, b"6 485", (2, 1))
+    edit("day 0", 15, b" 0", (3, 1))
+    edit("31 June", 15, b"31 6", (3, 1))
+    edit("31 July", 15, b"31 7", None)
+    edit("29 February 1975", 15, b"29 275", (3, 1))
+    edit("29 February 2000", 15, b"29 2 0", None)
+    edit("month 13", 17, b"13", (3, 1))
+    edit("negative year", 19, b"-1", (3, 1))
+    edit("blank height", 65, b"    ", (2, 1))
+    edit("9999", 65, b"9999", (3, 1))
+    edit("-999", 65, b"-999", None)
+    edit("a point", 65, b" 1.0", (2, 1))
+    for digits, year in ((b"50", 1950), (b"99", 1999), (b"00", 2000), (b" 5", 2005), (b"5 ", 2005), (b"49", 2049)):
+        check("year %r" % digits, hourly.read(edited(19, digits))[0].year, year)
+    check("place of a bad card", refused(hourly.read, manual + b"\n" + manual + b"\n" + edited(1, b"x") + b"\n"), (2, 3))
+    check("no cards", hourly.read(b""), [])
+
+
+def check_hourly_refusals():
+    clock = Clock()
+    next_calls = (clock.set_cards, STANDARD), (clock.set_station, 0, []), (clock.set_date, 1976, 7)
+    for number, (call, *arguments) in enumerate(next_calls, 21):
+        for station, places in ((0, 4_278), (100_000, 4_278), (0, 0), (100_000, 0)):
+            check("hourly %d %d" % (station, places), refused(clock.hourly, station, places), (number, 0))
+        call(*arguments)
+    for station, places, wanted in (
+        (0, 4_278, None), (99_999, 4_278, None), (0, 4_279, None), (0, 2**32 - 1, None), (0, 4_277, (34, 0)), (0, 0, (34, 0)),
+        (100_000, 4_278, (32, 0)), (100_000, 0, (32, 0)), (2**32 - 1, 4_278, (32, 0)), (65_536, 4_278, None), (131_072, 4_278, (32, 0)),
+    ):
+        check("hourly %d %d" % (station, places), refused(clock.hourly, station, places), wanted)
+    for level, wanted in (
+        (-99_950, None), (-99_951, (33, 1)), (-100_000, (33, 1)), (999_849, None), (999_850, (33, 1)), (999_900, (33, 1)),
+    ):
+        clock = still_clock(level)
+        check("level %d" % level, refused(clock.hourly, 0, 4_278), wanted)
+        check("level %d and no buffer" % level, refused(clock.hourly, 0, 0), wanted or (34, 0))
+        check("level %d and no station" % level, refused(clock.hourly, 100_000, 0), (32, 0))
+
+
+def check_hourly_places():
+    """33 at the first card with such a height, which may be any of the month."""
+    for lag in (0, 7_000, 9_000, 18_000, 27_000):
+        for name in (decks.SLOW, decks.SWIFT):
+            tide = still_clock(0, 1977, 2, [(name, 9_000, lag)]).series(60, 60, 24 * 28)
+            hour = tide.index(max(tide))
+            for past, wanted in ((0, (34, 0)), (1, (33, hour // 12 + 1))):
+                clock = still_clock(999_849 - max(tide) + past, 1977, 2, [(name, 9_000, lag)])
+                check("high at hour %d, %d past" % (hour, past), refused(clock.hourly, 0, 0), wanted)
+            hour = tide.index(min(tide))
+            for past, wanted in ((0, (34, 0)), (1, (33, hour // 12 + 1))):
+                clock = still_clock(-99_950 - min(tide) - past, 1977, 2, [(name, 9_000, lag)])
+                check("low at hour %d, %d past" % (hour, past), refused(clock.hourly, 0, 0), wanted)
+
+
+def check_hourly_ends():
+    """24:00 of the last day is on the last card, 00:00 of the 1st on none."""
+    rising = [(decks.SLOW, 65_535, 9_000)]
+    tide = still_clock(0, 1976, 2, rising).series(0, 60, 24 * 29 + 1)
+    check("rising all month", tide == sorted(tide), True)
+    check("24:00 of the last day alone", tide[-2] < tide[-1], True)
+    clock = still_clock(999_850 - tide[-1], 1976, 2, rising)
+    check("33 at the last card", refused(clock.hourly, 0, 4_002), (33, 58))
+    clock = still_clock(-99_950 - tide[1], 1976, 2, rising)
+    check("00:00 of the 1st is past the limit", clock.height(0) < -99_950, True)
+    check("and on no card", refused(clock.hourly, 0, 4_002), None)
+
+
+def check_hourly():
+    check_hourly_columns()
+    check_hourly_rounding()
+    check_hourly_hours()
+    check_hourly_back()
+    check_hourly_read()
+    check_hourly_refusals()
+    check_hourly_places()
+    check_hourly_ends()
+
+
 def check_replay():
     script = b"height 0\ncards %d\n%s\nstation -299 1\n0 5 18000\ndate 1976 2\nheight 41760\n" % (len(STANDARD), STANDARD)
     script += b"series 0 1440 2\nseries 5 5 0\nturns 0 41760 0 0\nheight 41761\n"
@@ -457,12 +633,17 @@ def check_replay():
     bookings_answers = ["heights -5 -5", "heights", "refused 31 0", "refused 9 2", "height -5"]
     check("bookings", list(replay(script + bookings)), answers + bookings_answers)
     check("bookings with no table", list(replay(b"bookings 1 0\n99999\nbookings 0 0\n")), ["refused 21 0"] * 2)
+    cards = "".join("%d  7120       %2d 276" % (number, day) + "   0" * 12 + "\n" for day in range(1, 30) for number in (1, 2))
+    asked = b"hourly 7120 4002\nhourly 7120 4001\nhourly 100000 0\nheight 0\n"
+    hourly_answers = ["hourly 4002\n" + cards[:-1], "refused 34 0", "refused 32 0", "height -5"]
+    check("hourly", list(replay(script + asked)), answers + hourly_answers)
+    check("hourly with no table", list(replay(b"hourly 100000 0\n")), ["refused 21 0"])
     line = script.count(b"\n") + 1
     for bad in (b"height", b"height 1", b"height -1\n", b"height  1\n", b"\n", b"Height 1\n", b"height 4294967296\n",
                 b"date 1 2 3\n", b"station 1\n", b"cards x\n", b"\xff\n", b"height 1 \n", b"height 1\r\n", b"year 1976 0 1 0 0 0 0\n",
                 b"year 1976 0 1 0 0 0 0 0 0\n", b"year 1976 0 1 0 0 0 0 -1\n", b"year 1976 0 1 0 0 0 0 4294967296\n",
                 b"booking 0 0\n", b"bookings 0\n", b"bookings 0 0 0\n", b"bookings 0 0", b"bookings -1 0\n",
-                b"bookings 0 4294967296\n"):
+                b"bookings 0 4294967296\n", *hours.MALFORMED[:22]):
         check("script %r" % bad, list(replay(script + bad)), answers + ["script %d" % line])
     check("record", list(replay(b"station 0 2\n1 2 3\n256 0 0\n")), ["script 3"])
     check("missing record", list(replay(b"station 0 2\n1 2 3\n")), ["script 3"])
@@ -483,6 +664,7 @@ def main():
     check_station_files()
     check_years()
     check_bookings()
+    check_hourly()
     check_replay()
     print("%d passed, %d failed" % (PASSED, FAILED))
     sys.exit(1 if FAILED else 0)

@@ -1,11 +1,13 @@
 """Compares replay with the second code on many scripts in one run of Python, which is some times faster than tools/compare.sh.
 
 Usage: python3 tools/compare_many.py PROGRAM SEED COUNT
-COUNT scripts of about 100 calls are generated from the seed; the answers are compared line for line. Prints how many lines and prepared
-months there were, and how often each refusal occurred, with the calls in all and with `year` and `bookings` alone.
+COUNT scripts of about 100 calls are generated from the seed; the answers are compared byte for byte, and the first call of a script that
+is answered otherwise is shown. An answer is a line; that of `hourly` goes on with its cards. Prints how many answers there were, and how
+often each kind and each refusal occurred, with the calls in all and with `year`, `bookings` and `hourly` alone.
 """
 
 import collections
+import itertools
 import os
 import random
 import subprocess
@@ -21,7 +23,7 @@ from replay import Script, ScriptError, read_call, replay  # noqa: E402
 
 
 # The calls whose answers are counted alone too.
-ALONE = [b"year", b"bookings"]
+ALONE = [b"year", b"bookings", b"hourly"]
 
 
 def keep(module, name, key):
@@ -41,6 +43,7 @@ def keep(module, name, key):
 # What making a script and answering it ask for again and again; a third of the time is left.
 KEPT = [
     keep(heights, "slope", lambda month, minute: (id(month), minute)),
+    keep(heights, "height", lambda month, minute: (id(month), minute)),
     keep(clock, "prepare", lambda table, station, *date: (id(table), station.latitude, tuple(station.records), *date)),
     keep(clock, "read_card_file", lambda data: data),
 ]
@@ -63,9 +66,34 @@ def answered(seed, count):
         yield script, answers(script)
 
 
-def kind(line):
+def parted(text):
+    """The answers in what a program wrote, each with its LF; that of `hourly` with the bytes it announces."""
+    at = 0
+    while at < len(text):
+        end = text.find(b"\n", at) + 1 or len(text)
+        word, _, size = text[at:end].partition(b" ")
+        if word == b"hourly" and size.strip().isdigit():
+            end += int(size)
+        yield text[at:end]
+        at = end
+
+
+def first_difference(script, wanted, got):
+    """The first call that is answered otherwise: its number from 1, its word, and from where on the two answers differ."""
+    asked = itertools.chain(words(script), itertools.repeat(b"nothing"))
+    pairs = itertools.zip_longest(parted(wanted), parted(got), fillvalue=b"")
+    for number, (word, (theirs, ours)) in enumerate(zip(asked, pairs), 1):
+        if theirs != ours:
+            at = len(os.path.commonprefix([theirs, ours]))
+            shown = max(0, at - 20)
+            return "call %d, %s, from byte %d: second code %r, program %r" % (
+                number, word.decode(errors="replace"), at, theirs[shown : at + 60], ours[shown : at + 60])
+    return "nowhere"
+
+
+def kind(answer):
     """What an answer is: its word, and of a refusal the number."""
-    parts = line.split()
+    parts = answer.split()
     return " ".join(parts[:2]) if parts[0] == "refused" else parts[0]
 
 
@@ -85,19 +113,20 @@ def main():
     kinds, alone = collections.Counter(), {word: collections.Counter() for word in ALONE}
     differing = 0
     for index, (script, wanted) in enumerate(answered(seed, count)):
-        got = subprocess.run([program], input=script, capture_output=True, check=True).stdout.decode().split("\n")[:-1]
+        got = subprocess.run([program], input=script, capture_output=True, check=True).stdout
         kinds.update(map(kind, wanted))
-        for word, line in zip(words(script), wanted):
+        for word, answer in zip(words(script), wanted):
             if word in alone:
-                alone[word][kind(line)] += 1
-        if got != wanted:
+                alone[word][kind(answer)] += 1
+        written = "".join(answer + "\n" for answer in wanted).encode()
+        if got != written:
             differing += 1
-            print("differs: seed %d script %d" % (seed, index))
-    lines = sum(kinds.values())
-    print("%d scripts, %d lines compared, %d scripts differ" % (count, lines, differing))
+            print("differs: seed %d script %d, %s" % (seed, index, first_difference(script, written, got)))
+    total = sum(kinds.values())
+    print("%d scripts, %d answers compared, %d scripts differ" % (count, total, differing))
     for title, counts in [("answers", kinds)] + [("to %s" % word.decode(), counts) for word, counts in alone.items()]:
         print("%s: %s" % (title, ", ".join("%s: %d" % pair for pair in sorted(counts.items()))))
-    sys.exit(1 if differing or not lines else 0)
+    sys.exit(1 if differing or not total else 0)
 
 
 if __name__ == "__main__":

@@ -9,7 +9,7 @@ CR LF, empty files, files over 65,536 bytes, odd arguments. Whatever comes in, a
 signal, and say what its format has:
   cuvalimodo   a whole sheet and nothing on standard error; or one line on standard error and nothing on standard output
   cardcheck    one line: accepted with four counts, or refused with a number and a line
-  replay       lines of its format
+  replay       lines of its format, hourly cards among them
 An SVG sheet must be well-formed XML. The input of a failure is kept in target/fuzz/.
 """
 
@@ -29,8 +29,10 @@ KEPT = os.path.join(ROOT, "target", "fuzz")
 LIMIT = 20.0  # seconds for one input, far above what one takes
 
 CARDCHECK = re.compile(rb"accepted \d+ \d+ \d+ \d+\n|refused \d+ \d+\n")
+HOURLY = rb"hourly (3864|4002|4140|4278)(\n[12] [ \d]{5} {7}[ \d]{6}([ \d-]{3}\d){12}){56,62}"
 REPLAY = re.compile(
-    rb"((accepted|refused \d+ \d+|height -?\d+|heights( -?\d+)*|(year \d+( -?\d+)* )?turns \d+ [01]( \d+ -?\d+)*)\n)*(script \d+\n)?")
+    rb"((accepted|refused \d+ \d+|height -?\d+|heights( -?\d+)*|(year \d+( -?\d+)* )?turns \d+ [01]( \d+ -?\d+)*|" + HOURLY + rb")\n)*(script \d+\n)?")
+CARD = re.compile(rb"[12] ")
 CSV = re.compile(rb"(#[^\n]*\n)+[^\n#]*\n([^\n,]+,((high|low),)?-?\d+\.\d+\n)*")
 
 
@@ -238,7 +240,8 @@ def judge_lines(form, done):
         return "FAILED: words on standard error"
     if not form.fullmatch(done.stdout):
         return "FAILED: not of the format"
-    last = done.stdout.rstrip(b"\n").split(b"\n")[-1].split(b" ")
+    last_line = done.stdout.rstrip(b"\n").split(b"\n")[-1]
+    last = last_line.split(b" ") if not CARD.match(last_line) else [b"hourly"]
     return " ".join(word.decode() for word in last[:2]) if last[0] == b"refused" else last[0].decode() or "nothing"
 
 

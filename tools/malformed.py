@@ -12,7 +12,8 @@ import sys
 HERE = os.path.dirname(os.path.abspath(__file__))
 sys.path.insert(0, os.path.join(HERE, "..", "second"))
 
-from bookings import MALFORMED
+import bookings
+import hours
 from replay import replay
 
 PROGRAM = os.path.join(HERE, "..", "target", "bin", "replay")
@@ -40,7 +41,7 @@ def short_scripts():
         b"cards 3\na\nb", b"cards 3\na\nbx\n", b"cards 5\na\nb\n", b"cards 1\n\n", b"cards 4294967296\n", b"cards\n",
         b"cards 1 1\n", b"date 1 1\n", b"date 1\n", b"date 1 1 1\n", b"series 0 1 2\n", b"series 0 1\n", b"series 0 1 2 3\n",
         b"turns 0 0 0 0\n", b"turns 0 0 0\n", b"turns 0 0 0 0 0\n", b"turns 0 0 44641 44641\n", b"series 0 0 44641\n",
-        *MALFORMED,
+        *bookings.MALFORMED, *hours.MALFORMED,
     ]
     yield from lines
     for line in lines:
