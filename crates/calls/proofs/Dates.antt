@@ -11,8 +11,7 @@ use Rattle.station.specs.Station.{Station}
 use Rattle.calendar.specs.Calendar.{inRange, monthMinutes}
 use Rattle.month_prepared.specs.Prepared.{Constituent}
 use Rattle.month.specs.Month.{monthOf}
-use Rattle.month_prepared.specs.Prepared.{Month}
-use Rattle.calls.specs.State.{State, some}
+use Rattle.calls.specs.State.{Maybe, none, some, Dated, State}
 use Rattle.calls.specs.inner.Flags.{when, stateOf, dateBy}
 use Rattle.calls.specs.Calls.{dateGives, dateReturns, dateLeaves}
 
@@ -26,12 +25,12 @@ date-passed true true year m e = (refl, refl, by (inRange year m) e)
 date-passed true false year m e = not-both e
 date-passed false s year m e = not-both e
 
-module _ (table : Table) (station : Station) (d : Bool) (month : Month) (year m : ℕ) where
+module _ (table : Table) (station : Station) (d : Bool) (month : Dated) (year m : ℕ) where
   abbrev before : Bool → Bool → State
   before t s = stateOf t table s station d month
 
-  abbrev prepared : List Constituent → Month
-  prepared constituents = record { last = monthMinutes year m; constituents = constituents }
+  abbrev prepared : List Constituent → Dated
+  prepared constituents = record { year = year; month = m; prepared = record { last = monthMinutes year m; constituents = constituents } }
 
   -- what is asked first is returned first
   gives-refused : (t s : Bool) (number place : ℕ) → dateBy t s year m ≡ refused number place → dateGives (when t table) (when s station) year m ≡ refused number place
