@@ -29,7 +29,7 @@ from typing import TYPE_CHECKING, Iterable, NamedTuple, SupportsIndex, Tuple
 if TYPE_CHECKING:
     from _typeshed import ReadableBuffer, WriteableBuffer
 
-CLOCK_SIZE = 16824
+CLOCK_SIZE = 16832
 NAME_SIZE = 5
 
 

@@ -6,7 +6,7 @@
 //! nothing outside this module can write to one.
 
 /// How many bytes a clock has.
-pub const CLOCK_SIZE: usize = 16824;
+pub const CLOCK_SIZE: usize = 16832;
 
 /// How many bytes a name has.
 pub const NAME_SIZE: usize = 5;

@@ -14,8 +14,7 @@ use Rattle.table.specs.Table.{Table}
 use Rattle.station.specs.Station.{Station}
 use Rattle.heights.specs.Height.{heightAt}
 use Rattle.heights.specs.inner.Places.{AllWithin}
-use Rattle.month_prepared.specs.Prepared.{Month}
-use Rattle.calls.specs.State.{State}
+use Rattle.calls.specs.State.{Dated, State}
 use Rattle.calls.specs.Calls.{filled}
 use Rattle.calls.specs.Bookings.{minutesFrom, bookingsHeights, bookingsGives}
 use Rattle.calls.specs.inner.Flags.{stateOf, bookingsBy}
@@ -29,25 +28,25 @@ of-any true asked a next o e = ap (λ (x : Outcome Unit). x >> next a) e
 of-any false (accepted tt) a next o e = ap (λ (x : Outcome Unit). x >> next a) e
 of-any false (refused number place) a next o e = ap (λ (x : Outcome Unit). x >> next a) e
 
-module _ (table : Table) (station : Station) (month : Month) (minutes : List ℕ) where
+module _ (table : Table) (station : Station) (month : Dated) (minutes : List ℕ) where
   abbrev new : List ℤ
-  new = map (heightAt (month .constituents)) minutes
+  new = map (heightAt (month .prepared .constituents)) minutes
 
-  heights-by : (t s d : Bool) (places : ℕ) (o : Outcome Unit) → bookingsBy t s d (month .last) minutes places ≡ o
+  heights-by : (t s d : Bool) (places : ℕ) (o : Outcome Unit) → bookingsBy t s d (month .prepared .last) minutes places ≡ o
       → bookingsHeights (stateOf t table s station d month) minutes places ≡ (o >> accepted new)
   unfolding bookingsHeights
-  heights-by true true true places o e = of-any (not (eqb (length minutes) places)) (minutesFrom (month .last) 1 minutes) (table, station, month) (λ x. accepted (map (heightAt (x .2 .constituents)) minutes)) o e
+  heights-by true true true places o e = of-any (not (eqb (length minutes) places)) (minutesFrom (month .prepared .last) 1 minutes) (table, station, month) (λ x. accepted (map (heightAt (x .2 .prepared .constituents)) minutes)) o e
   heights-by true true false places o e = ap (λ (x : Outcome Unit). x >> accepted new) e
   heights-by true false d places o e = ap (λ (x : Outcome Unit). x >> accepted new) e
   heights-by false s d places o e = ap (λ (x : Outcome Unit). x >> accepted new) e
 
   module _ (t s d : Bool) (heights : List ℤ) where
-    pub bookings-refused : (number place : ℕ) → bookingsBy t s d (month .last) minutes (length heights) ≡ refused number place
+    pub bookings-refused : (number place : ℕ) → bookingsBy t s d (month .prepared .last) minutes (length heights) ≡ refused number place
         → record { returned = refused number place; heights = heights } ≡ bookingsGives (stateOf t table s station d month) minutes heights
     unfolding bookingsGives
     bookings-refused number place e = rw (heights-by t s d (length heights) (refused number place) e)
 
-    pub bookings-given : bookingsBy t s d (month .last) minutes (length heights) ≡ accepted tt
+    pub bookings-given : bookingsBy t s d (month .prepared .last) minutes (length heights) ≡ accepted tt
         → record { returned = accepted tt; heights = new } ≡ bookingsGives (stateOf t table s station d month) minutes heights
     unfolding bookingsGives
     bookings-given e = rw (heights-by t s d (length heights) (accepted tt) e)

@@ -1,6 +1,7 @@
--- A date's cases, by the flags of the state: refused by 21, 22 or 8, and the month that is prepared, or refused by 11. Assumes nothing.
+-- A date's cases, by the flags of the state: refused by 21, 22 or 8, and the month that is prepared, or refused by 11. And of which date that month is.
+-- Assumes nothing.
 use Prim.{Unit}
-use mathlib.Core.Path.{_≡_, refl, sym}
+use mathlib.Core.Path.{_≡_, refl, sym, ap}
 use Prim.Native.Nat.{ℕ}
 use mathlib.Core.Bool.{Bool, true, false, not}
 use mathlib.Core.List.{List}
@@ -11,8 +12,7 @@ use Rattle.station.specs.Station.{Station}
 use Rattle.calendar.specs.Calendar.{inRange, monthMinutes}
 use Rattle.month_prepared.specs.Prepared.{Constituent}
 use Rattle.month.specs.Month.{monthOf}
-use Rattle.month_prepared.specs.Prepared.{Month}
-use Rattle.calls.specs.State.{State, some}
+use Rattle.calls.specs.State.{Maybe, none, some, Dated, State}
 use Rattle.calls.specs.inner.Flags.{when, stateOf, dateBy}
 use Rattle.calls.specs.Calls.{dateGives, dateReturns, dateLeaves}
 
@@ -26,12 +26,16 @@ date-passed true true year m e = (refl, refl, by (inRange year m) e)
 date-passed true false year m e = not-both e
 date-passed false s year m e = not-both e
 
-module _ (table : Table) (station : Station) (d : Bool) (month : Month) (year m : ℕ) where
+-- a month that is prepared for a date
+abbrev preparedFor : ℕ → ℕ → List Constituent → Dated
+preparedFor year m constituents = record { year = year; month = m; prepared = record { last = monthMinutes year m; constituents = constituents } }
+
+module _ (table : Table) (station : Station) (d : Bool) (month : Dated) (year m : ℕ) where
   abbrev before : Bool → Bool → State
   before t s = stateOf t table s station d month
 
-  abbrev prepared : List Constituent → Month
-  prepared constituents = record { last = monthMinutes year m; constituents = constituents }
+  abbrev prepared : List Constituent → Dated
+  prepared = preparedFor year m
 
   -- what is asked first is returned first
   gives-refused : (t s : Bool) (number place : ℕ) → dateBy t s year m ≡ refused number place → dateGives (when t table) (when s station) year m ≡ refused number place
@@ -69,3 +73,21 @@ module _ (table : Table) (station : Station) (d : Bool) (month : Month) (year m 
           × (left t s o ≡ onAccepted (o >>= λ constituents. accepted (prepared constituents)) (λ left. record { table = before t s .table; station = before t s .station; month = some left }) (before t s))
       by (accepted constituents) = (refl, refl)
       by (refused number place) = (refl, refl)
+
+-- what a date gives is prepared for that date, which is in range
+pub date-given : (table : Maybe Table) (station : Maybe Station) (year m : ℕ) (dated : Dated) → dateGives table station year m ≡ accepted dated
+    → (dated .year ≡ year) × (dated .month ≡ m) × (inRange year m ≡ true)
+unfolding dateGives
+date-given none station year m dated e = not-both e
+date-given (some t) none year m dated e = not-both e
+date-given (some t) (some s) year m dated e = by (inRange year m) e
+  where
+    same : (o : Outcome (List Constituent)) → (o >>= λ constituents. accepted (preparedFor year m constituents)) ≡ accepted dated → (dated .year ≡ year) × (dated .month ≡ m)
+    same (accepted constituents) e′ = let d : dated ≡ preparedFor year m constituents = cc in (ap (λ (x : Dated). x .year) d, ap (λ (x : Dated). x .month) d)
+    same (refused number place) e′ = not-both e′
+
+    by : (c : Bool)
+        → (refuseIf {A = Table × Station} (not c) 8 0 (accepted (t, s)) >>= λ (t, s). monthOf t s year m >>= λ constituents. accepted (preparedFor year m constituents)) ≡ accepted dated
+        → (dated .year ≡ year) × (dated .month ≡ m) × (c ≡ true)
+    by true e′ = let both = same (monthOf t s year m) e′ in (both .0, both .1, refl)
+    by false e′ = not-both e′

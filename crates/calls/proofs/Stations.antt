@@ -9,12 +9,11 @@ use Rattle.refusals.specs.Outcome.{Outcome, accepted, refused}
 use Rattle.station.specs.declared.records.Record.{Record}
 use Rattle.table.specs.Table.{Table}
 use Rattle.station.specs.Station.{Station}
-use Rattle.month_prepared.specs.Prepared.{Month}
-use Rattle.calls.specs.State.{State}
+use Rattle.calls.specs.State.{Dated, State}
 use Rattle.calls.specs.inner.Flags.{stateOf, tabledOnly}
 use Rattle.calls.specs.Calls.{stationReturns, stationLeaves}
 
-module _ (table : Table) (s : Bool) (station : Station) (d : Bool) (month : Month) (latitude : ℤ) (records : List Record) where
+module _ (table : Table) (s : Bool) (station : Station) (d : Bool) (month : Dated) (latitude : ℤ) (records : List Record) where
   abbrev before : Bool → State
   before t = stateOf t table s station d month
 

@@ -20,7 +20,7 @@ use Rattle.turns.specs.Slope.{slopeOver}
 use Rattle.turns.specs.Search.{Turn, turnsOf, firstHigh, minutesOf}
 use Rattle.turns.specs.Strides.{stationStride}
 use Rattle.turns.specs.Written.{TurnsFound, TurnsGiven, unlessRefused, fromFront, tooMany, given}
-use Rattle.calls.specs.State.{Maybe, some, State}
+use Rattle.calls.specs.State.{Maybe, some, Dated, State}
 use Rattle.calls.specs.Year.{sheetOutside, sheetAsked, YearGiven, unlessTurnedDown, beside, sheetOver, yearGives}
 use Rattle.calls.specs.declared.annual.Sheet.{Sheet}
 use Rattle.calls.specs.inner.Flags.{stateOf, yearBy}
@@ -80,7 +80,7 @@ module _ (sheet : Sheet) (series : List ℤ) (minutes : List ℕ) (heights : Lis
   module _ (table : Table) (station : Station) where
     -- ---- 21, 22 and 8
 
-    asked-refused : (t s d : Bool) (month : Month) (number place : ℕ) → yearBy t s (sheet .year) ≡ refused number place
+    asked-refused : (t s d : Bool) (month : Dated) (number place : ℕ) → yearBy t s (sheet .year) ≡ refused number place
         → sheetAsked (stateOf t table s station d month) sheet (length series) ≡ refused number 0
     unfolding sheetAsked
     asked-refused true true d month number place e = eight (not (yearInRange (sheet .year))) _ e
@@ -93,14 +93,14 @@ module _ (sheet : Sheet) (series : List ℤ) (minutes : List ℕ) (heights : Lis
     asked-refused true false d month number place e = no-place e
     asked-refused false s d month number place e = no-place e
 
-    pub year-refused : (t s d : Bool) (month : Month) (number place : ℕ) → yearBy t s (sheet .year) ≡ refused number place
+    pub year-refused : (t s d : Bool) (month : Dated) (number place : ℕ) → yearBy t s (sheet .year) ≡ refused number place
         → turnedDown number 0 ≡ yearGives (stateOf t table s station d month) sheet series minutes heights
     unfolding yearGives
     year-refused t s d month number place e = sym (ap sheet-of (asked-refused t s d month number place e))
 
     -- ---- with a table and a station, of a year in range
 
-    module _ (month : Maybe Month) (inside : yearInRange (sheet .year) ≡ true) where
+    module _ (month : Maybe Dated) (inside : yearInRange (sheet .year) ≡ true) where
       abbrev there : State
       there = record { table = some table; station = some station; month = month }
 

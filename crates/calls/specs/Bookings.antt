@@ -11,8 +11,7 @@ use lib.IntN.{ℤ}
 use lib.ListN.{length}
 use Rattle.refusals.specs.Outcome.{Outcome, accepted, refuseIf, _>>=_, _>>_}
 use Rattle.heights.specs.Height.{heightAt}
-use Rattle.month_prepared.specs.Prepared.{Month}
-use Rattle.calls.specs.State.{Maybe, State}
+use Rattle.calls.specs.State.{Maybe, Dated, State}
 use Rattle.calls.specs.Asked.{monthAsked, minuteOutside}
 use Rattle.calls.specs.Calls.{SeriesGiven, filled, heightReturns}
 
@@ -31,8 +30,8 @@ bookingsAsked last minutes places table station month = do
 -- list is accepted."
 unfoldable pub bookingsHeights : State → List ℕ → ℕ → Outcome (List ℤ)
 bookingsHeights k minutes places = do
-  (table, station, month) ← bookingsAsked (λ (month : Month). month .last) minutes places (k .table) (k .station) (k .month)
-  accepted (map (heightAt (month .constituents)) minutes)
+  (table, station, month) ← bookingsAsked (λ (month : Dated). month .prepared .last) minutes places (k .table) (k .station) (k .month)
+  accepted (map (heightAt (month .prepared .constituents)) minutes)
 
 -- "From here on a refusal writes nothing"
 unfoldable pub bookingsGives : State → List ℕ → List ℤ → SeriesGiven

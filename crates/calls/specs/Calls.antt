@@ -19,8 +19,7 @@ use Rattle.turns.specs.Slope.{slopeAt}
 use Rattle.turns.specs.Search.{turnsOf}
 use Rattle.turns.specs.Written.{TurnsGiven, unlessRefused, given}
 use Rattle.turns.specs.Strides.{stationStride}
-use Rattle.month_prepared.specs.Prepared.{Month}
-use Rattle.calls.specs.State.{Maybe, none, some, State}
+use Rattle.calls.specs.State.{Maybe, none, some, Dated, State}
 use Rattle.calls.specs.Asked.{tableAsked, dateAsked, minutesAsked, minuteOutside, seriesOutside, turnsOutside}
 
 -- ---- a card file
@@ -49,12 +48,12 @@ stationLeaves k latitude records =
 
 -- ---- a date: "a month [asks] 21 and 22", then 8, then 11
 
--- its month, prepared
-unfoldable pub dateGives : Maybe Table → Maybe Station → ℕ → ℕ → Outcome Month
+-- its month, prepared for it
+unfoldable pub dateGives : Maybe Table → Maybe Station → ℕ → ℕ → Outcome Dated
 dateGives table station year month = do
   (t, s) ← dateAsked table station year month
   constituents ← monthOf t s year month
-  accepted (record { last = monthMinutes year month; constituents = constituents })
+  accepted (record { year = year; month = month; prepared = record { last = monthMinutes year month; constituents = constituents } })
 
 unfoldable pub dateReturns : State → ℕ → ℕ → Outcome Unit
 dateReturns k year month = answered (dateGives (k .table) (k .station) year month)
@@ -63,27 +62,27 @@ dateReturns k year month = answered (dateGives (k .table) (k .station) year mont
 unfoldable pub dateLeaves : State → ℕ → ℕ → State
 dateLeaves k year month =
     onAccepted (dateGives (k .table) (k .station) year month)
-    (λ prepared. record { table = k .table; station = k .station; month = some prepared }) k
+    (λ dated. record { table = k .table; station = k .station; month = some dated }) k
 
 -- ---- what heights, series and turns ask first, of minutes that a test finds outside a month
 
-abbrev pub ready : (Month → Bool) → State → Outcome (Table × Station × Month)
+abbrev pub ready : (Dated → Bool) → State → Outcome (Table × Station × Dated)
 ready outside k = minutesAsked outside (k .table) (k .station) (k .month)
 
 -- ---- a height
 
 unfoldable pub heightReturns : State → ℕ → Outcome ℤ
 heightReturns k minute = do
-  (table, station, month) ← ready (λ month. minuteOutside (month .last) minute) k
-  accepted (heightAt (month .constituents) minute)
+  (table, station, month) ← ready (λ month. minuteOutside (month .prepared .last) minute) k
+  accepted (heightAt (month .prepared .constituents) minute)
 
 -- ---- a series
 
 -- so many heights
 unfoldable pub seriesHeights : State → ℕ → ℕ → ℕ → Outcome (List ℤ)
 seriesHeights k start step places = do
-  (table, station, month) ← ready (λ month. seriesOutside (month .last) start step places) k
-  accepted (seriesOf (heightAt (month .constituents)) start step places)
+  (table, station, month) ← ready (λ month. seriesOutside (month .prepared .last) start step places) k
+  accepted (seriesOf (heightAt (month .prepared .constituents)) start step places)
 
 -- what a series returns, and the lent places as it leaves them
 pub record SeriesGiven : Type 0 where
@@ -102,6 +101,6 @@ seriesGives k start step heights = filled (seriesHeights k start step (length he
 
 unfoldable pub turnsGives : State → ℕ → ℕ → List ℕ → List ℤ → TurnsGiven
 turnsGives k first last minutes heights =
-    unlessRefused (ready (λ month. turnsOutside (month .last) first last) k) minutes heights λ (table, station, month).
-    given (heightAt (month .constituents))
-    (turnsOf (slopeAt (month .constituents)) (stationStride table station) first last) minutes heights
+    unlessRefused (ready (λ month. turnsOutside (month .prepared .last) first last) k) minutes heights λ (table, station, month).
+    given (heightAt (month .prepared .constituents))
+    (turnsOf (slopeAt (month .prepared .constituents)) (stationStride table station) first last) minutes heights

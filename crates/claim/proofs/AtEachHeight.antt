@@ -13,7 +13,7 @@ use Rattle.heights.specs.Height.{heightAt, heightOver}
 use Rattle.turns.specs.Search.{Turn, minutesOf}
 use Rattle.turns.specs.Written.{TurnsFound, fromFront}
 use Rattle.calls.specs.State as state
-use Rattle.calls.specs.State.{Maybe, State}
+use Rattle.calls.specs.State.{Maybe, Dated, State}
 use Rattle.calls.specs.Calls.{SeriesGiven, filled as fills, heightReturns}
 use Rattle.calls.specs.Bookings.{bookingsHeights, bookingsGives}
 use Rattle.calls.proofs.Singly.{as-single-requests}
@@ -69,7 +69,7 @@ module _ (months : List Month) where
   near-behind (p ∷ ps) qs (cons x xs) = near-behind ps qs xs
 
 -- a prepared month alone owns each minute
-alone : (m : Maybe Month) (minute : ℕ) (h : ℤ) → NearOver (preparedMonth m) minute h → Near (constituentsThere m) minute h
+alone : (m : Maybe Dated) (minute : ℕ) (h : ℤ) → NearOver (preparedMonth m) minute h → Near (constituentsThere m) minute h
 unfolding ownerOf
 alone state.none minute h x = x
 alone (state.some m) minute h x = x
@@ -106,7 +106,7 @@ all-stand l (Date year month) = tt
 all-stand l (Height minute) = tt
 all-stand l (Series start step heights) = tt
 all-stand l (Turns first last ms hs) =
-    turns-give (λ m g. AllStand (found g)) first last ms hs (λ m number. tt) (λ m ts. found-stand (heightAt (m .constituents)) ts ms hs) (workedOut l .table) (workedOut l .station) (workedOut l .month)
+    turns-give (λ m g. AllStand (found g)) first last ms hs (λ m number. tt) (λ m ts. found-stand (heightAt (m .prepared .constituents)) ts ms hs) (workedOut l .table) (workedOut l .station) (workedOut l .month)
 all-stand l (Year sheet ss ms hs) =
     year-gives (λ months y. AllStand (filled y)) sheet ss ms hs (λ months number place. tt) (λ months ts. found-stand (heightOver months) ts ms hs) (workedOut l .table) (workedOut l .station) (workedOut l .month)
 all-stand l (Bookings minutes heights) = tt
@@ -135,7 +135,7 @@ last-stands qs gs q g e = subst AllStand (sym (last-exactly qs gs q g e)) (all-s
 -- ---- a height, a series, turns
 
 -- the month prepared by the calls before
-abbrev month-after : List Request → Maybe Month
+abbrev month-after : List Request → Maybe Dated
 month-after qs = workedOut (lastAfter nothing qs) .month
 
 -- the one point of a height

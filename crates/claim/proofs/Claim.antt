@@ -15,8 +15,7 @@ use Rattle.table.specs.Table.{Table}
 use Rattle.card_file.specs.Cards.{cardsOutcome}
 use Rattle.station.specs.declared.records.Record.{Record}
 use Rattle.clock.specs.declared.Clock.{Clock}
-use Rattle.month_prepared.specs.Prepared.{Month}
-use Rattle.calls.specs.State.{State, some, none}
+use Rattle.calls.specs.State.{Dated, State, some, none}
 use Rattle.calls.specs.Names.{namesIn}
 use Rattle.calls.specs.Calls.{cardsReturns, cardsLeaves, stationReturns, stationLeaves, dateGives, dateReturns, dateLeaves, heightReturns, seriesGives, turnsGives}
 use Rattle.calls.specs.declared.annual.Sheet.{Sheet}
@@ -64,10 +63,10 @@ date-works : (l : Last) (year month : ℕ) → dateLeaves (workedOut l) year mon
 unfolding dateLeaves dateReturns after workedOut
 date-works l year month = by (dateGives (tableOfCards (l .cards)) (l .station) year month) refl
   where
-    by : (o : Outcome Month) → dateGives (tableOfCards (l .cards)) (l .station) year month ≡ o
-        → onAccepted o (λ prepared. record { table = tableOfCards (l .cards); station = l .station; month = some prepared }) (workedOut l)
+    by : (o : Outcome Dated) → dateGives (tableOfCards (l .cards)) (l .station) year month ≡ o
+        → onAccepted o (λ dated. record { table = tableOfCards (l .cards); station = l .station; month = some dated }) (workedOut l)
         ≡ workedOut (onAccepted (answered o) (λ _. record { cards = l .cards; station = l .station; date = some (record { year = year; month = month }) }) l)
-    by (accepted prepared) e = rw e
+    by (accepted dated) e = rw e
     by (refused number place) e = refl
 
 -- ---- call by call

@@ -19,7 +19,7 @@ use Rattle.turns.specs.Search.{Turn, turnsOf, firstHigh, minutesOf}
 use Rattle.turns.specs.Strides.{stationStride}
 use Rattle.turns.specs.Written.{TurnsGiven, unlessRefused, tooMany, fromFront, given}
 use Rattle.calls.specs.State as state
-use Rattle.calls.specs.State.{Maybe}
+use Rattle.calls.specs.State.{Maybe, Dated}
 use Rattle.calls.specs.Calls.{ready, turnsGives}
 use Rattle.calls.specs.Asked.{turnsOutside}
 use Rattle.calls.specs.declared.annual.Sheet.{Sheet}
@@ -29,9 +29,9 @@ use Rattle.claim.specs.Document.{monthsOn}
 
 -- ---- what is asked first: a refusal, or the month that is there
 
-pub ready-by : (P : Maybe Month → Asked → Type 0) (outside : Month → Bool) → ((m : Maybe Month) (number : ℕ) → P m (refused number 0))
-    → ((t : Table) (s : station.Station) (m : Month) → P (state.some m) (accepted (t, s, m)))
-    → (t : Maybe Table) (s : Maybe station.Station) (m : Maybe Month) → P m (ready outside (record { table = t; station = s; month = m }))
+pub ready-by : (P : Maybe Dated → Asked → Type 0) (outside : Dated → Bool) → ((m : Maybe Dated) (number : ℕ) → P m (refused number 0))
+    → ((t : Table) (s : station.Station) (m : Dated) → P (state.some m) (accepted (t, s, m)))
+    → (t : Maybe Table) (s : Maybe station.Station) (m : Maybe Dated) → P m (ready outside (record { table = t; station = s; month = m }))
 ready-by P outside turned there state.none s m = turned m 21
 ready-by P outside turned there (state.some t) state.none m = turned m 22
 ready-by P outside turned there (state.some t) (state.some s) state.none = turned state.none 23
@@ -47,7 +47,7 @@ AskedOfYear = Outcome (Table × station.Station × List Month)
 
 sheet-by : (P : List Month → AskedOfYear → Type 0) (sheet : Sheet) (places : ℕ) → ((months : List Month) (number place : ℕ) → P months (refused number place))
     → ((t : Table) (s : station.Station) (months : List Month) → P months (accepted (t, s, months)))
-    → (t : Maybe Table) (s : Maybe station.Station) (m : Maybe Month) → P (monthsOn t s (sheet .year)) (sheetAsked (record { table = t; station = s; month = m }) sheet places)
+    → (t : Maybe Table) (s : Maybe station.Station) (m : Maybe Dated) → P (monthsOn t s (sheet .year)) (sheetAsked (record { table = t; station = s; month = m }) sheet places)
 unfolding sheetAsked
 sheet-by P sheet places turned there state.none s m = turned [] 21 0
 sheet-by P sheet places turned there (state.some t) state.none m = turned [] 22 0
@@ -87,14 +87,14 @@ given-by P height ts ms hs none all = room (tooMany ts (length ms) (length hs))
     room true = none
     room false = all
 
-pub turns-give : (P : Maybe Month → TurnsGiven → Type 0) (first last : ℕ) (ms : List ℕ) (hs : List ℤ) → ((m : Maybe Month) (number : ℕ) → P m (none-found number ms hs))
-    → ((m : Month) (ts : List Turn) → P (state.some m) (all-found (heightAt (m .constituents)) ts ms hs))
-    → (t : Maybe Table) (s : Maybe station.Station) (m : Maybe Month) → P m (turnsGives (record { table = t; station = s; month = m }) first last ms hs)
+pub turns-give : (P : Maybe Dated → TurnsGiven → Type 0) (first last : ℕ) (ms : List ℕ) (hs : List ℤ) → ((m : Maybe Dated) (number : ℕ) → P m (none-found number ms hs))
+    → ((m : Dated) (ts : List Turn) → P (state.some m) (all-found (heightAt (m .prepared .constituents)) ts ms hs))
+    → (t : Maybe Table) (s : Maybe station.Station) (m : Maybe Dated) → P m (turnsGives (record { table = t; station = s; month = m }) first last ms hs)
 unfolding turnsGives
 turns-give P first last ms hs none all =
-    ready-by (λ m o. P m (turns-of first last ms hs o)) (λ m. turnsOutside (m .last) first last) none (λ t s m.
-    let ts : List Turn = turnsOf (slopeAt (m .constituents)) (stationStride t s) first last in
-    given-by (P (state.some m)) (heightAt (m .constituents)) ts ms hs (none (state.some m) 10) (all m ts))
+    ready-by (λ m o. P m (turns-of first last ms hs o)) (λ m. turnsOutside (m .prepared .last) first last) none (λ t s m.
+    let ts : List Turn = turnsOf (slopeAt (m .prepared .constituents)) (stationStride t s) first last in
+    given-by (P (state.some m)) (heightAt (m .prepared .constituents)) ts ms hs (none (state.some m) 10) (all m ts))
 
 pub as-many : (ts : List Turn) → length (minutesOf ts) ≡ length ts
 as-many ts = length-map ts (λ (u : Turn). u .minute)
@@ -104,7 +104,7 @@ as-many ts = length-map ts (λ (u : Turn). u .minute)
 pub year-gives : (P : List Month → YearGiven → Type 0) (sheet : Sheet) (ss : List ℤ) (ms : List ℕ) (hs : List ℤ)
     → ((months : List Month) (number place : ℕ) → P months (record { returned = refused number place; series = ss; minutes = ms; heights = hs }))
     → ((months : List Month) (ts : List Turn) → P months (beside (all-found (heightOver months) ts ms hs) (seriesOf (heightOver months) (sheet .start) (sheet .step) (length ss)) ss))
-    → (t : Maybe Table) (s : Maybe station.Station) (m : Maybe Month) → P (monthsOn t s (sheet .year)) (yearGives (record { table = t; station = s; month = m }) sheet ss ms hs)
+    → (t : Maybe Table) (s : Maybe station.Station) (m : Maybe Dated) → P (monthsOn t s (sheet .year)) (yearGives (record { table = t; station = s; month = m }) sheet ss ms hs)
 unfolding yearGives
 year-gives P sheet ss ms hs none all =
     sheet-by (λ months o. P months (unlessTurnedDown o ss ms hs λ (t, s, months). sheetOver months (stationStride t s) sheet ss ms hs)) sheet (length ss) none (λ t s months.

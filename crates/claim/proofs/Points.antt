@@ -19,7 +19,7 @@ use Rattle.heights.specs.Series.{seriesFrom, seriesOf}
 use Rattle.heights.proofs.distance.Distance.{height-is-near}
 use Rattle.turns.specs.Search.{Turn, minutesOf}
 use Rattle.turns.specs.Written.{TurnsGiven, fromFront}
-use Rattle.calls.specs.State.{Maybe, State}
+use Rattle.calls.specs.State.{Maybe, Dated, State}
 use Rattle.calls.specs.Calls.{heightReturns, seriesHeights, seriesGives, turnsGives}
 use Rattle.calls.specs.Asked.{minuteOutside, seriesOutside}
 use Rattle.calls.specs.declared.annual.Sheet.{Sheet}
@@ -77,23 +77,23 @@ both-near (p ∷ ps) qs (cons x xs) ys = cons x (both-near ps qs xs ys)
 
 -- ---- what each call gives, from whatever state
 
-module _ (t : Maybe Table) (s : Maybe station.Station) (m : Maybe Month) where
+module _ (t : Maybe Table) (s : Maybe station.Station) (m : Maybe Dated) where
   height-given : (minute : ℕ) → AllNear (preparedMonth m) (heightPoints minute (heightReturns (record { table = t; station = s; month = m }) minute))
   unfolding heightReturns
   height-given minute =
-      ready-by (λ m o. AllNear (preparedMonth m) (heightPoints minute (height-of minute o))) (λ m. minuteOutside (m .last) minute) (λ m number. nil)
-      (λ t s m. cons (alone-near m minute) nil) t s m
+      ready-by (λ m o. AllNear (preparedMonth m) (heightPoints minute (height-of minute o))) (λ m. minuteOutside (m .prepared .last) minute) (λ m number. nil)
+      (λ t s m. cons (alone-near (m .prepared) minute) nil) t s m
 
   series-given : (start step : ℕ) (heights : List ℤ)
       → AllNear (preparedMonth m) (seriesPoints start step (seriesGives (record { table = t; station = s; month = m }) start step heights .returned) (seriesGives (record { table = t; station = s; month = m }) start step heights .heights))
   unfolding seriesGives seriesHeights
   series-given start step heights =
       ready-by (λ m o. AllNear (preparedMonth m) (seriesPoints start step (answered (series-of start step (length heights) o)) (onAccepted (series-of start step (length heights) o) (λ new. new) heights)))
-      (λ m. seriesOutside (m .last) start step (length heights)) (λ m number. nil) (λ t s m. series-near (m ∷ []) (heightAt (m .constituents)) (alone-near m) start step (length heights)) t s m
+      (λ m. seriesOutside (m .prepared .last) start step (length heights)) (λ m number. nil) (λ t s m. series-near (m .prepared ∷ []) (heightAt (m .prepared .constituents)) (alone-near (m .prepared)) start step (length heights)) t s m
 
   turns-given : (first last : ℕ) (ms : List ℕ) (hs : List ℤ) → AllNear (preparedMonth m) (foundPoints (turnsGives (record { table = t; station = s; month = m }) first last ms hs))
   turns-given first last ms hs =
-      turns-give (λ m g. AllNear (preparedMonth m) (foundPoints g)) first last ms hs (λ m number. nil) (λ m ts. turns-near (m ∷ []) (heightAt (m .constituents)) (alone-near m) ts ms hs) t s m
+      turns-give (λ m g. AllNear (preparedMonth m) (foundPoints g)) first last ms hs (λ m number. nil) (λ m ts. turns-near (m .prepared ∷ []) (heightAt (m .prepared .constituents)) (alone-near (m .prepared)) ts ms hs) t s m
 
   year-given : (sheet : Sheet) (ss : List ℤ) (ms : List ℕ) (hs : List ℤ) → AllNear (monthsOn t s (sheet .year)) (sheetPoints sheet (yearGives (record { table = t; station = s; month = m }) sheet ss ms hs))
   year-given sheet ss ms hs =

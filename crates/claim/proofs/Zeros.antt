@@ -63,6 +63,6 @@ table-is = (
 
 pub zeros-are-zeroed : ZerosAreZeroed
 zeros-are-zeroed = (
-  (noughts w32 entries, (vbool false ∷ [], (zeroOf TableLaws.mir ∷ [], (vbool false ∷ [], (zeroOf StationLaws.mir ∷ [], (vbool false ∷ [], (nought w64, (nought w64, (noughts w64 mostRecords, (noughts w16 mostRecords, (noughts w64 mostRecords, (noughts w32 mostRecords, (noughts w32 mostRecords, tt))))))))))))),
-  (refl, (uints-are w32 tt entries, (refl, (table-is, (refl, (station-is, (refl, ((refl, lit< tt), ((refl, lit< tt), (uints-are w64 tt mostRecords, (uints-are w16 tt mostRecords, (uints-are w64 tt mostRecords, (i32s-are mostRecords, (i32s-are mostRecords, tt)))))))))))))),
+  (noughts w32 entries, (vbool false ∷ [], (zeroOf TableLaws.mir ∷ [], (vbool false ∷ [], (zeroOf StationLaws.mir ∷ [], (vbool false ∷ [], (nought w32, (nought w32, (nought w64, (nought w64, (noughts w64 mostRecords, (noughts w16 mostRecords, (noughts w64 mostRecords, (noughts w32 mostRecords, (noughts w32 mostRecords, tt))))))))))))))),
+  (refl, (uints-are w32 tt entries, (refl, (table-is, (refl, (station-is, (refl, ((refl, lit< tt), ((refl, lit< tt), ((refl, lit< tt), ((refl, lit< tt), (uints-are w64 tt mostRecords, (uints-are w16 tt mostRecords, (uints-are w64 tt mostRecords, (i32s-are mostRecords, (i32s-are mostRecords, tt)))))))))))))))),
 )

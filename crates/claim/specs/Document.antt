@@ -14,7 +14,7 @@ use Rattle.station.specs.Station as station
 use Rattle.month_prepared.specs.Prepared.{Constituent, Month}
 use Rattle.year.specs.Year.{yearOf}
 use Rattle.heights.specs.Exact.{NearOver}
-use Rattle.calls.specs.State.{Maybe, none, some, State}
+use Rattle.calls.specs.State.{Maybe, none, some, Dated, State}
 use Rattle.calls.specs.Names.{namesIn}
 use Rattle.turns.specs.Written.{TurnsFound, TurnsGiven}
 use Rattle.calls.specs.Calls.{cardsReturns, stationReturns, dateGives, dateReturns, heightReturns, SeriesGiven, seriesGives, turnsGives}
@@ -66,7 +66,7 @@ abbrev pub tableOfCards : Maybe (List ℕ) → Maybe Table
 tableOfCards none = none
 tableOfCards (some file) = onAccepted (cardsOutcome file) (λ table. some table) none
 
-abbrev pub monthOn : Maybe Table → Maybe station.Station → Maybe Day → Maybe Month
+abbrev pub monthOn : Maybe Table → Maybe station.Station → Maybe Day → Maybe Dated
 monthOn t s none = none
 monthOn t s (some day) = onAccepted (dateGives t s (day .year) (day .month)) (λ month. some month) none
 
@@ -195,17 +195,17 @@ points (Bookings minutes heights) (filled y) = []
 points (Bookings minutes heights) (named names) = []
 
 -- V, P and Q of the station's constituents, worked out from what was last accepted
-abbrev pub constituentsThere : Maybe Month → List Constituent
+abbrev pub constituentsThere : Maybe Dated → List Constituent
 constituentsThere none = []
-constituentsThere (some month) = month .constituents
+constituentsThere (some month) = month .prepared .constituents
 
 abbrev pub lastConstituents : Last → List Constituent
 lastConstituents l = constituentsThere (workedOut l .month)
 
 -- the prepared month alone, where there is one
-abbrev pub preparedMonth : Maybe Month → List Month
+abbrev pub preparedMonth : Maybe Dated → List Month
 preparedMonth none = []
-preparedMonth (some month) = month ∷ []
+preparedMonth (some month) = month .prepared ∷ []
 
 -- "Each month uses its own weights": the months of a year, from the cards and the station last accepted; none where the year is refused
 abbrev pub monthsOn : Maybe Table → Maybe station.Station → ℕ → List Month

@@ -186,7 +186,7 @@ table-worked : (s : Maybe Station) → workedOut (record { cards = some smallFil
 unfolding workedOut
 table-worked s = rw cards-read
 
-month-worked : workedOut afterDate ≡ record { table = some table; station = some z0-station; month = some (record { last = mostMinutes; constituents = z0-month }) }
+month-worked : workedOut afterDate ≡ record { table = some table; station = some z0-station; month = some (record { year = 1976; month = 7; prepared = record { last = mostMinutes; constituents = z0-month } }) }
 unfolding workedOut dateGives inRange between monthMinutes monthDays
 month-worked = rw (cards-read, month-is)
 

@@ -1,5 +1,6 @@
 -- A clock with a table or none, and nothing else, is sound where its table's frequencies are in range. Assumes nothing.
-use mathlib.Core.Bool.{Bool}
+use mathlib.Core.Bool.{Bool, true≢false}
+use mathlib.Core.Path.{sym, _∙_}
 use native.Mathlib.Omega.{arith}
 use Rattle.table.specs.declared.Table.{Table}
 use Rattle.month_prepared.specs.inner.Rows.{InRange}
@@ -15,4 +16,5 @@ bare-sound tabled table r within p =
       count = omega (arith, p .count);
       last = omega (arith, p .last);
       month = λ k h. absurd (omega (arith, p .count, h));
+      date = λ dated. absurd (true≢false (sym dated ∙ p .undated));
     }

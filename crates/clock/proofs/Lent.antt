@@ -36,19 +36,19 @@ use Rattle.clock.proofs.Clock.Laws as T′
 
 -- where in a clock each array lies, in bytes; the cosines lie at its beginning
 abbrev pub argumentsAt : ℕ
-argumentsAt = 13_024
+argumentsAt = 13_032
 
 abbrev pub lagsAt : ℕ
-lagsAt = 14_192
+lagsAt = 14_200
 
 abbrev pub frequenciesAt : ℕ
-frequenciesAt = 14_488
+frequenciesAt = 14_496
 
 abbrev pub psAt : ℕ
-psAt = 15_656
+psAt = 15_664
 
 abbrev pub qsAt : ℕ
-qsAt = 16_240
+qsAt = 16_248
 
 module _ {M : Type 1} (𝓤 : URA M) (H : Heap 𝓤) (A : Atoms 𝓤) (W : Given 𝓤 H A) where
   abbrev pub Lends : (R F : RattleType) → (ℕ → ℕ) → (R .Denot → F .Denot) → Lifetime → Lft → Share → R .Denot → ℕ → ℕ → GName → SProp 𝓤
@@ -70,23 +70,23 @@ module _ {M : Type 1} (𝓤 : URA M) (H : Heap 𝓤) (A : Atoms 𝓤) (W : Given
 
   pub arguments-part : Parts 𝓤 H A T.the-row (Array u64 mostRecords) (λ o. o + argumentsAt) (λ c. c .arguments)
   arguments-part = part-cut 𝓤 H A W T.the-row (Array u64 mostRecords) argumentsAt (λ c. c .arguments)
-      (λ s c b o. cut-array 𝓤 H A s T.the-row u64 mostRecords argumentsAt c c (c .arguments) (c .arguments) (b, o) (look-at 𝓤 H A W s T.the-type T′.the-laws 8 argumentsAt refl refl (b, o) c (T.struct .as-values c) refl)) (halves 𝓤 H A W (cStruct T.the-type T′.the-laws T′.the-copy))
+      (λ s c b o. cut-array 𝓤 H A s T.the-row u64 mostRecords argumentsAt c c (c .arguments) (c .arguments) (b, o) (look-at 𝓤 H A W s T.the-type T′.the-laws 10 argumentsAt refl refl (b, o) c (T.struct .as-values c) refl)) (halves 𝓤 H A W (cStruct T.the-type T′.the-laws T′.the-copy))
 
   pub lags-part : Parts 𝓤 H A T.the-row (Array u16 mostRecords) (λ o. o + lagsAt) (λ c. c .lags)
   lags-part = part-cut 𝓤 H A W T.the-row (Array u16 mostRecords) lagsAt (λ c. c .lags)
-      (λ s c b o. cut-array 𝓤 H A s T.the-row u16 mostRecords lagsAt c c (c .lags) (c .lags) (b, o) (look-at 𝓤 H A W s T.the-type T′.the-laws 9 lagsAt refl refl (b, o) c (T.struct .as-values c) refl)) (halves 𝓤 H A W (cStruct T.the-type T′.the-laws T′.the-copy))
+      (λ s c b o. cut-array 𝓤 H A s T.the-row u16 mostRecords lagsAt c c (c .lags) (c .lags) (b, o) (look-at 𝓤 H A W s T.the-type T′.the-laws 11 lagsAt refl refl (b, o) c (T.struct .as-values c) refl)) (halves 𝓤 H A W (cStruct T.the-type T′.the-laws T′.the-copy))
 
   pub frequencies-part : Parts 𝓤 H A T.the-row (Array u64 mostRecords) (λ o. o + frequenciesAt) (λ c. c .frequencies)
   frequencies-part = part-cut 𝓤 H A W T.the-row (Array u64 mostRecords) frequenciesAt (λ c. c .frequencies)
-      (λ s c b o. cut-array 𝓤 H A s T.the-row u64 mostRecords frequenciesAt c c (c .frequencies) (c .frequencies) (b, o) (look-at 𝓤 H A W s T.the-type T′.the-laws 10 frequenciesAt refl refl (b, o) c (T.struct .as-values c) refl)) (halves 𝓤 H A W (cStruct T.the-type T′.the-laws T′.the-copy))
+      (λ s c b o. cut-array 𝓤 H A s T.the-row u64 mostRecords frequenciesAt c c (c .frequencies) (c .frequencies) (b, o) (look-at 𝓤 H A W s T.the-type T′.the-laws 12 frequenciesAt refl refl (b, o) c (T.struct .as-values c) refl)) (halves 𝓤 H A W (cStruct T.the-type T′.the-laws T′.the-copy))
 
   pub ps-part : Parts 𝓤 H A T.the-row (Array i32 mostRecords) (λ o. o + psAt) (λ c. c .ps)
   ps-part = part-cut 𝓤 H A W T.the-row (Array i32 mostRecords) psAt (λ c. c .ps)
-      (λ s c b o. cut-array 𝓤 H A s T.the-row i32 mostRecords psAt c c (c .ps) (c .ps) (b, o) (look-at 𝓤 H A W s T.the-type T′.the-laws 11 psAt refl refl (b, o) c (T.struct .as-values c) refl)) (halves 𝓤 H A W (cStruct T.the-type T′.the-laws T′.the-copy))
+      (λ s c b o. cut-array 𝓤 H A s T.the-row i32 mostRecords psAt c c (c .ps) (c .ps) (b, o) (look-at 𝓤 H A W s T.the-type T′.the-laws 13 psAt refl refl (b, o) c (T.struct .as-values c) refl)) (halves 𝓤 H A W (cStruct T.the-type T′.the-laws T′.the-copy))
 
   pub qs-part : Parts 𝓤 H A T.the-row (Array i32 mostRecords) (λ o. o + qsAt) (λ c. c .qs)
   qs-part = part-cut 𝓤 H A W T.the-row (Array i32 mostRecords) qsAt (λ c. c .qs)
-      (λ s c b o. cut-array 𝓤 H A s T.the-row i32 mostRecords qsAt c c (c .qs) (c .qs) (b, o) (look-at 𝓤 H A W s T.the-type T′.the-laws 12 qsAt refl refl (b, o) c (T.struct .as-values c) refl)) (halves 𝓤 H A W (cStruct T.the-type T′.the-laws T′.the-copy))
+      (λ s c b o. cut-array 𝓤 H A s T.the-row i32 mostRecords qsAt c c (c .qs) (c .qs) (b, o) (look-at 𝓤 H A W s T.the-type T′.the-laws 14 qsAt refl refl (b, o) c (T.struct .as-values c) refl)) (halves 𝓤 H A W (cStruct T.the-type T′.the-laws T′.the-copy))
 
 -- the parts of a clock that a call made
 pub parts-made : (c : Clock) → Made c → PartsMade (c .tabled) (c .cosines) (c .count) (c .last)
@@ -95,10 +95,10 @@ parts-made c made tabled = let sound = made tabled in (sound .cosines, (sound .c
 -- a height from the parts of a clock is the clock's
 pub from-parts : (c : Clock) (m : ℕ) (returned : Outcome ℤ) → HeightFrom (c .tabled) (c .stationed) (c .dated) (c .last) (c .count) (c .arguments) (c .lags) (c .frequencies) (c .ps) (c .qs) m returned → HeightPost c m returned
 unfolding view
-from-parts c m returned p = record { returns = p .returns (tableOf (c .table)) (stationOf (c .station)) }
+from-parts c m returned p = record { returns = p .returns (tableOf (c .table)) (stationOf (c .station)) (c .year) (c .month) }
 
 -- and so are bookings
 pub bookings-from-parts : (c : Clock) (minutes : List ℕ) (heights left : List ℤ) (returned : Outcome Unit)
     → BookingsFrom (c .tabled) (c .stationed) (c .dated) (c .last) (c .count) (c .arguments) (c .lags) (c .frequencies) (c .ps) (c .qs) minutes heights left returned → BookingsPost c minutes heights left returned
 unfolding view
-bookings-from-parts c minutes heights left returned p = record { gives = p .gives (tableOf (c .table)) (stationOf (c .station)) }
+bookings-from-parts c minutes heights left returned p = record { gives = p .gives (tableOf (c .table)) (stationOf (c .station)) (c .year) (c .month) }

@@ -40,7 +40,7 @@ assigned [] i rest = rest
 assigned (v ∷ vs) i rest = seq (assign (place i []) v) (assigned vs (suc i) rest)
 
 abbrev lends : ℕ → Body → Body
-lends = assigned (addrOf (lent 0) ∷ addrOf (lent 8) ∷ addrOf (lent 9) ∷ addrOf (lent 10) ∷ addrOf (lent 11) ∷ addrOf (lent 12) ∷ rvOpd (copy (lent 1)) ∷ rvOpd (copy (lent 3)) ∷ rvOpd (copy (lent 5)) ∷ rvOpd (copy (lent 6)) ∷ rvOpd (copy (lent 7)) ∷ [])
+lends = assigned (addrOf (lent 0) ∷ addrOf (lent 10) ∷ addrOf (lent 11) ∷ addrOf (lent 12) ∷ addrOf (lent 13) ∷ addrOf (lent 14) ∷ rvOpd (copy (lent 1)) ∷ rvOpd (copy (lent 3)) ∷ rvOpd (copy (lent 5)) ∷ rvOpd (copy (lent 8)) ∷ rvOpd (copy (lent 9)) ∷ [])
 
 -- what lies at a byte of the clock, lent
 abbrev ptrTo : RefT Clock → ℕ → Val
@@ -98,10 +98,10 @@ module _ {M : Type 1} (𝓤 : URA M) (H : Heap 𝓤) (A : Atoms 𝓤) (W : Given
 
     -- what is known of a number of the clock
     last-fits : Is T.the-row (x .now) (hv ∷ []) → x .now .last < 2 ^ 64
-    last-fits is = LL.owed T.the-type T′.the-laws (x .now) (hv ∷ []) is .1 .1 .1 .1 .1 .1 .0 .1
+    last-fits is = LL.owed T.the-type T′.the-laws (x .now) (hv ∷ []) is .1 .1 .1 .1 .1 .1 .1 .1 .0 .1
 
     count-fits : Is T.the-row (x .now) (hv ∷ []) → x .now .count < 2 ^ 64
-    count-fits is = LL.owed T.the-type T′.the-laws (x .now) (hv ∷ []) is .1 .1 .1 .1 .1 .1 .1 .0 .1
+    count-fits is = LL.owed T.the-type T′.the-laws (x .now) (hv ∷ []) is .1 .1 .1 .1 .1 .1 .1 .1 .1 .0 .1
 
     -- one array lent: the reference to it comes behind the clock's own borrow and its token
     abbrev Whole : Fml
@@ -135,8 +135,8 @@ module _ {M : Type 1} (𝓤 : URA M) (H : Heap 𝓤) (A : Atoms 𝓤) (W : Given
         assigns ! (of-opd ! (load ! (from ! (hop ! (look ! 23 refl) (fld ! refl (stop !)))) (look-in ! 0 (sub ! 1 refl (whole !))))) (found (at .1 .1 .1 .1 .1 .1 .0) (stop !)) (init ! 18 refl (tt, tt)) $
         assigns ! (of-opd ! (load ! (from ! (hop ! (look ! 23 refl) (fld ! refl (stop !)))) (look-in ! 0 (sub ! 3 refl (whole !))))) (found (at .1 .1 .1 .1 .1 .1 .1 .0) (stop !)) (init ! 19 refl (tt, tt)) $
         assigns ! (of-opd ! (load ! (from ! (hop ! (look ! 23 refl) (fld ! refl (stop !)))) (look-in ! 0 (sub ! 5 refl (whole !))))) (found (at .1 .1 .1 .1 .1 .1 .1 .1 .0) (stop !)) (init ! 20 refl (tt, tt)) $
-        assigns ! (of-opd ! (load ! (from ! (hop ! (look ! 23 refl) (fld ! refl (stop !)))) (look-in ! 0 (sub ! 6 refl (whole !))))) (found (at .1 .1 .1 .1 .1 .1 .1 .1 .1 .0) (stop !)) (init ! 21 refl (tt, record { fits = last-fits is })) $
-        assigns ! (of-opd ! (load ! (from ! (hop ! (look ! 23 refl) (fld ! refl (stop !)))) (look-in ! 0 (sub ! 7 refl (whole !))))) (found (at .1 .1 .1 .1 .1 .1 .1 .1 .1 .1 .0) (stop !)) (init ! 22 refl (tt, record { fits = count-fits is })) $
+        assigns ! (of-opd ! (load ! (from ! (hop ! (look ! 23 refl) (fld ! refl (stop !)))) (look-in ! 0 (sub ! 8 refl (whole !))))) (found (at .1 .1 .1 .1 .1 .1 .1 .1 .1 .0) (stop !)) (init ! 21 refl (tt, record { fits = last-fits is })) $
+        assigns ! (of-opd ! (load ! (from ! (hop ! (look ! 23 refl) (fld ! refl (stop !)))) (look-in ! 0 (sub ! 9 refl (whole !))))) (found (at .1 .1 .1 .1 .1 .1 .1 .1 .1 .1 .0) (stop !)) (init ! 22 refl (tt, record { fits = count-fits is })) $
         shuts ! tt T.the-row q′ (x .now) (hv ∷ []) (x .ptr .0) (x .ptr .1) $
         -- [the token; the fractured borrow; qs; ps; frequencies; lags; arguments; cosines; the other tokens; what the other parameters own; the eleven locals; _1; Δ]
         move ! (9 ∷ 2 ∷ 3 ∷ 4 ∷ 5 ∷ 6 ∷ 7 ∷ []) $ owned ! usize (Is usize) (uint-makes 𝓤 H A W w64) (x .now .count) _ (refl, count-fits is) $ fjoin ! $ owned ! u64 (Is u64) (uint-makes 𝓤 H A W w64) (x .now .last) _ (refl, last-fits is) $ fjoin ! $

@@ -23,9 +23,9 @@ use Rattle.clock.proofs.Clock as T
 pub lent-row : (c : Clock) {values : List Val} → Is T.the-row c values → IsRow (c .arguments) (c .ps) (c .qs)
 lent-row c is =
     record {
-      arguments = length-unmapped _ (c .arguments) mostRecords (is .1 .1 .1 .1 .1 .1 .1 .1 .1 .1 .0 .1 .0 .1);
-      cosines = length-unmapped _ (c .ps) mostRecords (is .1 .1 .1 .1 .1 .1 .1 .1 .1 .1 .1 .1 .1 .0 .1 .0 .1);
-      sines = length-unmapped _ (c .qs) mostRecords (is .1 .1 .1 .1 .1 .1 .1 .1 .1 .1 .1 .1 .1 .1 .0 .1 .0 .1);
+      arguments = length-unmapped _ (c .arguments) mostRecords (is .1 .1 .1 .1 .1 .1 .1 .1 .1 .1 .1 .1 .0 .1 .0 .1);
+      cosines = length-unmapped _ (c .ps) mostRecords (is .1 .1 .1 .1 .1 .1 .1 .1 .1 .1 .1 .1 .1 .1 .1 .0 .1 .0 .1);
+      sines = length-unmapped _ (c .qs) mostRecords (is .1 .1 .1 .1 .1 .1 .1 .1 .1 .1 .1 .1 .1 .1 .1 .1 .0 .1 .0 .1);
     }
 
 module _ (c : Clock) (months : Months) (is : (months .count ≡ c .count) × ((months .many ≡ 1) × (getD (months .lasts) 0 0 ≡ c .last)))

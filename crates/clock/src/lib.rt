@@ -51,6 +51,8 @@ pub struct Clock {
     stationed: bool,
     station: Station,
     dated: bool,
+    year: u32,
+    month: u32,
     last: u64,
     count: usize,
     arguments: [u64; RECORDS],
@@ -96,6 +98,8 @@ fn bare(tabled: bool, table: Table) -> Clock
         stationed: false,
         station: station::no_station(0),
         dated: false,
+        year: 0,
+        month: 0,
         last: 0,
         count: 0,
         arguments: [0u64; RECORDS],
@@ -127,23 +131,25 @@ fn with_station(clock: Clock, station: Station) -> After
     }
 }
 
-// The clock with a new month.
-fn with_month(clock: Clock, last: u64, month: Month) -> After
-    ensures { λ r. ⌜ r ≡ accepts (withMonth clock last month) ⌝ }
+// The clock with a new month, prepared for a date.
+fn with_month(clock: Clock, year: u32, month: u32, last: u64, prepared: Month) -> After
+    ensures { λ r. ⌜ r ≡ accepts (withMonth clock year month last prepared) ⌝ }
 {
     let mut next = clock;
     next.dated = true;
+    next.year = year;
+    next.month = month;
     next.last = last;
-    next.count = month_prepared::held(month.count);
-    let arguments = month.arguments;
+    next.count = month_prepared::held(prepared.count);
+    let arguments = prepared.arguments;
     next.arguments = arguments;
-    let lags = month.lags;
+    let lags = prepared.lags;
     next.lags = lags;
-    let frequencies = month.frequencies;
+    let frequencies = prepared.frequencies;
     next.frequencies = frequencies;
-    let ps = month.ps;
+    let ps = prepared.ps;
     next.ps = ps;
-    let qs = month.qs;
+    let qs = prepared.qs;
     next.qs = qs;
     After {
         answer: Answer::Accepted,
@@ -209,7 +215,7 @@ fn prepare_month(clock: Clock, year: u32, month: u32) -> After
     let answer = settings::month_answer(prepared);
     match answer {
         Answer::Accepted => {
-            return with_month(clock, last, prepared.month);
+            return with_month(clock, year, month, last, prepared.month);
         }
         Answer::Refused(_, _) => {
             return After { answer, clock };

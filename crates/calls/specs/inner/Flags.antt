@@ -6,8 +6,7 @@ use mathlib.Core.List.{List}
 use Rattle.refusals.specs.Outcome.{Outcome, answered}
 use Rattle.table.specs.Table.{Table}
 use Rattle.station.specs.Station.{Station}
-use Rattle.month_prepared.specs.Prepared.{Month}
-use Rattle.calls.specs.State.{Maybe, none, some, State}
+use Rattle.calls.specs.State.{Maybe, none, some, Dated, State}
 use Rattle.calls.specs.Asked.{monthAsked, dateAsked, minutesAsked}
 use Rattle.calls.specs.Year.{yearAsked}
 use Rattle.calls.specs.Bookings.{bookingsAsked}
@@ -18,7 +17,7 @@ when true a = some a
 when false a = none
 
 -- a state by its flags: whether a table, a station and a month are there, and which
-abbrev pub stateOf : Bool → Table → Bool → Station → Bool → Month → State
+abbrev pub stateOf : Bool → Table → Bool → Station → Bool → Dated → State
 stateOf tabled table stationed station dated month =
     record { table = when tabled table; station = when stationed station; month = when dated month }
 

@@ -37,7 +37,7 @@ returns c =
     let k = s .args in
     let e = c .before .before .before .before .before .before .enum-told .given .1 in
     rw (c .before .heights-at .ensures, e)
-    (record { gives = λ t st. bookings-given t st (record { last = k .last; constituents = constituentsFrom (now (k .arguments)) (now (k .lags)) (now (k .frequencies)) (now (k .ps)) (now (k .qs)) (k .count) }) (now (k .minutes)) (k .tabled) (k .stationed) (k .dated) _ (sym (c .before .before .before .before .before .before .before .before .bookings-answer .ensures) ∙ ap outcomeOf e) })
+    (record { gives = λ t st year month. bookings-given t st (record { year = year; month = month; prepared = record { last = k .last; constituents = constituentsFrom (now (k .arguments)) (now (k .lags)) (now (k .frequencies)) (now (k .ps)) (now (k .qs)) (k .count) } }) (now (k .minutes)) (k .tabled) (k .stationed) (k .dated) _ (sym (c .before .before .before .before .before .before .before .before .bookings-answer .ensures) ∙ ap outcomeOf e) })
 
 enum-known-asked : tie.Need-enum-known-asked
 enum-known-asked c = search needs
@@ -46,7 +46,7 @@ returns-2 : tie.Need-returns-2
 returns-2 c =
     let s = c .before .before .before .before .before in
     let k = s .args in
-    record { gives = λ t st. bookings-refused t st (record { last = k .last; constituents = constituentsFrom (now (k .arguments)) (now (k .lags)) (now (k .frequencies)) (now (k .ps)) (now (k .qs)) (k .count) }) (now (k .minutes)) (k .tabled) (k .stationed) (k .dated) _ _ _ (sym (c .before .before .before .bookings-answer .ensures) ∙ ap outcomeOf (c .before .asked .given .1)) }
+    record { gives = λ t st year month. bookings-refused t st (record { year = year; month = month; prepared = record { last = k .last; constituents = constituentsFrom (now (k .arguments)) (now (k .lags)) (now (k .frequencies)) (now (k .ps)) (now (k .qs)) (k .count) } }) (now (k .minutes)) (k .tabled) (k .stationed) (k .dated) _ _ _ (sym (c .before .before .before .bookings-answer .ensures) ∙ ap outcomeOf (c .before .asked .given .1)) }
 
 pub bookings-from-spec : {M : Type 1} → statement M
 bookings-from-spec =

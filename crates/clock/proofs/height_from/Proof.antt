@@ -40,7 +40,7 @@ returns c =
     let k = s .args in
     let fits : SFits w64 (c .height .result) = search needs in
     rw (toZ-ofZ w64 (c .height .result) fits, c .height .ensures .0)
-    (record { returns = λ t st. height-given (k .tabled) t (k .stationed) st (k .dated) (record { last = k .last; constituents = constituentsFrom (now (k .arguments)) (now (k .lags)) (now (k .frequencies)) (now (k .ps)) (now (k .qs)) (k .count) }) (k .minute) (sym (c .before .before .before .before .before .before .height-answer .ensures) ∙ ap outcomeOf (c .before .before .before .before .enum-told .given .1)) })
+    (record { returns = λ t st year month. height-given (k .tabled) t (k .stationed) st (k .dated) (record { year = year; month = month; prepared = record { last = k .last; constituents = constituentsFrom (now (k .arguments)) (now (k .lags)) (now (k .frequencies)) (now (k .ps)) (now (k .qs)) (k .count) } }) (k .minute) (sym (c .before .before .before .before .before .before .height-answer .ensures) ∙ ap outcomeOf (c .before .before .before .before .enum-told .given .1)) })
 
 enum-known-asked : tie.Need-enum-known-asked
 enum-known-asked c = search needs
@@ -49,7 +49,7 @@ returns-2 : tie.Need-returns-2
 returns-2 c =
     let s = c .before .before .before .before in
     let k = s .args in
-    record { returns = λ t st. height-refused (k .tabled) t (k .stationed) st (k .dated) (record { last = k .last; constituents = constituentsFrom (now (k .arguments)) (now (k .lags)) (now (k .frequencies)) (now (k .ps)) (now (k .qs)) (k .count) }) (k .minute) _ _ (sym (c .before .before .before .height-answer .ensures) ∙ ap outcomeOf (c .before .asked .given .1)) }
+    record { returns = λ t st year month. height-refused (k .tabled) t (k .stationed) st (k .dated) (record { year = year; month = month; prepared = record { last = k .last; constituents = constituentsFrom (now (k .arguments)) (now (k .lags)) (now (k .frequencies)) (now (k .ps)) (now (k .qs)) (k .count) } }) (k .minute) _ _ (sym (c .before .before .before .height-answer .ensures) ∙ ap outcomeOf (c .before .asked .given .1)) }
 
 pub height-from-spec : {M : Type 1} → statement M
 height-from-spec = tie.close (tie.spec height-answer-requires enum-told height-requires returns enum-known-asked returns-2)

@@ -22,6 +22,8 @@ withStation c s =
       stationed = true;
       station = s;
       dated = false;
+      year = c .year;
+      month = c .month;
       last = c .last;
       count = c .count;
       arguments = c .arguments;
@@ -31,8 +33,8 @@ withStation c s =
       qs = c .qs;
     }
 
-abbrev pub withMonth : Clock → ℕ → Month → Clock
-withMonth c last m =
+abbrev pub withMonth : Clock → ℕ → ℕ → ℕ → Month → Clock
+withMonth c year month last prepared =
     record {
       cosines = c .cosines;
       tabled = c .tabled;
@@ -40,11 +42,13 @@ withMonth c last m =
       stationed = c .stationed;
       station = c .station;
       dated = true;
+      year = year;
+      month = month;
       last = last;
-      count = min (m .count) mostRecords;
-      arguments = m .arguments;
-      lags = m .lags;
-      frequencies = m .frequencies;
-      ps = m .ps;
-      qs = m .qs;
+      count = min (prepared .count) mostRecords;
+      arguments = prepared .arguments;
+      lags = prepared .lags;
+      frequencies = prepared .frequencies;
+      ps = prepared .ps;
+      qs = prepared .qs;
     }

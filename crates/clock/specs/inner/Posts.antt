@@ -2,7 +2,7 @@
 -- Assumes nothing.
 use Prim.{Unit}
 use Prim.Native.Nat.{ℕ, _≤_}
-use mathlib.Core.Bool.{Bool, true}
+use mathlib.Core.Bool.{Bool, true, false}
 use mathlib.Core.List.{List}
 use mathlib.Core.Path.{_≡_}
 use lib.IntN.{ℤ}
@@ -26,7 +26,7 @@ use Rattle.station.specs.declared.Station as declaredStation
 use Rattle.calls.specs.declared.annual.Sheet.{Sheet}
 use Rattle.calls.specs.Year.{sheetOver, yearGives}
 use Rattle.calls.specs.Bookings.{bookingsGives}
-use Rattle.calls.specs.State.{Maybe, some}
+use Rattle.calls.specs.State.{Maybe, some, Dated}
 use Rattle.calls.specs.Calls.{heightReturns}
 use Rattle.calls.specs.inner.Flags.{stateOf, tabledOnly}
 use Rattle.clock.specs.View.{view, Sound}
@@ -37,6 +37,7 @@ pub record BarePost (tabled : Bool) (table : declared.Table) (r : Clock) : Type 
   pub cosines : IsTable (r .cosines)
   pub flag : r .tabled ≡ tabled
   pub same : r .table ≡ table
+  pub undated : r .dated ≡ false
   pub count : r .count ≡ 0
   pub last : r .last ≡ 0
   pub there : view r ≡ tabledOnly tabled (tableOf table)
@@ -48,25 +49,25 @@ pub record PreparedPost (c : Clock) (year month : ℕ) (answer : Answer) (left :
   pub leaves : view left ≡ onAccepted (monthOf (tableOf (c .table)) (stationOf (c .station)) year month) (λ constituents. record {
     table = view c .table;
     station = view c .station;
-    month = some (record { last = monthMinutes year month; constituents = constituents });
+    month = some (record { year = year; month = month; prepared = record { last = monthMinutes year month; constituents = constituents } });
   }) (view c)
 
 -- what a height and bookings ask of the parts of a clock that has a table
 abbrev pub PartsMade : Bool → List ℕ → ℕ → ℕ → Type 0
 PartsMade tabled cosines count last = tabled ≡ true → IsTable cosines × ((count ≤ mostRecords) × (last ≤ mostMinutes))
 
--- a height from the parts of a clock, whatever table and station it has
+-- a height from the parts of a clock, whatever table, station and date it has
 pub record HeightFrom (tabled stationed dated : Bool) (last count : ℕ) (arguments lags frequencies : List ℕ) (ps qs : List ℤ) (minute : ℕ) (returned : Outcome ℤ) : Type 0 where
-  pub returns : (t : Table) (s : Station) → returned ≡ heightReturns (stateOf tabled t stationed s dated (record { last = last; constituents = constituentsFrom arguments lags frequencies ps qs count })) minute
+  pub returns : (t : Table) (s : Station) (year month : ℕ) → returned ≡ heightReturns (stateOf tabled t stationed s dated (record { year = year; month = month; prepared = record { last = last; constituents = constituentsFrom arguments lags frequencies ps qs count } })) minute
 
--- bookings from the parts of a clock, whatever table and station it has
+-- bookings from the parts of a clock, whatever table, station and date it has
 pub record BookingsFrom (tabled stationed dated : Bool) (last count : ℕ) (arguments lags frequencies : List ℕ) (ps qs : List ℤ) (minutes : List ℕ) (heights left : List ℤ) (returned : Outcome Unit) : Type 0 where
-  pub gives : (t : Table) (s : Station) → record { returned = returned; heights = left }
-      ≡ bookingsGives (stateOf tabled t stationed s dated (record { last = last; constituents = constituentsFrom arguments lags frequencies ps qs count })) minutes heights
+  pub gives : (t : Table) (s : Station) (year month : ℕ) → record { returned = returned; heights = left }
+      ≡ bookingsGives (stateOf tabled t stationed s dated (record { year = year; month = month; prepared = record { last = last; constituents = constituentsFrom arguments lags frequencies ps qs count } })) minutes heights
 
 -- a year's sheet, of a table and a station, for a year in range, whatever month the clock has
 pub record SheetPost (table : declared.Table) (station : declaredStation.Station) (sheet : Sheet) (series seriesLeft : List ℤ) (minutes minutesLeft : List ℕ) (heights heightsLeft : List ℤ) (returned : Outcome TurnsFound) : Type 0 where
-  pub gives : (month : Maybe Month) → record { returned = returned; series = seriesLeft; minutes = minutesLeft; heights = heightsLeft }
+  pub gives : (month : Maybe Dated) → record { returned = returned; series = seriesLeft; minutes = minutesLeft; heights = heightsLeft }
       ≡ yearGives (record { table = some (tableOf table); station = some (stationOf station); month = month }) sheet series minutes heights
 
 -- a series and a search within months that end at a minute
