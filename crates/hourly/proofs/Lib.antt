@@ -1,3 +1,4 @@
 pub mod Lengths
 pub mod Runs
 pub mod Decimal
+pub mod Widths
