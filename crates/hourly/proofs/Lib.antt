@@ -2,3 +2,4 @@ pub mod Lengths
 pub mod Runs
 pub mod Decimal
 pub mod Widths
+pub mod Formats
