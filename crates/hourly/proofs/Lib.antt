@@ -3,3 +3,5 @@ pub mod Runs
 pub mod Decimal
 pub mod Widths
 pub mod Formats
+pub mod Cards
+pub mod Back
