@@ -1,13 +1,12 @@
 -- 02, No. 4: "these cards, read by that format and 01's number rule, give the station number, dates and centimetre heights written".
 -- What is not refused fits, and cards that fit are read back. Assumes nothing.
-use mathlib.Core.Path.{_≡_, refl, sym, ap, _∙_}
-use Prim.Native.Nat.{ℕ, zero, suc, _+_, _≤_, _<_}
-use mathlib.Core.Bool.{Bool, true, false, not, _&&_, _||_}
-use mathlib.Core.List.{List, [], _∷_, map}
+use mathlib.Core.Path.{_≡_, refl, ap, _∙_}
+use Prim.Native.Nat.{ℕ, zero, suc, _+_, _≤_}
+use mathlib.Core.Bool.{Bool, true, false, _&&_, _||_, true≢false}
+use mathlib.Core.List.{List, [], _∷_}
 use lib.Dec.{ltb, leb}
-use lib.IntN.{ℤ, pos, negsuc, negℤ}
+use lib.IntN.{ℤ, pos, negsuc}
 use lib.ListN.{length, replicate, length-map}
-use lib.Signed.{leZ}
 use native.Mathlib.Nat.{suc-inj}
 use native.Mathlib.Omega.{arith}
 use borrow.Author.Tests.{leb-true, ltb-false, not-false}
@@ -16,7 +15,7 @@ use Rattle.calendar.proofs.Months.{both, month-short, in-range}
 use Rattle.heights.specs.Series.{seriesFrom}
 use Rattle.refusals.specs.Outcome.{Outcome, accepted, refused, refuseIf, _>>_}
 use Rattle.refusals.proofs.Laws.{not-both}
-use Rattle.hourly.specs.Card.{Entry, value, gap, HourlyCard}
+use Rattle.hourly.specs.Card.{Entry, value, gap}
 use Rattle.hourly.specs.Format.{A, heightsACard, narrow}
 use Rattle.hourly.specs.Writing.{cardsWritten}
 use Rattle.hourly.specs.Month.{centimetres, firstHour, cardOn, cardsFrom, cardsOf, mostStationNumber, outside, anyOutside, heightsAsked, roomAsked, ReadsBack}
@@ -35,7 +34,7 @@ first-accepted (refused number place) next y e = not-both e
 
 neither : (a b : Bool) → (a || b) ≡ false → (a ≡ false) × (b ≡ false)
 neither false b e = (refl, e)
-neither true b e = absurd (mathlib.Core.Bool.true≢false e)
+neither true b e = absurd (true≢false e)
 
 -- ---- what is not outside -999 to 9998 fits a narrow card
 

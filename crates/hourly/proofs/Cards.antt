@@ -1,13 +1,12 @@
 -- Hourly cards that fit a width: their bytes, read by the format of that width, give the same cards.
 -- By induction on the cards, from the law of a format. Assumes nothing.
 use Prim.{Unit}
-use mathlib.Core.Path.{_≡_, refl, sym, ap, _∙_}
-use Prim.Native.Nat.{ℕ, zero, suc, _+_, _*_, _%_, _^_, _≤_, _<_}
-use mathlib.Core.Bool.{Bool, true, false, cond, _&&_}
+use mathlib.Core.Path.{_≡_, refl}
+use Prim.Native.Nat.{ℕ, _+_, _%_, _≤_, _<_}
+use mathlib.Core.Bool.{Bool, true, false, cond}
 use mathlib.Core.List.{List, [], _∷_, _++_}
-use lib.Dec.{leb, ltb, eqb}
-use lib.IntN.{pos}
-use lib.ListN.{length, replicate}
+use lib.Dec.{leb, ltb}
+use lib.ListN.{replicate}
 use lib.Seq.{append-snoc}
 use native.Mathlib.Omega.{arith}
 use borrow.Author.Tests.{ltb-true, ltb-false, leb-true, le-leb, ne-eqb}
@@ -16,9 +15,9 @@ use Rattle.refusals.specs.Outcome.{accepted}
 use Rattle.limits.specs.Limits.{mostColumns}
 use Rattle.columns.specs.Bytes.{among, every}
 use Rattle.columns.specs.Lines.{linesOf, lineGood}
-use Rattle.hourly.specs.Card.{Entry, HourlyCard, twoDigits, fullYear}
+use Rattle.hourly.specs.Card.{HourlyCard, twoDigits, fullYear}
 use Rattle.hourly.specs.Format.{A, heightsACard, cardFormat}
-use Rattle.hourly.specs.Writing.{writtenBy, entriesOf, cardWritten, cardsWritten}
+use Rattle.hourly.specs.Writing.{writtenBy, entriesOf, cardsWritten}
 use Rattle.hourly.specs.Reading.{lineRead, linesRead, cardsRead}
 use Rattle.hourly.proofs.Formats.{Fits, columnsOf, written-printed, format-back}
 

@@ -1,12 +1,11 @@
 -- Entries that fit the items of a format: they are written in the format's columns, and read back by it.
 -- By induction on the items, from the laws of one field. Assumes nothing.
 use Prim.{Unit}
-use mathlib.Core.Path.{_≡_, refl, sym, ap, _∙_}
-use Prim.Native.Nat.{ℕ, zero, suc, _+_, _^_, _<_}
-use mathlib.Core.Bool.{true}
+use mathlib.Core.Path.{_≡_, refl, sym, _∙_}
+use Prim.Native.Nat.{ℕ, suc, _+_, _^_, _<_}
 use mathlib.Core.List.{List, [], _∷_, _++_}
 use lib.IntN.{natAbs}
-use lib.ListN.{length, take, drop, replicate, length-replicate}
+use lib.ListN.{length, replicate, length-replicate}
 use lib.Seq.{take-at, drop-at}
 use Rattle.refusals.specs.Outcome.{accepted}
 use Rattle.columns.specs.Bytes.{every}

@@ -1,49 +1,58 @@
--- How many digits a number has in decimal: at least one, at most as many as are allowed, and no more than a power of ten above it has zeros.
--- By induction on the digits allowed. Assumes nothing.
-use mathlib.Core.Path.{_≡_, refl}
-use Prim.Native.Nat.{ℕ, zero, suc, _+_, _-_, _*_, _/_, _%_, _^_, _≤_, _<_}
-use mathlib.Core.Bool.{Bool, true, false, cond}
+-- How many bytes a number takes in decimal, and in its field: its digits by recursion on how many there may be.
+-- Assumes nothing.
+use mathlib.Core.Path.{_≡_, refl, sym, ap, _∙_}
 use mathlib.Core.List.{List, [], _∷_, _++_}
+use Prim.Native.Nat.{ℕ, zero, suc, _+_, _-_, _*_, _/_, _%_, _^_, _≤_, _<_}
+use native.Mathlib.Nat.{pow-suc, div-lt-iff-lt-mul}
+use native.Mathlib.Omega.{arith}
+use mathlib.Core.Bool.{Bool, true, false}
+use borrow.Author.Tests.{lt-ltb, le-ltb, ltb-true, ltb-false}
 use lib.Dec.{ltb}
 use lib.ListN.{length, length-append}
-use native.Mathlib.Nat.{pow-suc, pow-zero, div-lt-iff-lt-mul, le-of-suc-le-suc}
-use native.Mathlib.Omega.{arith}
-use borrow.Author.Tests.{ltb-false}
 use Rattle.hourly.specs.Writing.{decimal}
 
--- a tenth of a number has a digit less
-pub tenth-below : (k n : ℕ) → n < 10 ^ suc k → n / 10 < 10 ^ k
-tenth-below k n h = let ten : 0 < 10 = omega arith in div-lt-iff-lt-mul ten .1 (rw pow-suc at h)
-
-pub decimal-some : (w n : ℕ) → 0 < w → 0 < length (decimal w n)
-unfolding decimal
-decimal-some zero n h = h
-decimal-some (suc w) n h = go (ltb n 10)
+-- below a number, or not
+pub below-or-not : {P : Type 0} (a b : ℕ) → (a < b → P) → (b ≤ a → P) → P
+below-or-not {P} a b f g = at (ltb a b) refl
   where
-    go : (t : Bool) → 0 < length (cond t ((48 + n) ∷ []) (decimal w (n / 10) ++ ((48 + n % 10) ∷ [])))
-    go true = omega arith
-    go false = simp length-append (omega arith)
+    at : (t : Bool) → ltb a b ≡ t → P
+    at true e = f (ltb-true a b e)
+    at false e = g (ltb-false a b e)
 
-pub decimal-most : (w n : ℕ) → length (decimal w n) ≤ w
+-- the two forms of a number in decimal
+pub decimal-digit : (most n : ℕ) → n < 10 → decimal (suc most) n ≡ (48 + n) ∷ []
+unfolding decimal
+decimal-digit most n h = rw (lt-ltb n 10 h)
+
+pub decimal-more : (most n : ℕ) → 10 ≤ n → decimal (suc most) n ≡ decimal most (n / 10) ++ ((48 + n % 10) ∷ [])
+unfolding decimal
+decimal-more most n h = rw (le-ltb n 10 h)
+
+-- their lengths
+pub length-digit : (most n : ℕ) → n < 10 → length (decimal (suc most) n) ≡ 1
+length-digit most n h = rw (decimal-digit most n h)
+
+pub length-more : (most n : ℕ) → 10 ≤ n → length (decimal (suc most) n) ≡ length (decimal most (n / 10)) + 1
+length-more most n h = rw (decimal-more most n h) (length-append (decimal most (n / 10)) ((48 + n % 10) ∷ []))
+
+-- no more digits than there may be
+pub decimal-most : (most n : ℕ) → length (decimal most n) ≤ most
 unfolding decimal
 decimal-most zero n = omega arith
-decimal-most (suc w) n = go (ltb n 10) (decimal-most w (n / 10))
-  where
-    go : (t : Bool) → length (decimal w (n / 10)) ≤ w → length (cond t ((48 + n) ∷ []) (decimal w (n / 10) ++ ((48 + n % 10) ∷ []))) ≤ suc w
-    go true h = omega arith
-    go false h = simp length-append (omega arith)
+decimal-most (suc most) n =
+    below-or-not n 10 (λ h. omega (arith, length-digit most n h)) (λ h. omega (arith, length-more most n h, decimal-most most (n / 10)))
 
-pub decimal-within : (w k n : ℕ) → 0 < k → n < 10 ^ k → length (decimal w n) ≤ k
+-- one at least
+pub decimal-some : (most n : ℕ) → 0 < length (decimal (suc most) n)
+decimal-some most n = below-or-not n 10 (λ h. omega (arith, length-digit most n h)) (λ h. omega (arith, length-more most n h))
+
+-- and no more than the number's own
+pub decimal-below : (most k n : ℕ) → 0 < k → n < 10 ^ k → length (decimal most n) ≤ k
 unfolding decimal
-decimal-within zero k n p h = omega arith
-decimal-within (suc w) zero n p h = omega arith
-decimal-within (suc w) (suc zero) n p h = go (ltb n 10) refl
-  where
-    go : (t : Bool) → ltb n 10 ≡ t → length (cond t ((48 + n) ∷ []) (decimal w (n / 10) ++ ((48 + n % 10) ∷ []))) ≤ 1
-    go true e = omega arith
-    go false e = absurd (omega (arith, ltb-false n 10 e))
-decimal-within (suc w) (suc (suc k)) n p h = go (ltb n 10) (decimal-within w (suc k) (n / 10) (omega arith) (tenth-below (suc k) n h))
-  where
-    go : (t : Bool) → length (decimal w (n / 10)) ≤ suc k → length (cond t ((48 + n) ∷ []) (decimal w (n / 10) ++ ((48 + n % 10) ∷ []))) ≤ suc (suc k)
-    go true i = omega arith
-    go false i = simp length-append (omega arith)
+decimal-below zero k n some h = omega arith
+decimal-below (suc most) zero n some h = absurd (omega arith)
+decimal-below (suc most) (suc zero) n some h = omega (arith, length-digit most n h)
+decimal-below (suc most) (suc (suc k)) n some h =
+    let fewer : n / 10 < 10 ^ suc k = div-lt-iff-lt-mul {k = 10} (omega arith) .1 (rw pow-suc at h) in
+    below-or-not n 10 (λ l. omega (arith, length-digit most n l))
+    (λ l. omega (arith, length-more most n l, decimal-below most (suc k) (n / 10) (omega arith) fewer))

@@ -1,10 +1,10 @@
 -- Rows of bytes that keep to a kind, joined: every byte, the bytes it begins with, what is behind them.
 -- By induction on the first row. Assumes nothing.
-use mathlib.Core.Path.{_≡_, refl, ap, _∙_}
+use mathlib.Core.Path.{_≡_, refl}
 use Prim.Native.Nat.{ℕ, zero, suc}
-use mathlib.Core.Bool.{Bool, true, false, cond, _&&_, and-assoc}
+use mathlib.Core.Bool.{Bool, true, _&&_, and-assoc}
 use mathlib.Core.List.{List, [], _∷_, _++_}
-use lib.ListN.{length, drop, replicate}
+use lib.ListN.{replicate}
 use lib.Seq.{drop-append-seam}
 use Rattle.calendar.proofs.Months.{both}
 use Rattle.columns.specs.Bytes.{every, leading, behind}

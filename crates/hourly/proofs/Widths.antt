@@ -1,13 +1,12 @@
 -- A field of a width, and a number or a gap that it can hold: as many bytes as columns, each of them of a line, and read back.
 -- Every law is over the width. Rests on the laws of decimal numbers and of rows of a kind. Assumes nothing.
-use Prim.{Unit}
-use mathlib.Core.Path.{_≡_, refl, sym, ap, _∙_, subst}
+use mathlib.Core.Path.{_≡_, refl, sym, ap, _∙_}
 use Prim.Native.Nat.{ℕ, zero, suc, _+_, _-_, _*_, _^_, _≤_, _<_}
-use mathlib.Core.Bool.{Bool, true, false, cond, _&&_, _||_, and-false, or-true, false≢true}
+use mathlib.Core.Bool.{Bool, true, false, and-false, or-true, false≢true}
 use mathlib.Core.List.{List, [], _∷_, _++_, append-nil}
 use lib.Dec.{leb, eqb}
-use lib.IntN.{ℤ, pos, negsuc, negℤ, natAbs}
-use lib.ListN.{length, drop, replicate, length-append, length-replicate}
+use lib.IntN.{ℤ, pos, negsuc, natAbs}
+use lib.ListN.{length, replicate, length-append, length-replicate}
 use native.Mathlib.Nat.{pow-suc, pow-le-pow-right, mul-assoc, mul-comm, not-suc-le-zero, lt-of-lt-of-le}
 use native.Mathlib.Omega.{arith}
 use borrow.Author.Tests.{leb-true, lt-leb, lt-ltb, ne-eqb, eqb-true, eq-eqb}
@@ -16,15 +15,15 @@ use Rattle.refusals.specs.Outcome.{accepted}
 use Rattle.columns.specs.Bytes.{among, blank, every, leading, behind}
 use Rattle.columns.specs.Names.{same}
 use Rattle.columns.proofs.Bytes.{every-leading}
-use Rattle.fields.specs.Number.{Contents, numeric, signed, unsigned, unblanked, contentsOf}
+use Rattle.fields.specs.Number.{numeric, signed, unsigned, unblanked, contentsOf}
 use Rattle.fields.specs.Numerals.{digit, begins, numeral, wholeGood, wholeSize}
 use Rattle.fields.specs.declared.Format.the-variants.{Whole}
-use Rattle.hourly.specs.Card.{Entry, value, gap}
-use Rattle.hourly.specs.Writing.{decimal, minusOf, textOf, padLeft, entryWritten}
-use Rattle.hourly.specs.Reading.{numberIn, numberRead, heightRead}
-use Rattle.hourly.proofs.Lengths.{decimal-some, decimal-within}
+use Rattle.hourly.specs.Card.{value, gap}
+use Rattle.hourly.specs.Writing.{decimal, minusOf, textOf, entryWritten}
+use Rattle.hourly.specs.Reading.{numberRead, heightRead}
+use Rattle.hourly.proofs.Lengths.{decimal-below}
 use Rattle.hourly.proofs.Runs.{every-append, every-replicate, every-wider, leading-front, behind-front}
-use Rattle.hourly.proofs.Decimal.{among-is, decimal-digits, decimal-back}
+use Rattle.hourly.proofs.Decimal.{among-is, some-digits, decimal-digits, decimal-back}
 
 -- ---- digits
 
@@ -102,13 +101,13 @@ room-width w (negsuc n) h = omega arith
 text-unblanked : (w : ℕ) (z : ℤ) → 0 < w → natAbs z < 10 ^ w → unblanked Whole (textOf w z) ≡ numeric z
 unfolding unblanked begins
 text-unblanked w (pos n) s b =
-    rw (no-minus (decimal w n) (decimal-digits w n), digits-unsigned (decimal w n) (decimal-some w n s) (decimal-digits w n) false, decimal-back w n b)
+    rw (no-minus (decimal w n) (decimal-digits w n), digits-unsigned (decimal w n) (some-digits w n s) (decimal-digits w n) false, decimal-back w n b)
 text-unblanked w (negsuc n) s b =
-    rw (digits-unsigned (decimal w (suc n)) (decimal-some w (suc n) s) (decimal-digits w (suc n)) true, decimal-back w (suc n) b)
+    rw (digits-unsigned (decimal w (suc n)) (some-digits w (suc n) s) (decimal-digits w (suc n)) true, decimal-back w (suc n) b)
 
 text-visible : (w : ℕ) (z : ℤ) → 0 < w → leading blank (textOf w z) ≡ []
 unfolding leading
-text-visible w (pos n) s = no-blank (decimal w n) (decimal-some w n s) (decimal-digits w n)
+text-visible w (pos n) s = no-blank (decimal w n) (some-digits w n s) (decimal-digits w n)
 text-visible w (negsuc n) s = refl
 
 module _ (w : ℕ) (z : ℤ) (h : Holds w z) where
@@ -119,7 +118,7 @@ module _ (w : ℕ) (z : ℤ) (h : Holds w z) where
   size-below = let e : room w z ≤ w = omega (arith, room-width w z (h .some)) in lt-of-lt-of-le (h .below) (pow-le-pow-right (omega arith) e)
 
   text-short : length (textOf w z) ≤ w
-  text-short = simp length-append (omega (arith, room-width w z (h .some), decimal-within w (room w z) (natAbs z) (h .some) (h .below)))
+  text-short = simp length-append (omega (arith, room-width w z (h .some), decimal-below w (room w z) (natAbs z) (h .some) (h .below)))
 
   pub number-contents : contentsOf Whole (entryWritten w (value z)) ≡ numeric z
   unfolding contentsOf entryWritten
@@ -147,7 +146,7 @@ module _ (w : ℕ) (z : ℤ) (h : Holds w z) where
   unfolding entryWritten
   number-visible =
       let blanks : List ℕ = replicate (w - length (textOf w z)) 32 in
-      let some : 0 < length (textOf w z) = omega (arith, length-append (minusOf z) (decimal w (natAbs z)), decimal-some w (natAbs z) wide) in
+      let some : 0 < length (textOf w z) = omega (arith, length-append (minusOf z) (decimal w (natAbs z)), some-digits w (natAbs z) wide) in
       rw (every-append blank blanks (textOf w z), every-leading blank (textOf w z), text-visible w z wide, lt-leb (length (textOf w z)) 0 some, and-false (every blank blanks))
 
 -- ---- a height in a field
