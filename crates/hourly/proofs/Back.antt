@@ -77,8 +77,8 @@ module _ (height : ℕ → ℤ) (station year month : ℕ) (range : inRange year
   unfolding cardsFrom heightsAsked
   cards-fit day zero place d h = tt
   cards-fit day (suc left) place d h =
-      let one = not-refused (anyOutside (cardOn height station year month day 1 .heights)) 33 place (heightsAsked (place + 1) (cardOn height station year month day 2 ∷ cardsFrom height station year month (day + 1) left)) tt h in
-      let two = not-refused (anyOutside (cardOn height station year month day 2 .heights)) 33 (place + 1) (heightsAsked (place + 1 + 1) (cardsFrom height station year month (day + 1) left)) tt (one .1) in
+      let one = not-refused _ 33 place _ tt h in
+      let two = not-refused _ 33 (place + 1) _ tt (one .1) in
       (card-fits day 1 (omega arith) (omega arith) (one .0), (card-fits day 2 (omega arith) (omega arith) (two .0), cards-fit (day + 1) left (place + 1 + 1) (omega arith) (two .1)))
 
 -- ---- the month
@@ -87,7 +87,7 @@ pub reads-back : ReadsBack
 reads-back height station year month places bytes range most taken =
     let cards = cardsOf height station year month in
     let asked = first-accepted (heightsAsked 1 cards) (roomAsked (cardsWritten narrow cards) places) bytes taken in
-    let room = not-refused (ltb places (length (cardsWritten narrow cards))) 34 0 (accepted (cardsWritten narrow cards)) bytes (asked .2) in
+    let fits = not-refused (ltb places (length (cardsWritten narrow cards))) 34 0 (accepted (cardsWritten narrow cards)) bytes (asked .2) in
     let written : cardsWritten narrow cards ≡ bytes = cc in
     rw (← written)
-      (cards-read-back narrow (omega arith) cards (cards-fit height station year month range most 1 (monthDays year month) 1 (omega (arith, month-short year month)) (asked .1)))
+    (cards-read-back narrow (omega arith) cards (cards-fit height station year month range most 1 (monthDays year month) 1 (omega (arith, month-short year month)) (asked .1)))

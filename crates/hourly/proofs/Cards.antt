@@ -75,8 +75,12 @@ unfolding linesRead linesOf cardsWritten
 lines-back w place narrow [] h = refl
 lines-back w place narrow (card ∷ cards) (h, hs) =
     let p = written-printed (cardFormat w) (entriesOf card) (entries-fit w card h) in
-    rw (append-snoc (lineOf w card) 10 (cardsWritten w cards), lines-front (lineOf w card) (cardsWritten w cards) (p .plain), line-back w card h place narrow,
-      lines-back w (place + 1) narrow cards hs)
+    rw (
+      append-snoc (lineOf w card) 10 (cardsWritten w cards),
+      lines-front (lineOf w card) (cardsWritten w cards) (p .plain),
+      line-back w card h place narrow,
+      lines-back w (place + 1) narrow cards hs,
+    )
 
 -- the cards that are read are those that were written
 pub cards-read-back : (w : ℕ) → w ≤ 5 → (cards : List HourlyCard) → CardsFit w cards → cardsRead w (cardsWritten w cards) ≡ accepted cards

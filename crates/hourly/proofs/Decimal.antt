@@ -29,7 +29,7 @@ unfolding decimal every
 decimal-digits zero n = refl
 decimal-digits (suc w) n =
     below-or-not n 10 (λ l. rw (decimal-digit w n l, digit-is n l))
-      (λ l. rw (decimal-more w n l, every-append digit (decimal w (n / 10)) ((48 + n % 10) ∷ []), decimal-digits w (n / 10), digit-is (n % 10) (omega arith)))
+    (λ l. rw (decimal-more w n l, every-append digit (decimal w (n / 10)) ((48 + n % 10) ∷ []), decimal-digits w (n / 10), digit-is (n % 10) (omega arith)))
 
 numeral-append : (v : ℕ) (ds es : List ℕ) → numeral v (ds ++ es) ≡ numeral (numeral v ds) es
 unfolding numeral
@@ -42,4 +42,4 @@ decimal-back zero n h = omega arith
 decimal-back (suc w) n h =
     let tenth : n / 10 < 10 ^ w = div-lt-iff-lt-mul {k = 10} (omega arith) .1 (rw pow-suc at h) in
     below-or-not n 10 (λ l. rw (decimal-digit w n l) (omega arith))
-      (λ l. rw (decimal-more w n l, numeral-append 0 (decimal w (n / 10)) ((48 + n % 10) ∷ []), decimal-back w (n / 10) tenth) (omega arith))
+    (λ l. rw (decimal-more w n l, numeral-append 0 (decimal w (n / 10)) ((48 + n % 10) ∷ []), decimal-back w (n / 10) tenth) (omega arith))

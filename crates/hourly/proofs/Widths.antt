@@ -124,7 +124,7 @@ module _ (w : ℕ) (z : ℤ) (h : Holds w z) where
   unfolding contentsOf entryWritten
   number-contents =
       rw (behind-front blank (textOf w z) (text-visible w z wide) (replicate (w - length (textOf w z)) 32) (every-replicate blank (w - length (textOf w z)) 32 refl))
-        (text-unblanked w z wide size-below)
+      (text-unblanked w z wide size-below)
 
   pub number-read : (place : ℕ) → numberRead place (entryWritten w (value z)) ≡ accepted (value z)
   number-read place = rw number-contents
@@ -133,10 +133,10 @@ module _ (w : ℕ) (z : ℤ) (h : Holds w z) where
   unfolding entryWritten
   number-printed =
       let text : Printed (length (textOf w z)) (textOf w z) =
-        record {
-          columns = refl;
-          plain = rw (every-append (among 32 126) (minusOf z) (decimal w (natAbs z)), minus-plain z) (digits-plain (decimal w (natAbs z)) (decimal-digits w (natAbs z)));
-        } in
+      record {
+        columns = refl;
+        plain = rw (every-append (among 32 126) (minusOf z) (decimal w (natAbs z)), minus-plain z) (digits-plain (decimal w (natAbs z)) (decimal-digits w (natAbs z)));
+      } in
       let blanks = w - length (textOf w z) in
       let e : blanks + length (textOf w z) ≡ w = omega (arith, text-short) in
       rw e at (printed-append blanks (length (textOf w z)) (replicate blanks 32) (textOf w z) (printed-replicate blanks 32 refl) text)
@@ -185,7 +185,7 @@ module _ (w : ℕ) (z : ℤ) (h : Holds w z) (unlike : suc (natAbs z) < 10 ^ w) 
   not-nines true e =
       let n = numeral 0 (replicate w 57) in
       let c : numeric z ≡ numeric (pos n) =
-        sym (number-contents w z h) ∙ ap (contentsOf Whole) (same-is (entryWritten w (value z)) (replicate w 57) e) ∙ nines-contents w (wide w z h) in
+      sym (number-contents w z h) ∙ ap (contentsOf Whole) (same-is (entryWritten w (value z)) (replicate w 57) e) ∙ nines-contents w (wide w z h) in
       let s : natAbs z ≡ n = cc in
       absurd (omega (arith, nines-size w 0))
 
