@@ -1,12 +1,12 @@
 -- 02, No. 4: "these cards, read by that format and 01's number rule, give the station number, dates and centimetre heights written".
 -- What is not refused fits, and cards that fit are read back. Assumes nothing.
-use mathlib.Core.Path.{_≡_, refl, ap, _∙_}
+use mathlib.Core.Path.{_≡_, refl}
 use Prim.Native.Nat.{ℕ, zero, suc, _+_, _≤_}
 use mathlib.Core.Bool.{Bool, true, false, _&&_, _||_, true≢false}
 use mathlib.Core.List.{List, [], _∷_}
 use lib.Dec.{ltb, leb}
 use lib.IntN.{ℤ, pos, negsuc}
-use lib.ListN.{length, replicate, length-map}
+use lib.ListN.{length, replicate}
 use native.Mathlib.Nat.{suc-inj}
 use native.Mathlib.Omega.{arith}
 use borrow.Author.Tests.{leb-true, ltb-false, not-false}
@@ -18,7 +18,7 @@ use Rattle.refusals.proofs.Laws.{not-both}
 use Rattle.hourly.specs.Card.{Entry, value, gap}
 use Rattle.hourly.specs.Format.{A, heightsACard, narrow}
 use Rattle.hourly.specs.Writing.{cardsWritten}
-use Rattle.hourly.specs.Month.{centimetres, firstHour, cardOn, cardsFrom, cardsOf, mostStationNumber, outside, anyOutside, heightsAsked, roomAsked, ReadsBack}
+use Rattle.hourly.specs.Month.{cardOn, cardsFrom, cardsOf, mostStationNumber, outside, anyOutside, heightsAsked, roomAsked, ReadsBack}
 use Rattle.hourly.proofs.Formats.{FitsHeight, Fits}
 use Rattle.hourly.proofs.Cards.{CardFits, CardsFit, cards-read-back}
 
@@ -50,18 +50,13 @@ heights-fit zero (x ∷ es) e h = absurd (omega arith)
 heights-fit (suc n) [] e h = absurd (omega arith)
 heights-fit (suc n) (x ∷ es) e h = let p = neither (outside x) (anyOutside es) h in (height-fits x (p .0), heights-fit n es (suc-inj e) (p .1))
 
-series-length : (height : ℕ → ℤ) (start step n left : ℕ) → length (seriesFrom height start step n left) ≡ left
-unfolding seriesFrom
-series-length height start step n zero = refl
-series-length height start step n (suc left) = ap suc (series-length height start step (n + 1) left)
-
 module _ (height : ℕ → ℤ) (station year month : ℕ) (range : inRange year month ≡ true) (most : ltb mostStationNumber station ≡ false) where
   card-fits : (day number : ℕ) → day ≤ 31 → number ≤ 2 → anyOutside (cardOn height station year month day number .heights) ≡ false
       → CardFits narrow (cardOn height station year month day number)
+  unfolding seriesFrom
   card-fits day number d n h =
       let r = in-range year month range in
       let s : station ≤ 99_999 = ltb-false 99_999 station most in
-      let hs = seriesFrom height (firstHour day number) 60 0 heightsACard in
       record {
         number = omega arith;
         station = omega arith;
@@ -69,7 +64,7 @@ module _ (height : ℕ → ℤ) (station year month : ℕ) (range : inRange year
         month = omega arith;
         since = r .0 .0;
         until = r .0 .1;
-        heights = heights-fit heightsACard (cardOn height station year month day number .heights) (length-map hs (λ z. value (centimetres z)) ∙ series-length height (firstHour day number) 60 0 heightsACard) h;
+        heights = heights-fit heightsACard (cardOn height station year month day number .heights) refl h;
       }
 
   cards-fit : (day left place : ℕ) → day + left ≤ 32 → heightsAsked place (cardsFrom height station year month day left) ≡ accepted tt
