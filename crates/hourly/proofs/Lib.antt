@@ -5,4 +5,4 @@ pub mod Widths
 pub mod Formats
 pub mod Cards
 pub mod Back
-pub mod Centimetres
+pub mod Nearest
