@@ -60,9 +60,9 @@ module _ (w : ℕ) (card : HourlyCard) (h : CardFits w card) where
   line-back place narrow =
       rw (line-good narrow, format-back place (cardFormat w) (entriesOf card) entries-fit, year-back (card .year) (h .since) (h .until))
 
--- ---- lines
+-- ---- lines: one in front of the others
 
-lines-front : (line rest : List ℕ) → every (among 32 126) line ≡ true → linesOf (line ++ 10 ∷ rest) ≡ line ∷ linesOf rest
+pub lines-front : (line rest : List ℕ) → every (among 32 126) line ≡ true → linesOf (line ++ 10 ∷ rest) ≡ line ∷ linesOf rest
 unfolding linesOf every
 lines-front [] rest h = refl
 lines-front (b ∷ line) rest h =
