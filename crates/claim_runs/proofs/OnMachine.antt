@@ -103,25 +103,22 @@ module _ {vc : Val} (l : Last) (h : Holds vc l) where
       ∥∥₁-map (leaves is-clock k) (λ a.
       subst (λ (v : Val). (Leaves x (v, ws) × (gives l q ≡ told (verdictIn (x .value)))) × Holds v (after l q)) e ((lies, a .0 ∙ ap told (sym (verdict-reads r (x .value) is))), a .1)))
 
-  -- heights that are written are read off the memory at the end
-  left-wrote : {q : Request} {hs′ zs : List ℤ} {said : Outcome Unit} (Left : List ℤ → Type 1) (r : Outcome Unit) → r ≡ said → Left hs′ → Call (h .clock) q (wrote (record { returned = said; heights = hs′ })) (h .clock)
-      → ∥ (hs′ ≡ zs) ∥₁ → ∥ ((Left zs × (gives l q ≡ wrote (record { returned = r; heights = zs }))) × Holds vc (after l q)) ∥₁
-  left-wrote {q = q} {hs′ = hs′} Left r is lies k e =
+  -- what is written to one buffer is read off the memory at the end
+  left-written : {X Y : Type 0} (given : Outcome Y → List X → Gave) {q : Request} {xs′ zs : List X} {said : Outcome Y} (Left : List X → Type 1) (r : Outcome Y) → r ≡ said → Left xs′
+      → Call (h .clock) q (given said xs′) (h .clock) → ∥ (xs′ ≡ zs) ∥₁ → ∥ ((Left zs × (gives l q ≡ given r zs)) × Holds vc (after l q)) ∥₁
+  left-written {X} {Y} given {q = q} {xs′ = xs′} Left r is lies k e =
       ∥∥₁-elim e ∥∥₁-prop (λ there.
       ∥∥₁-map (left-same k) (λ a. (
-        subst (λ (ys : List ℤ). Left ys × (gives l q ≡ wrote (record { returned = r; heights = ys }))) there (lies, a .0 ∙ ap (λ (o : Outcome Unit). wrote (record { returned = o; heights = hs′ })) (sym is)),
+        subst (λ (ys : List X). Left ys × (gives l q ≡ given r ys)) there (lies, a .0 ∙ ap (λ (o : Outcome Y). given o xs′) (sym is)),
         a .1,
       )))
 
-  -- .. and bytes
-  left-carded : {q : Request} {bs′ zs : List ℕ} {said : Outcome ℕ} (Left : List ℕ → Type 1) (r : Outcome ℕ) → r ≡ said → Left bs′ → Call (h .clock) q (carded (record { returned = said; buffer = bs′ })) (h .clock)
-      → ∥ (bs′ ≡ zs) ∥₁ → ∥ ((Left zs × (gives l q ≡ carded (record { returned = r; buffer = zs }))) × Holds vc (after l q)) ∥₁
-  left-carded {q = q} {bs′ = bs′} Left r is lies k e =
-      ∥∥₁-elim e ∥∥₁-prop (λ there.
-      ∥∥₁-map (left-same k) (λ a. (
-        subst (λ (ys : List ℕ). Left ys × (gives l q ≡ carded (record { returned = r; buffer = ys }))) there (lies, a .0 ∙ ap (λ (o : Outcome ℕ). carded (record { returned = o; buffer = bs′ })) (sym is)),
-        a .1,
-      )))
+  -- .. heights, and hourly cards
+  abbrev heights-given : Outcome Unit → List ℤ → Gave
+  heights-given r hs = wrote (record { returned = r; heights = hs })
+
+  abbrev cards-given : Outcome ℕ → List ℕ → Gave
+  cards-given r bytes = carded (record { returned = r; buffer = bytes })
 
   -- a run gives what the document gives, and leaves a clock that holds what is worked out after it
   run-gives : {vc′ : Val} {q : Request} (x : Run vc q vc′) → ∥ (Gives x (gives l q) × Holds vc′ (after l q)) ∥₁
@@ -143,7 +140,7 @@ module _ {vc : Val} (l : Last) (h : Holds vc l) where
       ∥∥₁-map (left-same (call.heights (k .once))) (λ a. ((k .leaves, a .0 ∙ ap predicted (sym (height-reads (k .result) (x .value) (k .is)))), a .1)))
   run-gives (serieses {start = start} {step = step} {vs = vs} {vt = vt} {hs = hs} {b = b} {o = o} x) =
       ∥∥₁-elim (ran (series-call (h .clock) vc start step vs vt hs b o) (on-value x)) ∥∥₁-prop (λ k.
-      left-wrote {q = Series start step hs} (λ zs. Leaves x (zs, tt)) (answerIn (x .value)) (answer-reads (k .result) (x .value) (k .is)) (k .leaves) (call.serieses (k .once))
+      left-written heights-given {q = Series start step hs} (λ zs. Leaves x (zs, tt)) (answerIn (x .value)) (answer-reads (k .result) (x .value) (k .is)) (k .leaves) (call.serieses (k .once))
       (heights-left (x .left) hs _ b o (x .rest) (k .as-many .0) (k .leaves)))
   run-gives (searches {first = first} {last = last} {vf = vf} {vl = vl} {ms = ms} {b = b} {o = o} {hs = hs} {b₁ = b₁} {o₁ = o₁} x) =
       ∥∥₁-elim (ran (turns-call (h .clock) vc first last vf vl ms b o hs b₁ o₁) (on-value x)) ∥∥₁-prop (λ k.
@@ -169,11 +166,11 @@ module _ {vc : Val} (l : Last) (h : Holds vc l) where
       ))))
   run-gives (bookings {minutes = minutes} {q = q} {b = b} {o = o} {hs = hs} {b₁ = b₁} {o₁ = o₁} x) =
       ∥∥₁-elim (ran (bookings-call (h .clock) vc minutes q b o hs b₁ o₁) (on-value x)) ∥∥₁-prop (λ k.
-      left-wrote {q = Bookings minutes hs} (λ zs. Leaves x (zs, tt)) (answerIn (x .value)) (answer-reads (k .result) (x .value) (k .is)) (k .leaves) (call.bookings (k .once))
+      left-written heights-given {q = Bookings minutes hs} (λ zs. Leaves x (zs, tt)) (answerIn (x .value)) (answer-reads (k .result) (x .value) (k .is)) (k .leaves) (call.bookings (k .once))
       (heights-left-behind (x .left) (Lie u32 q minutes b o) hs _ b₁ o₁ (x .rest) (k .as-many .0) (k .leaves)))
   run-gives (hourlies {number = number} {vn = vn} {cards = cards} {b = b} {o = o} x) =
       ∥∥₁-elim (ran (hourly-call (h .clock) vc number vn cards b o) (on-value x)) ∥∥₁-prop (λ k.
-      left-carded {q = Hourly number cards} (λ zs. Leaves x (zs, tt)) (cardsIn (x .value)) (cards-read (k .result) (x .value) (k .is)) (k .leaves) (call.hourlies (k .once))
+      left-written cards-given {q = Hourly number cards} (λ zs. Leaves x (zs, tt)) (cardsIn (x .value)) (cards-read (k .result) (x .value) (k .is)) (k .leaves) (call.hourlies (k .once))
       (bytes-left (x .left) cards _ b o (x .rest) (k .as-many .0) (k .leaves)))
   run-gives (hands x) =
       ∥∥₁-elim (ran (names-call (h .clock) vc) (on-value x)) ∥∥₁-prop (λ k.
@@ -193,7 +190,7 @@ module _ {vc : Val} (l : Last) (h : Holds vc l) where
       ∥∥₁-map (left-same (call.heldHeights (k .once))) (λ a. ((k .leaves, a .0 ∙ ap predicted (sym (reading-reads (k .result) (x .value) (k .is)))), a .1)))
   run-gives (heldSerieses {s = s} {b = b} {o = o} {start = start} {step = step} {vs = vs} {vt = vt} {hs = hs} {b₁ = b₁} {o₁ = o₁} x) =
       ∥∥₁-elim (ran (held-series-call (h .clock) vc (h .is) s b o start step vs vt hs b₁ o₁) x) ∥∥₁-prop (λ k.
-      left-wrote {q = Series start step hs} (λ zs. Leaves x (zs, tt)) (verdictIn (x .value)) (verdict-reads (k .result) (x .value) (k .is)) (k .leaves) (call.heldSerieses (k .once))
+      left-written heights-given {q = Series start step hs} (λ zs. Leaves x (zs, tt)) (verdictIn (x .value)) (verdict-reads (k .result) (x .value) (k .is)) (k .leaves) (call.heldSerieses (k .once))
       (heights-left (x .left) hs _ b₁ o₁ (⟦ At ClockType.the-row s vc b o ⟧₀ ∗ x .rest) (k .as-many .0) (beside-clock x (k .last .1 .1 .1 .0, tt) (k .leaves))))
   run-gives (heldSearches {s = s} {b = b} {o = o} {first = first} {last = last} {vf = vf} {vl = vl} {ms = ms} {b₁ = b₁} {o₁ = o₁} {hs = hs} {b₂ = b₂} {o₂ = o₂} x) =
       ∥∥₁-elim (ran (held-turns-call (h .clock) vc (h .is) s b o first last vf vl ms b₁ o₁ hs b₂ o₂) x) ∥∥₁-prop (λ k.
@@ -219,15 +216,15 @@ module _ {vc : Val} (l : Last) (h : Holds vc l) where
       ))))
   run-gives (lentBookings {s = s} {b = b} {o = o} {minutes = minutes} {q = q} {b₁ = b₁} {o₁ = o₁} {hs = hs} {b₂ = b₂} {o₂ = o₂} x) =
       ∥∥₁-elim (ran (lent-bookings-call (h .clock) vc (h .is) s b o minutes q b₁ o₁ hs b₂ o₂) x) ∥∥₁-prop (λ k.
-      left-wrote {q = Bookings minutes hs} (λ zs. Leaves x (zs, tt)) (answerIn (x .value)) (answer-reads (k .result) (x .value) (k .is)) (k .leaves) (call.lentBookings (k .once))
+      left-written heights-given {q = Bookings minutes hs} (λ zs. Leaves x (zs, tt)) (answerIn (x .value)) (answer-reads (k .result) (x .value) (k .is)) (k .leaves) (call.lentBookings (k .once))
       (heights-left-behind (x .left) (Lie u32 q minutes b₁ o₁) hs _ b₂ o₂ (⟦ At ClockType.the-row s vc b o ⟧₀ ∗ x .rest) (k .as-many .0) (beside-clock x (k .last .1 .1 .0, tt) (k .leaves))))
   run-gives (heldBookings {s = s} {b = b} {o = o} {minutes = minutes} {q = q} {b₁ = b₁} {o₁ = o₁} {hs = hs} {b₂ = b₂} {o₂ = o₂} x) =
       ∥∥₁-elim (ran (held-bookings-call (h .clock) vc (h .is) s b o minutes q b₁ o₁ hs b₂ o₂) x) ∥∥₁-prop (λ k.
-      left-wrote {q = Bookings minutes hs} (λ zs. Leaves x (zs, tt)) (verdictIn (x .value)) (verdict-reads (k .result) (x .value) (k .is)) (k .leaves) (call.heldBookings (k .once))
+      left-written heights-given {q = Bookings minutes hs} (λ zs. Leaves x (zs, tt)) (verdictIn (x .value)) (verdict-reads (k .result) (x .value) (k .is)) (k .leaves) (call.heldBookings (k .once))
       (heights-left-behind (x .left) (Lie u32 q minutes b₁ o₁) hs _ b₂ o₂ (⟦ At ClockType.the-row s vc b o ⟧₀ ∗ x .rest) (k .as-many .0) (beside-clock x (k .last .1 .1 .0, tt) (k .leaves))))
   run-gives (heldHourlies {s = s} {b = b} {o = o} {number = number} {vn = vn} {cards = cards} {b₁ = b₁} {o₁ = o₁} x) =
       ∥∥₁-elim (ran (held-hourly-call (h .clock) vc (h .is) s b o number vn cards b₁ o₁) x) ∥∥₁-prop (λ k.
-      left-carded {q = Hourly number cards} (λ zs. Leaves x (zs, tt)) (heldCardsIn (x .value)) (held-cards-read (k .result) (x .value) (k .is)) (k .leaves) (call.heldHourlies (k .once))
+      left-written cards-given {q = Hourly number cards} (λ zs. Leaves x (zs, tt)) (heldCardsIn (x .value)) (held-cards-read (k .result) (x .value) (k .is)) (k .leaves) (call.heldHourlies (k .once))
       (bytes-left (x .left) cards _ b₁ o₁ (⟦ At ClockType.the-row s vc b o ⟧₀ ∗ x .rest) (k .as-many .0) (beside-clock x (k .last .1 .1 .0, tt) (k .leaves))))
   run-gives (heldHands {s = s} {b = b} {o = o} x) =
       ∥∥₁-elim (ran (held-names-call (h .clock) vc (h .is) s b o) x) ∥∥₁-prop (λ k.
