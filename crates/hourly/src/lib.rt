@@ -7,7 +7,6 @@ ghost use Rattle.calendar.specs.Calendar.{inRange, monthDays};
 ghost use Rattle.hourly.specs.Answers.{cardsReturned};
 ghost use Rattle.hourly.specs.Month.{bytesOf, intoBuffer, mostStationNumber};
 ghost use Rattle.hourly.specs.inner.Hours.{cardsIn};
-
 use refusals::Answer;
 use refusals::Refusal;
 
