@@ -23,12 +23,12 @@ module _ {A : Type 0} where
   left-all before at all = record { same-length = refl; left = refl }
 
   module _ {before : List A} {at : ℕ} {all now : List A} {next : ℕ} where
-    -- the next run is stored
-    pub left-next : (xs : List A) {rest after : List A} (n : ℕ) → Left before at all now next (xs ++ rest) → after ≡ sets now next xs → length xs ≡ n → Left before at all after (next + n) rest
-    left-next xs {rest} {after} n l e sized =
+    -- the next run is stored, up to a place
+    pub left-next : (xs : List A) {rest after : List A} (place : ℕ) → Left before at all now next (xs ++ rest) → after ≡ sets now next xs → next + length xs ≡ place → Left before at all after place rest
+    left-next xs {rest} {after} place l e ends =
         record {
           same-length = ap length e ∙ (length-sets now next xs ∙ l .same-length);
-          left = rw (e, ← sized) (sym (sets-append now next xs rest) ∙ l .left);
+          left = rw (e, ← ends) (sym (sets-append now next xs rest) ∙ l .left);
         }
 
     -- and the last

@@ -8,8 +8,11 @@ use borrow.Author.Needs.{needs}
 use borrow.Author.Count.{below-none, below-more}
 use lib.IntN.{ℤ, pos}
 use lib.ListN.{length, getD}
+use Rattle.refusals.proofs.Laws.{not-both}
 use Rattle.hourly.specs.Card.{Entry, value}
 use Rattle.hourly.specs.Month.{centimetres, outside}
+use Rattle.hourly.proofs.centimetres.Nearest.{read-back}
+use Rattle.hourly.proofs.centimetres.Asked.{all-accepted, first-refused}
 use Rattle.hourly.proofs.centimetres.heights_answer.Statement.{statement}
 use Rattle.hourly.proofs.centimetres.heights_answer.Tie as tie
 use Rattle.hourly.proofs.centimetres.heights_answer.Reads as reads
@@ -23,49 +26,56 @@ Inv-loop hours k₀ k = (k ≤ length hours) × ((j : ℕ) → j < k → outside
 abbrev μ-loop : tie.MeasureT-loop
 μ-loop hours k₀ k = length hours - k
 
--- src/centimetres.rt:37:5
+-- what the two calls say of the hour
+told : (c : tie.After-outside Inv-loop μ-loop) → c .outside .result ≡ outside (value (centimetres (getD (c .before .before .before .before .before .args .hours .now) (c .before .before .before .before .loop .k) (pos 0))))
+told c =
+    let h = getD (c .before .before .before .before .before .args .hours .now) (c .before .before .before .before .loop .k) (pos 0) in
+    let r = c .before .centimetres in
+    let cm : r .result ≡ centimetres h = r .ensures ∙ ap centimetres (read-back h (c .before .before .centimetres-arg .given)) in
+    c .outside .ensures ∙ ap (λ (z : ℤ). outside (value z)) (read-back (r .result) (r .ok) ∙ cm)
+
 loop-holds : tie.Need-loop-holds Inv-loop μ-loop
-loop-holds c = ?
+loop-holds c = (omega arith, below-none _)
 
--- src/centimetres.rt:38:32
 mul-centimetres : tie.Need-mul-centimetres Inv-loop μ-loop
-mul-centimetres c = ?
+mul-centimetres c = search needs
 
--- src/centimetres.rt:38:32
 shared-slice-copy-out-centimetres : tie.Need-shared-slice-copy-out-centimetres Inv-loop μ-loop
-shared-slice-copy-out-centimetres c = ?
+shared-slice-copy-out-centimetres c = search needs
 
--- src/centimetres.rt:38:20
 centimetres-requires : tie.Need-centimetres-requires Inv-loop μ-loop
-centimetres-requires c κs = ?
+centimetres-requires c κs = search needs
 
--- src/centimetres.rt:38:12
 outside-requires : tie.Need-outside-requires Inv-loop μ-loop
-outside-requires c κs = ?
+outside-requires c κs = search needs
 
--- src/centimetres.rt:39:56
 add-t11 : tie.Need-add-t11 Inv-loop μ-loop
-add-t11 c = ?
+add-t11 c = search needs
 
--- src/centimetres.rt:39:13
 returns : tie.Need-returns Inv-loop μ-loop
-returns c = ?
+returns c =
+    let hours = c .before .before .before .before .before .before .args .hours .now in
+    let s = c .before .before .before .before .before .loop in
+    record {
+      asked = λ station year month n e. sym (first-refused hours station year month (s .k) (s .inv .1) (sym (told (c .before)) ∙ c .if1 .taken) 0 n (omega arith) (omega arith) (omega arith));
+      inside = λ e. not-both e;
+    }
 
--- src/centimetres.rt:41:13
 add-k : tie.Need-add-k Inv-loop μ-loop
-add-k c = ?
+add-k c = search needs
 
--- src/centimetres.rt:37:5
 loop-less : tie.Need-loop-less Inv-loop μ-loop
-loop-less c = ?
+loop-less c = search needs
 
--- src/centimetres.rt:37:5
 loop-again : tie.Need-loop-again Inv-loop μ-loop
-loop-again c = ?
+loop-again c = (search needs, below-more _ _ (c .before .before .before .before .before .loop .inv .1) (sym (told (c .before)) ∙ c .if1 .left))
 
--- src/centimetres.rt:33:1
 returns-2 : tie.Need-returns-2 Inv-loop μ-loop
-returns-2 c = ?
+returns-2 c =
+    let hours = c .before .before .args .hours .now in
+    let s = c .before .loop in
+    let inside : (k : ℕ) → k < length hours → outside (value (centimetres (getD hours k (pos 0)))) ≡ false = λ k h. s .inv .1 k (omega (arith, c .loop-test .left)) in
+    record { asked = λ station year month n e. sym (all-accepted hours station year month inside 0 n 1 (omega arith)); inside = λ e. inside }
 
 pub heights-answer-spec : {M : Type 1} → statement M
 heights-answer-spec =

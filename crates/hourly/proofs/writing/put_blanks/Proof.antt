@@ -2,7 +2,7 @@
 use mathlib.Core.Path.{_≡_, refl, ap}
 use mathlib.Core.List.{List, [], _∷_, _++_}
 use Prim.Native.Nat.{ℕ, suc, _+_, _-_, _≤_, _<_}
-use native.Mathlib.Nat.{add-zero, add-assoc}
+use native.Mathlib.Nat.{add-zero}
 use native.Mathlib.Omega.{arith}
 use borrow.Author.Needs.{needs}
 use lib.ListN.{set, replicate}
@@ -24,7 +24,7 @@ module _ (out₀ : List ℕ) (at count : ℕ) where
   one-more : (out : List ℕ) (j : ℕ) → j < count → Left out₀ at (replicate count 32) out (at + j) (replicate (count - j) 32) → Left out₀ at (replicate count 32) (set out (at + j) 32) (at + (j + 1)) (replicate (count - (j + 1)) 32)
   one-more out j h l =
       let e : count - j ≡ suc (count - (j + 1)) = omega arith in
-      rw (← add-assoc at j 1) (left-next (32 ∷ []) 1 (rw e at l) refl refl)
+      left-next (32 ∷ []) (at + (j + 1)) (rw e at l) refl (omega arith)
 
   all-of-them : (out : List ℕ) (j : ℕ) → count ≤ j → Left out₀ at (replicate count 32) out (at + j) (replicate (count - j) 32) → out ≡ sets out₀ at (replicate count 32)
   all-of-them out j h l = let e : count - j ≡ 0 = omega arith in left-none (rw e at l)

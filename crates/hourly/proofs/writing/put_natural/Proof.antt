@@ -1,3 +1,9 @@
+-- `hourly::writing::put_natural` meets its contract: blanks, then the digits (`natural-stored`). Assumes nothing.
+use mathlib.Core.Path.{_≡_}
+use Prim.Native.Nat.{ℕ}
+use native.Mathlib.Omega.{arith}
+use Rattle.hourly.proofs.Lengths.{decimal-most}
+use Rattle.hourly.proofs.writing.Fields.{natural-stored}
 use borrow.Author.Needs.{needs}
 use Rattle.hourly.proofs.writing.put_natural.Statement.{statement}
 use Rattle.hourly.proofs.writing.put_natural.Tie as tie
@@ -7,33 +13,34 @@ use Rattle.hourly.proofs.writing.digit_count.Reads as digit-count-reads
 use Rattle.hourly.proofs.writing.put_blanks.Reads as put-blanks-reads
 use Rattle.hourly.proofs.writing.put_decimal.Reads as put-decimal-reads
 
--- src/writing.rt:69:26
 digit-count-requires : tie.Need-digit-count-requires
 digit-count-requires c κs = search needs
 
--- src/writing.rt:69:18
 sub-blanks : tie.Need-sub-blanks
-sub-blanks c = ?
+sub-blanks c = let a = c .before .before .args in omega (arith, c .digit-count .ensures, decimal-most (a .width) (a .number))
 
--- src/writing.rt:70:5
 put-blanks-requires : tie.Need-put-blanks-requires
 put-blanks-requires c κs = search needs
 
--- src/writing.rt:71:22
 add-put-decimal : tie.Need-add-put-decimal
 add-put-decimal c = search needs
 
--- src/writing.rt:71:5
 put-decimal-requires : tie.Need-put-decimal-requires
-put-decimal-requires c κs = ?
+put-decimal-requires c κs =
+    let s = c .before .before .before .before .before .before .before in
+    let d = c .before .before .before .before .before .digit-count in
+    omega (arith, d .ensures, decimal-most (s .args .width) (s .args .number), c .before .before .before .put-blanks .kept .0, s .pre)
 
--- src/writing.rt:65:1
 same-length : tie.Need-same-length
 same-length c = search needs
 
--- src/writing.rt:65:1
 returns : tie.Need-returns
-returns c = ?
+returns c =
+    let blanks = c .before .before .before .before .before .before in
+    let counted = blanks .before .before in
+    let a = counted .before .before .args in
+    natural-stored (a .out .now) (blanks .put-blanks .last .0) (c .before .before .put-decimal .last .0) (a .at) (a .width) (a .number)
+    (counted .digit-count .result) (counted .digit-count .ensures) (blanks .put-blanks .ensures) (c .before .before .put-decimal .ensures .0)
 
 pub put-natural-spec : {M : Type 1} → statement M
 put-natural-spec =
