@@ -51,6 +51,16 @@ pub fn write_cards(
     if out.len() < CARD * cards {
         return CardsAnswer::Refused(Refusal::ShortBuffer, 0);
     }
-    writing::put_cards(out, NARROW, Heading { station, year, month }, hours, cards);
+    writing::put_cards(
+        out,
+        NARROW,
+        Heading {
+            station,
+            year,
+            month,
+        },
+        hours,
+        cards,
+    );
     CardsAnswer::Bytes(CARD * cards)
 }

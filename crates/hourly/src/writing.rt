@@ -137,13 +137,7 @@ fn put_card(
 }
 
 // Writes so many cards, the first at the first byte, with heights of a width.
-pub fn put_cards(
-    out: &mut [u8],
-    width: usize,
-    heading: Heading,
-    hours: &[i64],
-    cards: usize,
-)
+pub fn put_cards(out: &mut [u8], width: usize, heading: Heading, hours: &[i64], cards: usize)
     requires { ⌜ (cards * cardLength width ≤ length (now out)) × ((12 * cards ≤ length (now hours)) × AllFitting width (now hours)) ⌝ }
     ensures { λ _. ⌜ now (out .exit) ≡ sets (now (out .entry)) 0 (cardsWritten width (cardsAfter (now (hours .entry)) (heading .station) (heading .year) (heading .month) 0 cards)) ⌝ }
 {

@@ -122,6 +122,6 @@ module _ (width : ℕ) (hours : List ℤ) (station year month : ℕ) (fitting : 
   unfolding cardsWritten cardsAfter
   cards-length zero i there = sym (zero-mul (cardLength width))
   cards-length (suc n) i there =
-      rw suc-mul
+      rw (suc-mul n (cardLength width))
       (length-append (cardWritten width (cardAt hours station year month i)) (cardsWritten width (cardsAfter hours station year month (i + 1) n))
       ∙ omega (arith, card-length width hours station year month i (omega arith) fitting, cards-length n (i + 1) (omega arith)))

@@ -40,11 +40,10 @@ returns c =
     let headed = c .before .before .before .before .before .before in
     let p = headed .before .before .before in
     let a = p .args in
-    let h = a .heading in
-    (
+    let h = a .heading in (
       card-stored (a .width) (a .hours .now) (h .station) (h .year) (h .month) (a .i) (p .pre .1 .0) (p .pre .1 .1) (a .out .now)
-      (headed .put-heading .last .0) (heights .last .0) (a .at) (heights .result) (headed .put-heading .ensures) (heights .ensures .0) (heights .ensures .1),
-      omega (arith, heights .ensures .1)
+          (headed .put-heading .last .0) (heights .last .0) (a .at) (heights .result) (headed .put-heading .ensures) (heights .ensures .0) (heights .ensures .1),
+      omega (arith, heights .ensures .1),
     )
 
 pub put-card-spec : {M : Type 1} → statement M

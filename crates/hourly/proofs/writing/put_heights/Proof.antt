@@ -75,11 +75,11 @@ centimetres-requires c κs = search needs
 
 put-number-requires : tie.Need-put-number-requires Inv-loop μ-loop
 put-number-requires c κs = (
-      room (c .before .before .before),
-      (let s = c .before .before .before .before .before .before in
+  room (c .before .before .before),
+  (let s = c .before .before .before .before .before .before in
       let l = c .before .before .before .before .loop in
-      rw (told c) (s .pre .1 .1 (s .args .first + l .k) (omega (arith, s .pre .1 .0, c .before .before .before .loop-test .taken))))
-    )
+      rw (told c) (s .pre .1 .1 (s .args .first + l .k) (omega (arith, s .pre .1 .0, c .before .before .before .loop-test .taken)))),
+)
 
 add-next : tie.Need-add-next Inv-loop μ-loop
 add-next c =
@@ -102,7 +102,7 @@ loop-again c =
       within = omega (arith, t .loop-test .taken);
       place = omega (arith, s .inv .place, one-more (s .k) (a .width));
       stored = heights-next (a .width) (a .hours .now) (a .first) (p .pre .1 .0) (p .pre .1 .1) (s .k) (t .loop-test .taken) (s .inv .stored)
-      (c .before .before .put-number .ensures ∙ ap (λ (z : ℤ). sets (s .out) (s .next) (entryWritten (a .width) (value z))) (told (c .before .before .before)));
+          (c .before .before .put-number .ensures ∙ ap (λ (z : ℤ). sets (s .out) (s .next) (entryWritten (a .width) (value z))) (told (c .before .before .before)));
     }
 
 same-length : tie.Need-same-length Inv-loop μ-loop
