@@ -1,7 +1,6 @@
 -- The cards of a month's hours, lent as a series from 01:00 of the 1st, are the month's cards: a part of a series is a series that starts
 -- later, and two cards make a day. Assumes nothing.
-use mathlib.Core.Path.{_≡_, refl, sym, ap, _∙_}
-use mathlib.Core.List.{List, [], _∷_, map}
+use mathlib.Core.Path.{_≡_, refl, ap, _∙_}
 use Prim.Native.Nat.{ℕ, zero, suc, _+_, _-_, _*_, _/_, _%_, _≤_}
 use native.Mathlib.Nat.{add-mul}
 use native.Mathlib.Omega.{arith}
@@ -9,8 +8,7 @@ use lib.IntN.{ℤ}
 use lib.ListN.{take, drop}
 use Rattle.calendar.specs.Calendar.{monthDays}
 use Rattle.heights.specs.Series.{seriesFrom, seriesOf}
-use Rattle.hourly.specs.Card.{Entry, value, HourlyCard}
-use Rattle.hourly.specs.Month.{centimetres, firstHour, cardOn, cardsFrom, cardsOf}
+use Rattle.hourly.specs.Month.{firstHour, cardOn, cardsFrom, cardsOf}
 use Rattle.hourly.specs.inner.Hours.{cardAt, cardsAfter, cardsIn}
 
 -- parts of a series

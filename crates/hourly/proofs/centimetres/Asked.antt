@@ -1,18 +1,17 @@
 -- What is asked of the cards of a month's hours, from what is known of each hour: card by card, and hour by hour of a card.
 -- Assumes nothing.
-use Prim.{Unit}
-use mathlib.Core.Path.{_≡_, refl, sym, ap, _∙_}
+use mathlib.Core.Path.{_≡_, refl, ap, _∙_}
 use mathlib.Core.Bool.{Bool, true, false, _||_}
-use mathlib.Core.List.{List, [], _∷_, map}
+use mathlib.Core.List.{List, [], _∷_}
 use Prim.Native.Nat.{ℕ, zero, suc, _+_, _-_, _*_, _/_, _≤_, _<_}
 use native.Mathlib.Omega.{arith}
 use lib.IntN.{ℤ, pos}
 use lib.ListN.{length, getD, take, drop, length-map, length-drop, List·getD-map}
 use lib.Seq.{length-take-le, getD-take, getD-drop}
-use Rattle.refusals.specs.Outcome.{Outcome, accepted, refused}
+use Rattle.refusals.specs.Outcome.{accepted, refused}
 use Rattle.hourly.specs.Card.{Entry, value}
 use Rattle.hourly.specs.Month.{centimetres, outside, anyOutside, heightsAsked}
-use Rattle.hourly.specs.inner.Hours.{cardAt, cardsAfter}
+use Rattle.hourly.specs.inner.Hours.{cardsAfter}
 use Rattle.hourly.specs.inner.Fields.{entriesAt}
 use Rattle.hourly.proofs.Lengths.{below-or-not}
 

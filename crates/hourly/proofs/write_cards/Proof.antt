@@ -1,28 +1,24 @@
 -- `hourly::write_cards` meets its contract: what is asked of the heights, then of the room; then all cards (`Given`). Assumes nothing.
-use mathlib.Core.Path.{_≡_, refl, sym, ap, _∙_}
+use mathlib.Core.Path.{_≡_, sym, ap, _∙_}
 use mathlib.Core.List.{List}
-use Prim.Native.Nat.{ℕ, _+_, _*_, _/_, _≤_, _<_}
+use Prim.Native.Nat.{_*_, _/_}
 use native.Mathlib.Omega.{arith}
-use lib.IntN.{ℤ, pos}
+use lib.IntN.{pos}
 use lib.ListN.{length, getD}
 use lib.Seq.{sets}
 use Rattle.calendar.specs.Calendar.{monthDays}
-use Rattle.refusals.specs.Outcome.{accepted, refused, outcomeOf, numberOf}
+use Rattle.refusals.specs.Outcome.{accepted, outcomeOf, numberOf}
 use Rattle.hourly.specs.Card.{HourlyCard}
 use Rattle.hourly.specs.Format.{narrow}
 use Rattle.hourly.specs.Month.{centimetres, heightsAsked}
 use Rattle.hourly.specs.Writing.{cardsWritten}
-use Rattle.hourly.specs.inner.Hours.{cardsAfter, cardsIn}
-use Rattle.hourly.specs.inner.Fields.{AllFitting, HeightsAnswered}
+use Rattle.hourly.specs.inner.Hours.{cardsIn}
+use Rattle.hourly.specs.inner.Fields.{AllFitting}
 use Rattle.hourly.proofs.Given.{inside-fits, height-refused, room-refused, cards-given}
 use Rattle.hourly.proofs.writing.Cards.{cards-length}
 use borrow.Author.Needs.{needs}
 use Rattle.hourly.proofs.write_cards.Statement.{statement}
 use Rattle.hourly.proofs.write_cards.Tie as tie
-use Rattle.hourly.proofs.write_cards.Reads as reads
-use Rattle.hourly.proofs.write_cards.Lts as lts
-use Rattle.hourly.proofs.centimetres.heights_answer.Reads as heights-answer-reads
-use Rattle.hourly.proofs.writing.put_cards.Reads as put-cards-reads
 
 -- the month's cards
 abbrev cardsAt : tie.Start → List HourlyCard

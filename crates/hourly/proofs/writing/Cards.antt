@@ -9,8 +9,8 @@ use native.Mathlib.Omega.{arith}
 use lib.IntN.{ℤ, pos}
 use lib.ListN.{length, getD, set, drop, replicate, length-append}
 use lib.Seq.{sets, drop-cons}
-use Rattle.hourly.specs.Card.{Entry, value}
-use Rattle.hourly.specs.Format.{I, X, A}
+use Rattle.hourly.specs.Card.{value}
+use Rattle.hourly.specs.Format.{A}
 use Rattle.hourly.specs.Month.{centimetres}
 use Rattle.hourly.specs.Writing.{entryWritten, writtenBy, cardWritten, cardsWritten}
 use Rattle.hourly.specs.inner.Hours.{cardAt, cardsAfter}

@@ -1,8 +1,8 @@
 -- A field holds a number whose text is no longer than it, and then it is as long as its width.
 -- Assumes nothing.
-use mathlib.Core.Path.{_≡_, refl, sym, ap, _∙_}
-use mathlib.Core.List.{List, [], _∷_, _++_}
-use Prim.Native.Nat.{ℕ, zero, suc, _+_, _-_, _*_, _/_, _%_, _^_, _≤_, _<_}
+use mathlib.Core.Path.{_≡_, refl, sym, _∙_}
+use mathlib.Core.List.{List, _∷_}
+use Prim.Native.Nat.{ℕ, suc, _+_, _-_, _^_, _≤_, _<_}
 use native.Mathlib.Omega.{arith}
 use lib.IntN.{ℤ, pos, negsuc, natAbs}
 use mathlib.Core.Bool.{true, false}
@@ -11,7 +11,7 @@ use lib.Seq.{sets}
 use lib.Signed.{ltZ}
 use native.Mathlib.Numerals.{add-one}
 use Rattle.angles.proofs.Machine.{if-negative, if-not-negative}
-use Rattle.hourly.specs.Card.{Entry, value, gap}
+use Rattle.hourly.specs.Card.{value}
 use Rattle.hourly.specs.Writing.{decimal, textOf, padLeft, entryWritten}
 use Rattle.hourly.specs.inner.Fields.{Fitting}
 use Rattle.hourly.proofs.Lengths.{decimal-most, decimal-below}

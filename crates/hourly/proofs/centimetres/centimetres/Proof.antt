@@ -1,10 +1,9 @@
 -- `hourly::centimetres::centimetres` meets its contract (`nearest`). Assumes nothing.
-use mathlib.Core.Path.{_≡_, refl, sym, ap, _∙_}
-use Prim.Native.Nat.{ℕ, _+_, _^_}
+use mathlib.Core.Path.{ap, _∙_}
+use Prim.Native.Nat.{_+_, _^_}
 use lib.Dec.{lit<}
 use lib.IntN.{ℤ, pos, _+ℤ_}
 use mir.Syntax.{w64}
-use mir.Val.{SFits}
 use mir.ValLaws.{toZ-ofZ}
 use Rattle.angles.specs.Floor.{floorDiv}
 use Rattle.angles.proofs.Known.{Known, fits, kept}
@@ -13,9 +12,6 @@ use Rattle.hourly.proofs.centimetres.Nearest.{read-back, nearest, half-
 use borrow.Author.Needs.{needs}
 use Rattle.hourly.proofs.centimetres.centimetres.Statement.{statement}
 use Rattle.hourly.proofs.centimetres.centimetres.Tie as tie
-use Rattle.hourly.proofs.centimetres.centimetres.Reads as reads
-use Rattle.hourly.proofs.centimetres.centimetres.Lts as lts
-use Rattle.angles.proofs.floor_div.Reads as floor-div-reads
 
 module _ (c : tie.After-floor-div) where
   -- the half centimetres, as the call gives them

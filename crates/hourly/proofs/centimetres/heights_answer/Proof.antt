@@ -1,24 +1,19 @@
 -- `hourly::centimetres::heights_answer` meets its contract: no hour before k is outside. Assumes nothing.
-use mathlib.Core.Path.{_≡_, refl, sym, ap, _∙_}
-use mathlib.Core.Bool.{true, false}
-use mathlib.Core.List.{List, [], _∷_, _++_}
-use Prim.Native.Nat.{ℕ, zero, suc, _+_, _-_, _*_, _/_, _%_, _≤_, _<_}
+use mathlib.Core.Path.{_≡_, sym, ap, _∙_}
+use mathlib.Core.Bool.{false}
+use Prim.Native.Nat.{ℕ, _-_, _≤_, _<_}
 use native.Mathlib.Omega.{arith}
 use borrow.Author.Needs.{needs}
 use borrow.Author.Count.{below-none, below-more}
 use lib.IntN.{ℤ, pos}
 use lib.ListN.{length, getD}
 use Rattle.refusals.proofs.Laws.{not-both}
-use Rattle.hourly.specs.Card.{Entry, value}
+use Rattle.hourly.specs.Card.{value}
 use Rattle.hourly.specs.Month.{centimetres, outside}
 use Rattle.hourly.proofs.centimetres.Nearest.{read-back}
 use Rattle.hourly.proofs.centimetres.Asked.{all-accepted, first-refused}
 use Rattle.hourly.proofs.centimetres.heights_answer.Statement.{statement}
 use Rattle.hourly.proofs.centimetres.heights_answer.Tie as tie
-use Rattle.hourly.proofs.centimetres.heights_answer.Reads as reads
-use Rattle.hourly.proofs.centimetres.heights_answer.Lts as lts
-use Rattle.hourly.proofs.centimetres.centimetres.Reads as centimetres-reads
-use Rattle.hourly.proofs.centimetres.outside.Reads as outside-reads
 
 abbrev Inv-loop : tie.InvT-loop
 Inv-loop hours k₀ k = (k ≤ length hours) × ((j : ℕ) → j < k → outside (value (centimetres (getD hours j (pos 0)))) ≡ false)

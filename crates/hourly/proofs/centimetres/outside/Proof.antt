@@ -1,15 +1,13 @@
 -- `hourly::centimetres::outside` meets its contract: by the two tests. Assumes nothing.
-use mathlib.Core.Path.{_≡_, refl, sym, ap, _∙_}
+use mathlib.Core.Path.{_≡_}
 use mathlib.Core.Bool.{true, false}
 use mathlib.Core.Logic.{⊎-elim}
-use lib.IntN.{ℤ, pos, negℤ}
+use lib.IntN.{pos, negℤ}
 use lib.Signed.{leZ}
 use mir.Syntax.{w64}
 use mir.ValLaws.{toZ-ofZ}
 use Rattle.hourly.proofs.centimetres.outside.Statement.{statement}
 use Rattle.hourly.proofs.centimetres.outside.Tie as tie
-use Rattle.hourly.proofs.centimetres.outside.Reads as reads
-use Rattle.hourly.proofs.centimetres.outside.Lts as lts
 
 returns : tie.Need-returns
 returns c =

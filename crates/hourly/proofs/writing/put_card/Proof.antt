@@ -1,15 +1,11 @@
 -- `hourly::writing::put_card` meets its contract: heading, heights, LF (`card-stored`). Assumes nothing.
-use mathlib.Core.Path.{_≡_, _∙_}
+use mathlib.Core.Path.{_∙_}
 use native.Mathlib.Omega.{arith}
 use lib.ListN.{length-set}
 use Rattle.hourly.proofs.writing.Cards.{card-stored}
 use borrow.Author.Needs.{needs}
 use Rattle.hourly.proofs.writing.put_card.Statement.{statement}
 use Rattle.hourly.proofs.writing.put_card.Tie as tie
-use Rattle.hourly.proofs.writing.put_card.Reads as reads
-use Rattle.hourly.proofs.writing.put_card.Lts as lts
-use Rattle.hourly.proofs.writing.put_heading.Reads as put-heading-reads
-use Rattle.hourly.proofs.writing.put_heights.Reads as put-heights-reads
 
 put-heading-requires : tie.Need-put-heading-requires
 put-heading-requires c κs = search needs

@@ -1,22 +1,18 @@
 -- `hourly::writing::put_cards` meets its contract: before card i the cards from i on are left. Assumes nothing.
-use mathlib.Core.Path.{_≡_, refl, sym, ap, _∙_}
+use mathlib.Core.Path.{_≡_, sym}
 use mathlib.Core.List.{List}
-use Prim.Native.Nat.{ℕ, _+_, _-_, _*_, _≤_, _<_}
+use Prim.Native.Nat.{ℕ, _-_, _*_, _≤_}
 use native.Mathlib.Nat.{zero-mul}
 use native.Mathlib.Omega.{arith}
 use borrow.Author.Needs.{needs}
 use lib.IntN.{ℤ}
-use lib.ListN.{length}
 use Rattle.hourly.specs.Writing.{cardsWritten}
 use Rattle.hourly.specs.inner.Hours.{cardsAfter}
 use Rattle.hourly.specs.inner.Fields.{cardLength}
 use Rattle.hourly.proofs.writing.Cards.{one-more, room-for-one, cards-next, cards-end}
-use Rattle.hourly.proofs.writing.Stores.{Left, left-all, left-next, left-none}
+use Rattle.hourly.proofs.writing.Stores.{Left, left-all, left-none}
 use Rattle.hourly.proofs.writing.put_cards.Statement.{statement}
 use Rattle.hourly.proofs.writing.put_cards.Tie as tie
-use Rattle.hourly.proofs.writing.put_cards.Reads as reads
-use Rattle.hourly.proofs.writing.put_cards.Lts as lts
-use Rattle.hourly.proofs.writing.put_card.Reads as put-card-reads
 
 pub record Writing (out₀ : List ℕ) (width : ℕ) (hours : List ℤ) (station year month cards : ℕ) (out : List ℕ) (at i : ℕ) : Type 0 where
   pub within : i ≤ cards

@@ -3,10 +3,6 @@ use Rattle.hourly.proofs.writing.Cards.{heading-stored}
 use borrow.Author.Needs.{needs}
 use Rattle.hourly.proofs.writing.put_heading.Statement.{statement}
 use Rattle.hourly.proofs.writing.put_heading.Tie as tie
-use Rattle.hourly.proofs.writing.put_heading.Reads as reads
-use Rattle.hourly.proofs.writing.put_heading.Lts as lts
-use Rattle.hourly.proofs.writing.put_blanks.Reads as put-blanks-reads
-use Rattle.hourly.proofs.writing.put_natural.Reads as put-natural-reads
 
 add-put-natural : tie.Need-add-put-natural
 add-put-natural c = search needs

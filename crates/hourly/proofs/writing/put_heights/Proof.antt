@@ -1,7 +1,7 @@
 -- `hourly::writing::put_heights` meets its contract: before height k the heights from k on are left. Assumes nothing.
-use mathlib.Core.Path.{_≡_, refl, sym, ap, _∙_}
+use mathlib.Core.Path.{_≡_, sym, ap, _∙_}
 use mathlib.Core.List.{List}
-use Prim.Native.Nat.{ℕ, _+_, _-_, _*_, _^_, _≤_, _<_}
+use Prim.Native.Nat.{ℕ, _+_, _-_, _*_, _≤_}
 use native.Mathlib.Nat.{add-zero, zero-mul}
 use native.Mathlib.Omega.{arith}
 use borrow.Author.Needs.{needs}
@@ -12,18 +12,12 @@ use Rattle.angles.proofs.Machine.{held}
 use Rattle.hourly.specs.Card.{value}
 use Rattle.hourly.specs.Month.{centimetres}
 use Rattle.hourly.specs.Writing.{entryWritten}
-use Rattle.hourly.specs.inner.Fields.{Fitting, heightsWritten}
-use Rattle.hourly.proofs.centimetres.Asked.{entryOf}
+use Rattle.hourly.specs.inner.Fields.{heightsWritten}
 use Rattle.hourly.proofs.centimetres.Nearest.{read-back}
-use Rattle.hourly.proofs.writing.Fields.{field-length}
 use Rattle.hourly.proofs.writing.Cards.{one-more, room-for-one, heightsFrom, heights-next, heights-end}
-use Rattle.hourly.proofs.writing.Stores.{Left, left-all, left-next, left-none}
+use Rattle.hourly.proofs.writing.Stores.{Left, left-all, left-none}
 use Rattle.hourly.proofs.writing.put_heights.Statement.{statement}
 use Rattle.hourly.proofs.writing.put_heights.Tie as tie
-use Rattle.hourly.proofs.writing.put_heights.Reads as reads
-use Rattle.hourly.proofs.writing.put_heights.Lts as lts
-use Rattle.hourly.proofs.centimetres.centimetres.Reads as centimetres-reads
-use Rattle.hourly.proofs.writing.put_number.Reads as put-number-reads
 
 pub record Writing (out₀ : List ℕ) (at width : ℕ) (hours : List ℤ) (first : ℕ) (out : List ℕ) (next k : ℕ) : Type 0 where
   pub within : k ≤ 12

@@ -1,17 +1,10 @@
 -- `hourly::writing::put_natural` meets its contract: blanks, then the digits (`natural-stored`). Assumes nothing.
-use mathlib.Core.Path.{_≡_}
-use Prim.Native.Nat.{ℕ}
 use native.Mathlib.Omega.{arith}
 use Rattle.hourly.proofs.Lengths.{decimal-most}
 use Rattle.hourly.proofs.writing.Fields.{natural-stored}
 use borrow.Author.Needs.{needs}
 use Rattle.hourly.proofs.writing.put_natural.Statement.{statement}
 use Rattle.hourly.proofs.writing.put_natural.Tie as tie
-use Rattle.hourly.proofs.writing.put_natural.Reads as reads
-use Rattle.hourly.proofs.writing.put_natural.Lts as lts
-use Rattle.hourly.proofs.writing.digit_count.Reads as digit-count-reads
-use Rattle.hourly.proofs.writing.put_blanks.Reads as put-blanks-reads
-use Rattle.hourly.proofs.writing.put_decimal.Reads as put-decimal-reads
 
 digit-count-requires : tie.Need-digit-count-requires
 digit-count-requires c κs = search needs

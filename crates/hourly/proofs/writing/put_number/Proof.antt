@@ -1,12 +1,11 @@
 -- `hourly::writing::put_number` meets its contract: blanks, minus and digits (`negative-stored`), or a number that is not negative.
 -- Assumes nothing.
-use mathlib.Core.Path.{_≡_, refl, sym, ap, _∙_}
-use mathlib.Core.Bool.{true, false}
-use mathlib.Core.List.{List}
-use Prim.Native.Nat.{ℕ, _+_, _-_, _≤_}
+use mathlib.Core.Path.{_≡_, ap, _∙_}
+use mathlib.Core.Bool.{true}
+use Prim.Native.Nat.{ℕ, _+_, _≤_}
 use native.Mathlib.Omega.{arith}
 use lib.IntN.{ℤ, pos, natAbs}
-use lib.ListN.{length, set, length-set}
+use lib.ListN.{length, length-set}
 use lib.Seq.{sets}
 use lib.Signed.{ltZ}
 use mir.Syntax.{w64}
@@ -17,13 +16,6 @@ use Rattle.hourly.proofs.writing.Fields.{negative-stored, negative-room
 use borrow.Author.Needs.{needs}
 use Rattle.hourly.proofs.writing.put_number.Statement.{statement}
 use Rattle.hourly.proofs.writing.put_number.Tie as tie
-use Rattle.hourly.proofs.writing.put_number.Reads as reads
-use Rattle.hourly.proofs.writing.put_number.Lts as lts
-use Rattle.angles.proofs.size.Reads as size-reads
-use Rattle.hourly.proofs.writing.digit_count.Reads as digit-count-reads
-use Rattle.hourly.proofs.writing.put_blanks.Reads as put-blanks-reads
-use Rattle.hourly.proofs.writing.put_decimal.Reads as put-decimal-reads
-use Rattle.hourly.proofs.writing.put_natural.Reads as put-natural-reads
 
 -- the size is that of the number
 size-is : (c : tie.After-size) → c .size .result ≡ natAbs (c .before .before .args .number)
