@@ -10,6 +10,7 @@ ghost use Rattle.hourly.specs.inner.Hours.{cardsIn};
 use centimetres::HEIGHTS;
 use refusals::Answer;
 use refusals::Refusal;
+use writing::HEADING;
 use writing::Heading;
 
 mod centimetres; // heights in centimetres
@@ -24,7 +25,7 @@ pub const HOURS: usize = 744;
 // The width of a height on these cards, and the bytes of a card.
 pub const NARROW: usize = 4;
 
-pub const CARD: usize = 20 + HEIGHTS * NARROW + 1;
+pub const CARD: usize = HEADING + HEIGHTS * NARROW + 1;
 
 // How many bytes the cards take; or a refusal.
 pub enum CardsAnswer {
@@ -48,19 +49,15 @@ pub fn write_cards(
         return CardsAnswer::Refused(refusal, place);
     }
     let cards = hours.len() / HEIGHTS;
-    if out.len() < CARD * cards {
+    let bytes = CARD * cards;
+    if out.len() < bytes {
         return CardsAnswer::Refused(Refusal::ShortBuffer, 0);
     }
-    writing::put_cards(
-        out,
-        NARROW,
-        Heading {
-            station,
-            year,
-            month,
-        },
-        hours,
-        cards,
-    );
-    CardsAnswer::Bytes(CARD * cards)
+    let heading = Heading {
+        station,
+        year,
+        month,
+    };
+    writing::put_cards(out, NARROW, heading, hours, cards);
+    CardsAnswer::Bytes(bytes)
 }

@@ -5,13 +5,17 @@ ghost use lib.IntN.{pos};
 ghost use lib.ListN.{length, replicate};
 ghost use lib.Seq.{sets};
 ghost use Rattle.hourly.specs.Card.{value};
+ghost use Rattle.hourly.specs.Format.{heightsACard};
 ghost use Rattle.hourly.specs.Writing.{decimal, entryWritten, cardWritten, cardsWritten};
 ghost use Rattle.hourly.specs.inner.Hours.{cardAt, cardsAfter};
-ghost use Rattle.hourly.specs.inner.Fields.{Fitting, AllFitting, heightsWritten, headingWritten, cardLength};
+ghost use Rattle.hourly.specs.inner.Fields.{Fitting, AllFitting, heightsWritten, headingLength, headingWritten, cardLength};
 use crate::centimetres::HEIGHTS;
 use crate::centimetres::centimetres;
 
-// What the cards of a month have in common.
+// The columns before the heights.
+pub const HEADING: usize = 20;
+
+// What a month's cards have in common.
 pub struct Heading {
     pub station: u32,
     pub year: u32,
@@ -89,9 +93,9 @@ fn put_number(out: &mut [u8], at: usize, width: usize, number: i64)
 
 // Writes the twelve heights from an hour on, in fields of a width; gives the place after them.
 fn put_heights(out: &mut [u8], at: usize, width: usize, hours: &[i64], first: usize) -> usize
-    requires { ⌜ (at + 12 * width ≤ length (now out)) × ((first + 12 ≤ length (now hours)) × AllFitting width (now hours)) ⌝ }
+    requires { ⌜ (at + heightsACard * width ≤ length (now out)) × ((first + heightsACard ≤ length (now hours)) × AllFitting width (now hours)) ⌝ }
     ensures { λ r. ⌜ now (out .exit) ≡ sets (now (out .entry)) at (heightsWritten width (now (hours .entry)) first) ⌝ }
-    ensures { λ r. ⌜ r ≡ at + 12 * width ⌝ }
+    ensures { λ r. ⌜ r ≡ at + heightsACard * width ⌝ }
 {
     let mut next = at;
     let mut k = 0;
@@ -105,7 +109,7 @@ fn put_heights(out: &mut [u8], at: usize, width: usize, hours: &[i64], first: us
 
 // Writes the fields of card i, from 0, that stand before the heights.
 fn put_heading(out: &mut [u8], at: usize, heading: Heading, i: usize)
-    requires { ⌜ at + 20 ≤ length (now out) ⌝ }
+    requires { ⌜ at + headingLength ≤ length (now out) ⌝ }
     ensures { λ _. ⌜ now (out .exit) ≡ sets (now (out .entry)) at (headingWritten (heading .station) (heading .year) (heading .month) i) ⌝ }
 {
     put_natural(out, at, 1, (i % 2 + 1) as u64);
@@ -126,19 +130,19 @@ fn put_card(
     hours: &[i64],
     i: usize,
 ) -> usize
-    requires { ⌜ (at + cardLength width ≤ length (now out)) × ((12 * i + 12 ≤ length (now hours)) × AllFitting width (now hours)) ⌝ }
+    requires { ⌜ (at + cardLength width ≤ length (now out)) × ((heightsACard * i + heightsACard ≤ length (now hours)) × AllFitting width (now hours)) ⌝ }
     ensures { λ r. ⌜ now (out .exit) ≡ sets (now (out .entry)) at (cardWritten width (cardAt (now (hours .entry)) (heading .station) (heading .year) (heading .month) i)) ⌝ }
     ensures { λ r. ⌜ r ≡ at + cardLength width ⌝ }
 {
     put_heading(out, at, heading, i);
-    let next = put_heights(out, at + 20, width, hours, HEIGHTS * i);
+    let next = put_heights(out, at + HEADING, width, hours, HEIGHTS * i);
     out[next] = b'\n';
     next + 1
 }
 
 // Writes so many cards, the first at the first byte, with heights of a width.
 pub fn put_cards(out: &mut [u8], width: usize, heading: Heading, hours: &[i64], cards: usize)
-    requires { ⌜ (cards * cardLength width ≤ length (now out)) × ((12 * cards ≤ length (now hours)) × AllFitting width (now hours)) ⌝ }
+    requires { ⌜ (cards * cardLength width ≤ length (now out)) × ((heightsACard * cards ≤ length (now hours)) × AllFitting width (now hours)) ⌝ }
     ensures { λ _. ⌜ now (out .exit) ≡ sets (now (out .entry)) 0 (cardsWritten width (cardsAfter (now (hours .entry)) (heading .station) (heading .year) (heading .month) 0 cards)) ⌝ }
 {
     let mut at = 0;

@@ -9,11 +9,11 @@ use lib.Seq.{sets}
 use Rattle.calendar.specs.Calendar.{monthDays}
 use Rattle.refusals.specs.Outcome.{accepted, outcomeOf, numberOf}
 use Rattle.hourly.specs.Card.{HourlyCard}
-use Rattle.hourly.specs.Format.{narrow}
+use Rattle.hourly.specs.Format.{heightsACard, narrow}
 use Rattle.hourly.specs.Month.{centimetres, heightsAsked}
 use Rattle.hourly.specs.Writing.{cardsWritten}
 use Rattle.hourly.specs.inner.Hours.{cardsIn}
-use Rattle.hourly.specs.inner.Fields.{AllFitting}
+use Rattle.hourly.specs.inner.Fields.{AllFitting, cardLength}
 use Rattle.hourly.proofs.Given.{inside-fits, height-refused, room-refused, cards-given}
 use Rattle.hourly.proofs.writing.Cards.{cards-length}
 use borrow.Author.Needs.{needs}
@@ -42,7 +42,7 @@ module _ (c : tie.After-enum-told) where
   all-fitting : AllFitting narrow (start .args .hours .now)
   all-fitting k h = inside-fits (centimetres (getD (start .args .hours .now) k (pos 0))) (c .before .before .heights-answer .ensures .inside (ap outcomeOf (c .enum-told .given .1)) k h)
 
-  bytes-length : length (cardsWritten narrow (cardsAt start)) ≡ 69 * (length (start .args .hours .now) / 12)
+  bytes-length : length (cardsWritten narrow (cardsAt start)) ≡ cardLength narrow * (length (start .args .hours .now) / heightsACard)
   bytes-length =
       let a = start .args in
       let n = 2 * monthDays (a .year) (a .month) in
@@ -63,8 +63,8 @@ returns c =
 enum-told : tie.Need-enum-told
 enum-told c = search needs
 
-mul-if1 : tie.Need-mul-if1
-mul-if1 c = search needs
+mul-bytes : tie.Need-mul-bytes
+mul-bytes c = search needs
 
 returns-2 : tie.Need-returns-2
 returns-2 c =
@@ -75,9 +75,6 @@ put-cards-requires : tie.Need-put-cards-requires
 put-cards-requires c κs =
     let t = c .before .before in
     (omega (arith, c .before .if1 .left), (omega arith, all-fitting t))
-
-mul-t10 : tie.Need-mul-t10
-mul-t10 c = search needs
 
 same-length : tie.Need-same-length
 same-length c = search needs
@@ -98,9 +95,8 @@ write-cards-spec =
     enum-known-answer
     returns
     enum-told
-    mul-if1
+    mul-bytes
     returns-2
     put-cards-requires
-    mul-t10
     same-length
     returns-3)

@@ -29,7 +29,10 @@ entriesAt hours first = map (λ h. value (centimetres h)) (take heightsACard (dr
 abbrev pub heightsWritten : ℕ → List ℤ → ℕ → List ℕ
 heightsWritten width hours first = writtenBy (replicate heightsACard (A width)) (entriesAt hours first)
 
--- the fields of card i, from 0, that stand before its heights
+-- the columns before the heights, and what card i, from 0, has there
+abbrev pub headingLength : ℕ
+headingLength = 20
+
 abbrev pub headingWritten : ℕ → ℕ → ℕ → ℕ → List ℕ
 headingWritten station year month i =
     writtenBy (I 1 ∷ X 1 ∷ I 5 ∷ X 7 ∷ I 2 ∷ I 2 ∷ I 2 ∷ [])
@@ -42,7 +45,7 @@ headingWritten station year month i =
 
 -- the bytes of a card: its fields before the heights, the heights, LF
 abbrev pub cardLength : ℕ → ℕ
-cardLength width = 20 + 12 * width + 1
+cardLength width = headingLength + heightsACard * width + 1
 
 -- what is said of all hours of any month that has them: what is asked of its cards, and that none is outside where it is accepted
 pub record HeightsAnswered (hours : List ℤ) (outcome : Outcome Unit) : Type 0 where
