@@ -10,12 +10,15 @@ use types.Part.{agg}
 use types.Run.{addr}
 use denote.Slice.{sliceTy, sliceVal}
 
--- a local, as it lies, and room for it
+-- a local with what lies in it
 abbrev cell : Ty → ℕ → Val → Fml
 cell τ l v = fat fullShare τ l zero v
 
 abbrev mutTy : Lifetime → Ty → Ty
 mutTy ℓ τ = tyRef ℓ mut τ
+
+abbrev sliceOf : Lifetime → Ty → Ty
+sliceOf ℓ τ = sliceTy (mutTy ℓ τ)
 
 -- the two statements: i gets the pointer and j the slice of s
 abbrev lends : ℕ → ℕ → ℕ → Ty → Body → Body
@@ -25,10 +28,10 @@ lends s i j τ rest =
 
 module _ {M : Type 1} {𝓤 : URA M} {H : Heap 𝓤} {A : Atoms 𝓤} {W : Given 𝓤 H A} {Γ : List (Item 𝓤)} {E : Env 𝓤 H} where
   pub relent : Go {0} → {𝓒 : Calls 𝓤 H} {Λ : Loops 𝓤 H} {rest : Body} {K : Post 𝓤 H} {ℓ ℓᵢ ℓⱼ : Lifetime} {τ : Ty} {s i j lₛ lᵢ lⱼ n : ℕ} {p : ℕ × ℕ}
-      → spotOf 𝓤 H E s ≡ (sliceTy (mutTy ℓ τ), lₛ, zero) → spotOf 𝓤 H E i ≡ (mutTy ℓᵢ τ, lᵢ, zero) → spotOf 𝓤 H E j ≡ (sliceTy (mutTy ℓⱼ τ), lⱼ, zero) → n < 2 ^ 64
+      → spotOf 𝓤 H E s ≡ (sliceOf ℓ τ, lₛ, zero) → spotOf 𝓤 H E i ≡ (mutTy ℓᵢ τ, lᵢ, zero) → spotOf 𝓤 H E j ≡ (sliceOf ℓⱼ τ, lⱼ, zero) → n < 2 ^ 64
       → Step (Go {0}) W
-          (‵ (cell (sliceTy (mutTy ℓ τ)) lₛ (sliceVal p n)) ∷ ‵ (cell (mutTy ℓᵢ τ) lᵢ (vptr (p .0) (p .1))) ∷ ‵ (cell (sliceTy (mutTy ℓⱼ τ)) lⱼ (sliceVal p n)) ∷ Γ) (runs 𝓒 Λ E rest K)
-          (‵ (cell (sliceTy (mutTy ℓ τ)) lₛ (sliceVal p n)) ∷ ‵ (froom (mutTy ℓᵢ τ) lᵢ zero) ∷ ‵ (froom (sliceTy (mutTy ℓⱼ τ)) lⱼ zero) ∷ Γ) (runs 𝓒 Λ E (lends s i j τ rest) K)
+      (‵ (cell (sliceOf ℓ τ) lₛ (sliceVal p n)) ∷ ‵ (cell (mutTy ℓᵢ τ) lᵢ (vptr (p .0) (p .1))) ∷ ‵ (cell (sliceOf ℓⱼ τ) lⱼ (sliceVal p n)) ∷ Γ) (runs 𝓒 Λ E rest K)
+      (‵ (cell (sliceOf ℓ τ) lₛ (sliceVal p n)) ∷ ‵ (froom (mutTy ℓᵢ τ) lᵢ zero) ∷ ‵ (froom (sliceOf ℓⱼ τ) lⱼ zero) ∷ Γ) (runs 𝓒 Λ E (lends s i j τ rest) K)
   relent t at-s at-i at-j fits = step (λ next.
       assigns ! (addr ! (found at-s (fld ! refl (hop ! (look-in ! 0 (sub ! 0 refl (whole !))) (stop !))))) (found at-i (stop !)) (init ! 1 refl (tt, tt)) $
       assigns ! (agg ! (and-then ! (load ! (found at-i (stop !)) (look ! 1 refl)) (and-then ! (load ! (found at-s (fld ! refl (stop !))) (look-in ! 0 (sub ! 1 refl (whole !)))) (no-more !)))) (found at-j (stop !)) (init ! 2 refl (tt, (tt, (record { fits = fits }, tt)))) $ next)
