@@ -13,7 +13,7 @@ same-length : tie.Need-same-length
 same-length c = search needs
 
 returns : tie.Need-returns
-returns c = (rw (c .told-cards .ensures .0) (c .before .before .hourly .ensures), c .told-cards .ensures .1)
+returns c = (rw (c .told-cards .ensures .0) (c .before .before .before .hourly .ensures), c .told-cards .ensures .1)
 
 pub hourly-spec : {M : Type 1} → statement M
 hourly-spec = tie.close (tie.spec hourly-requires told-cards-requires same-length returns)
