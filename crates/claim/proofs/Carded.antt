@@ -17,10 +17,11 @@ use Rattle.table.specs.Table.{Table}
 use Rattle.station.specs.Station.{Station}
 use Rattle.calendar.specs.Calendar.{monthDays}
 use Rattle.heights.specs.Height.{heightAt}
+use Rattle.hourly.specs.Card.{HourlyCard}
 use Rattle.hourly.specs.Format.{narrow}
 use Rattle.hourly.specs.Writing.{cardsWritten}
 use Rattle.hourly.specs.Reading.{cardsRead}
-use Rattle.hourly.specs.Month.{centimetres, mostStationNumber, bytesOf, CardsGiven, intoBuffer}
+use Rattle.hourly.specs.Month.{centimetres, mostStationNumber, heightsAsked, bytesOf, CardsGiven, intoBuffer}
 use Rattle.hourly.proofs.Back.{reads-back}
 use Rattle.hourly.proofs.Nearest.{near-centimetre}
 use Rattle.calls.specs.State.{Maybe, none, some, Dated, State}
@@ -63,10 +64,13 @@ module _ (number places : ℕ) (bytes : List ℕ) where
 -- ---- what was written
 
 -- where cards are accepted, the bytes are theirs, and stand in front of the others
-bytes-are : (asked : Outcome Unit) (short : Bool) (new bytes : List ℕ) → (asked >> refuseIf short 34 0 (accepted new)) ≡ accepted bytes → new ≡ bytes
-bytes-are (accepted u) true new bytes e = not-both e
-bytes-are (accepted u) false new bytes e = cc
-bytes-are (refused number place) short new bytes e = not-both e
+bytes-are : (cards : List HourlyCard) (places : ℕ) (bytes : List ℕ) → bytesOf cards places ≡ accepted bytes → cardsWritten narrow cards ≡ bytes
+bytes-are cards places bytes e = by (heightsAsked 1 cards) (ltb places (length (cardsWritten narrow cards))) e
+  where
+    by : (asked : Outcome Unit) (short : Bool) → (asked >> refuseIf short 34 0 (accepted (cardsWritten narrow cards))) ≡ accepted bytes → cardsWritten narrow cards ≡ bytes
+    by (accepted u) true e′ = not-both e′
+    by (accepted u) false e′ = cc
+    by (refused number place) short e′ = not-both e′
 
 in-front : (o : Outcome (List ℕ)) (buffer left : List ℕ) (n : ℕ) → record { returned = accepted n; buffer = left } ≡ intoBuffer o buffer
     → (bytes : List ℕ) × (o ≡ accepted bytes) × (length bytes ≡ n) × (left ≡ bytes ++ drop (length bytes) buffer)
@@ -106,7 +110,7 @@ of-hourly qs gs number n buffer left claim =
     let bytes : List ℕ = g .0 in
     let p : Passed k number (length buffer) bytes = passed number (length buffer) bytes (k .table) (k .station) (k .month) (g .1) in
     let month : Dated = p .month in
-    let written : cardsWritten narrow (monthCards month number) ≡ bytes = bytes-are _ _ _ bytes (p .given) in
+    let written : cardsWritten narrow (monthCards month number) ≡ bytes = bytes-are (monthCards month number) (length buffer) bytes (p .given) in
     let front : take n left ≡ bytes = ap (take n) (g .3) ∙ take-at bytes (drop (length bytes) buffer) n (g .2) in
     record {
       month = month;

@@ -43,20 +43,21 @@ last-in-range l dated =
 abbrev Whole : Dated → Type 0
 Whole d = d .prepared .last ≡ monthDays (d .year) (d .month) * 1_440
 
+-- the month that is prepared for a date
+abbrev preparedFor : ℕ → ℕ → List Constituent → Dated
+preparedFor year month cs = record { year = year; month = month; prepared = record { last = monthDays year month * 1_440; constituents = cs } }
+
 given-whole : (t : Maybe Table) (s : Maybe Station) (year month : ℕ) (dated : Dated) → dateGives t s year month ≡ accepted dated → Whole dated
 unfolding dateGives monthMinutes
 given-whole none s year month dated e = not-both e
 given-whole (some t) none year month dated e = not-both e
 given-whole (some t) (some s) year month dated e = by (not (inRange year month)) e
   where
-    abbrev made : List Constituent → Dated
-    made cs = record { year = year; month = month; prepared = record { last = monthDays year month * 1_440; constituents = cs } }
-
-    of : (o : Outcome (List Constituent)) → (o >>= λ cs. accepted (made cs)) ≡ accepted dated → Whole dated
-    of (accepted cs) e′ = let d : made cs ≡ dated = cc in subst Whole d refl
+    of : (o : Outcome (List Constituent)) → (o >>= λ cs. accepted (preparedFor year month cs)) ≡ accepted dated → Whole dated
+    of (accepted cs) e′ = let d : preparedFor year month cs ≡ dated = cc in subst Whole d refl
     of (refused number place) e′ = not-both e′
 
-    by : (out : Bool) → (refuseIf {A = Table × Station} out 8 0 (accepted (t, s)) >>= λ (t, s). monthOf t s year month >>= λ cs. accepted (made cs)) ≡ accepted dated → Whole dated
+    by : (out : Bool) → (refuseIf {A = Table × Station} out 8 0 (accepted (t, s)) >>= λ (t, s). monthOf t s year month >>= λ cs. accepted (preparedFor year month cs)) ≡ accepted dated → Whole dated
     by true e′ = not-both e′
     by false e′ = of (monthOf t s year month) e′
 

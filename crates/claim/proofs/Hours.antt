@@ -40,7 +40,7 @@ module _ (height : ℕ → ℤ) where
 
   -- .. of a card, at its minute
   card-nth : (start i minute : ℕ) → i < 12 → start + i * 60 ≡ minute → getD (entries start) i gap ≡ entry minute
-  card-nth start i minute h e = series-nth start 60 0 12 i h ∙ ap entry e
+  card-nth start i minute h e = let on : start + (0 + i) * 60 ≡ minute = omega (arith, e) in series-nth start 60 0 12 i h ∙ ap entry on
 
   module _ (station year month : ℕ) where
     from-day : (day left hour : ℕ) → 0 < day → hour < 24 * left → getD (heightsOn (cardsFrom height station year month day left)) hour gap ≡ entry ((day - 1) * 1_440 + 60 * (hour + 1))
