@@ -1,7 +1,7 @@
 -- A list with each kind of call in it is accepted (specs/Accepted.antt): by computing, from the bytes of the card file on. Each value on the
 -- way, as the table and the month, is written out once. Assumes nothing.
 use Prim.{Unit}
-use Prim.Native.Nat.{ℕ, zero, suc, _+_, _-_, _*_, _≤_}
+use Prim.Native.Nat.{ℕ, zero, suc, _+_, _-_, _≤_}
 use native.Mathlib.Nat.{sub-zero}
 use native.Mathlib.Omega.{arith}
 use mathlib.Core.Logic.{∥∥₁-map}
@@ -9,7 +9,7 @@ use mathlib.Core.Path.{_≡_, refl, ap, ap₂, fun-ext, subst, _∙_}
 use mathlib.Core.Bool.{false}
 use mathlib.Core.List.{List, [], _∷_, _++_}
 use lib.Dec.{ltb}
-use lib.IntN.{ℤ, pos, _+ℤ_, _-ℤ_, zero-*ℤ}
+use lib.IntN.{ℤ, pos, _-ℤ_, zero-*ℤ}
 use lib.ListN.{length, drop, length-replicate}
 use mir.Val.{Val}
 use Rattle.limits.specs.Limits.{mostMinutes}
@@ -35,7 +35,6 @@ use Rattle.card_constituents.specs.Constituents.{mainsFrom}
 use Rattle.card_shallows.specs.Shallow.{nextShallow}
 use Rattle.card_shallows.specs.Shallows.{shallowsFrom}
 use Rattle.card_file.specs.Cards.{firstUndefined, readCards, cardsOutcome}
-use Rattle.station.specs.declared.records.Record.{Record}
 use Rattle.station.specs.Station.{Station, recordOutcome, recordsOutcome, stationOutcome}
 use Rattle.month_arguments.specs.Longitudes.{longitude, longitudesOn, times}
 use Rattle.month_arguments.specs.Arguments.{argument}
