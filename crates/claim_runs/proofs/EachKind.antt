@@ -73,12 +73,12 @@ use Rattle.cuvalimodo_c.proofs.cuvalimodo_hourly.Symbol as heldHourlyCode
 use Rattle.cuvalimodo_c.proofs.cuvalimodo_names.Symbol as heldNamesCode
 use Rattle.claim.specs.Zeroed.{zeroed, zeroOf}
 use Rattle.claim.proofs.Zeros.{zeros-are-zeroed}
-use Rattle.claim.specs.Document.{Request, Cards, Station, Date, Height, Series, Turns, Year, Bookings, Hourly, Names}
+use Rattle.claim.specs.Document.{Request, Cards, Station, Date, Height, Series, Turns, Year, Bookings, Names}
 use Rattle.claim_runs.specs.Handed.{Assertion, _∗_, ⟦_⟧₀, _⊨_, Handed, value, reads, writes, sees, changes, passed, Fit, At, lie, Ran}
 use Rattle.claim_runs.specs.Values.{clockIn, clockAt}
 use Rattle.claim_runs.specs.Runs.{Run, Started, routineOf, Runs, _then_, routinesOf}
 use Rattle.claim_runs.specs.OnMachine.{EveryCallEnds, AlwaysEnds}
-use Rattle.claim_runs.specs.Accepted.{z0-record, z0-records, year-sheet, threeMinutes, threePlaces, stationNumber, stars, acceptedCalls, acceptedRoutines, frequencyLine, fiveLine, mainLine, ended, smallFile}
+use Rattle.claim_runs.specs.Accepted.{z0-record, z0-records, year-sheet, threeMinutes, threePlaces, stationNumber, stars, cardsAsked, acceptedCalls, acceptedRoutines, frequencyLine, fiveLine, mainLine, ended, smallFile}
 use Rattle.claim_runs.proofs.Handing.{W₀}
 use Rattle.claim_runs.proofs.Parameters.{clock-lawful, clock-means, u32-makes}
 use Rattle.claim_runs.proofs.Laid.{laid, Lays, laid-to-write, laid-to-read}
@@ -333,7 +333,7 @@ module _ (v : Val) (e : EveryCallEnds v) where
       let fit : Fit (booked (r .0) (r .1)) = booked-fit (r .0) (r .1) in
       ∥∥₁-map (e .bookings threeMinutes fullShare (r .0) 0 threePlaces (r .1) 0 fit (r .2) All (r .3)) (λ k. (v, Run.bookings {q = fullShare} (ran-from (r .2) All fit (r .3) k), refl)))
 
-  hourly-run : Next v (Hourly stationNumber (stars 4_300)) hourlyCode.routine
+  hourly-run : Next v cardsAsked hourlyCode.routine
   hourly-run =
       ∥∥₁-elim carding-lie ∥∥₁-prop (λ r.
       ∥∥₁-map (e .hourlies stationNumber (u stationNumber) (stars 4_300) (r .0) 0 (carding-fit (r .0)) (r .1) All (r .2)) (λ k. (v, Run.hourlies (ran-from (r .1) All (carding-fit (r .0)) (r .2) k), refl)))
@@ -419,7 +419,7 @@ module _ (v : Val) (e : EveryCallEnds v) where
       let fit : Fit (sees ClockType.the-row fullShare v (m .0) 0 ∷ booked (r .0) (r .1)) = booked-fit (r .0) (r .1) in
       ∥∥₁-map (e .heldBookings fullShare (m .0) 0 threeMinutes fullShare (r .0) 0 threePlaces (r .1) 0 fit (m .1) All (m .2)) (λ k. (v, Run.heldBookings {q = fullShare} (ran-from (m .1) All fit (m .2) k), refl))))
 
-  held-hourly-run : Next v (Hourly stationNumber (stars 4_300)) heldHourlyCode.routine
+  held-hourly-run : Next v cardsAsked heldHourlyCode.routine
   held-hourly-run =
       ∥∥₁-elim carding-lie ∥∥₁-prop (λ r.
       ∥∥₁-elim (with-clock (r .1) ⟦ lie (carding (r .0)) ⟧₀ All (r .2)) ∥∥₁-prop (λ m.

@@ -105,16 +105,22 @@ threeMinutes = 720 ∷ 0 ∷ 720 ∷ []
 abbrev pub threePlaces : List ℤ
 threePlaces = pos 0 ∷ pos 0 ∷ pos 0 ∷ []
 
--- a station number, and a buffer of bytes `*`, 22 more than July's 62 cards of 69 bytes take; and what then lies there: Z0 is level, so that each height is
--- its amplitude, and the bytes beyond the cards are as they were
+-- hourly cards under a station number, into a buffer of bytes `*` that has 22 more than July's 62 cards of 69 bytes take
 abbrev pub stationNumber : ℕ
 stationNumber = 6_485
 
 unfoldable pub stars : ℕ → List ℕ
 stars n = replicate n 42
 
+abbrev pub cardsAsked : Request
+cardsAsked = Hourly stationNumber (stars 4_300)
+
+-- Z0 is level: the height of each hour is its amplitude, and "the bytes beyond them" are as they were
 unfoldable pub julyCards : List ℕ
 julyCards = cardsWritten narrow (cardsOf (λ minute. pos 100) stationNumber 1976 7)
+
+abbrev pub cardsGiven : Gave
+cardsGiven = carded (record { returned = accepted 4_278; buffer = julyCards ++ stars 22 })
 
 -- Z0, 100 tenths of a millimetre high, on the equator, in July 1976: by value, with a station that has no records before the other; and then
 -- over a clock that is lent, with a place for one height
@@ -129,7 +135,7 @@ acceptedCalls =
     ∷ Turns 0 360 [] []
     ∷ Year year-sheet [] [] []
     ∷ Bookings threeMinutes threePlaces
-    ∷ Hourly stationNumber (stars 4_300)
+    ∷ cardsAsked
     ∷ Names
     ∷ Cards smallFile
     ∷ Station (pos 0) z0-records
@@ -141,7 +147,7 @@ acceptedCalls =
     ∷ Year year-sheet (pos 0 ∷ []) [] []
     ∷ Bookings threeMinutes threePlaces
     ∷ Bookings threeMinutes threePlaces
-    ∷ Hourly stationNumber (stars 4_300)
+    ∷ cardsAsked
     ∷ Names
     ∷ []
 
@@ -185,7 +191,7 @@ allAccepted =
     ∷ found (record { returned = accepted (record { count = 0; high = false }); minutes = []; heights = [] })
     ∷ filled (record { returned = accepted (record { count = 0; high = false }); series = []; minutes = []; heights = [] })
     ∷ wrote (record { returned = accepted tt; heights = pos 100 ∷ pos 100 ∷ pos 100 ∷ [] })
-    ∷ carded (record { returned = accepted 4_278; buffer = julyCards ++ stars 22 })
+    ∷ cardsGiven
     ∷ named (z0 ∷ [])
     ∷ told (accepted tt)
     ∷ told (accepted tt)
@@ -197,7 +203,7 @@ allAccepted =
     ∷ filled (record { returned = accepted (record { count = 0; high = false }); series = pos 100 ∷ []; minutes = []; heights = [] })
     ∷ wrote (record { returned = accepted tt; heights = pos 100 ∷ pos 100 ∷ pos 100 ∷ [] })
     ∷ wrote (record { returned = accepted tt; heights = pos 100 ∷ pos 100 ∷ pos 100 ∷ [] })
-    ∷ carded (record { returned = accepted 4_278; buffer = julyCards ++ stars 22 })
+    ∷ cardsGiven
     ∷ named (z0 ∷ [])
     ∷ []
 
