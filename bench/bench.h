@@ -6,7 +6,7 @@
 #include "peer.h"
 #include "../bindings/c/cuvalimodo.h"
 
-enum { MONTH = 44640, MONTHS = 12, YEAR = 366 * 1440 };
+enum { MONTH = 44640, HOURS = MONTH / 60, MONTHS = 12, YEAR = 366 * 1440 };
 
 // What a year keeps of its months: for each constituent of each V, P and Q.
 enum { YEAR_ROWS = MONTHS * RECORDS * (8 + 4 + 4) };

@@ -1,4 +1,4 @@
-// Our values and the peer's, one by one: series, single heights, bookings and turns, and a year's heights. The first that differs ends the bench.
+// Our values and the peer's, one by one: series, single heights, bookings, turns, the bytes of hourly cards, and a year's heights. The first that differs ends the bench.
 #include "bench.h"
 #include <stdio.h>
 #include <stdlib.h>
@@ -58,6 +58,18 @@ static void compare_turns(const struct work *w) {
     }
 }
 
+// A month's hourly cards, byte by byte, and those of the buffer beyond them.
+static void compare_hourly(const struct work *w, uint32_t station) {
+    static uint8_t our_cards[CUVALIMODO_HOURLY_SIZE + 1], their_cards[CUVALIMODO_HOURLY_SIZE + 1];
+    size_t bytes;
+    memset(our_cards, 0x55, sizeof our_cards);
+    memset(their_cards, 0x55, sizeof their_cards);
+    cuvalimodo_cards our = cuvalimodo_hourly(&w->clock, station, our_cards, sizeof our_cards);
+    if (our.number || peer_hourly(&w->prepared, w->year, w->month, station, their_cards, sizeof their_cards, &bytes).number) exit(1);
+    same((int64_t)our.bytes, (int64_t)bytes, "bytes of hourly cards", w, 0);
+    for (size_t i = 0; i < sizeof our_cards; i++) same(our_cards[i], their_cards[i], "byte of hourly cards", w, i);
+}
+
 // The twelve months of a year, prepared one after the other: the heights of a day in the last.
 static void compare_dates(struct work *w) {
     for (uint32_t months = 1; months <= 12; months++) {
@@ -96,6 +108,7 @@ static void compare_year(const struct work *w) {
 
 void compare_all(const char *file, size_t length) {
     static const int counts[] = {0, 1, 11, 37, 73, 145}, latitudes[] = {2905, -2000, 100};
+    static const uint32_t stations[] = {7120, 5, 99999};
     static struct work w;
     for (int c = 0; c < 6; c++)
         for (int l = 0; l < 3; l++) {
@@ -103,6 +116,7 @@ void compare_all(const char *file, size_t length) {
             if (l == 0) compare_series(&w);
             compare_heights(&w);
             compare_turns(&w);
+            compare_hourly(&w, stations[l]);
             compare_dates(&w);
             compare_year(&w);
         }

@@ -1,4 +1,4 @@
-// Peer (a), from the table to heights and turns.
+// Peer (a), from the table to heights, turns and hourly cards.
 #include "peer.h"
 #include <string.h>
 
@@ -270,5 +270,43 @@ struct outcome peer_turns(const struct month *month, const struct table *table, 
         minutes[i] = found[i];
         heights[i] = height_at(month, found[i]);
     }
+    return accepted;
+}
+
+// ---- hourly cards: (I1,1X,I5,7X,3I2,12A4) and an LF
+
+enum { CARD = 69, CARD_HOURS = 12 };
+
+// A number at the right of so many columns, which are blank before.
+static void put(uint8_t *columns, int width, int64_t number) {
+    uint64_t rest = size(number);
+    do columns[--width] = (uint8_t)('0' + rest % 10);
+    while (rest /= 10);
+    if (number < 0) columns[width - 1] = '-';
+}
+
+static void write_card(uint8_t *card, size_t at, uint32_t station, unsigned year, unsigned number, const int64_t *heights) {
+    memset(card, ' ', CARD - 1);
+    card[CARD - 1] = '\n';
+    put(card, 1, (int64_t)(1 + at % 2));
+    put(card + 2, 5, station);
+    put(card + 14, 2, (int64_t)(1 + at / 2));
+    put(card + 16, 2, number);
+    put(card + 18, 2, year % 100);
+    for (int i = 0; i < CARD_HOURS; i++) put(card + 20 + 4 * i, 4, heights[i]);
+}
+
+struct outcome peer_hourly(const struct month *month, unsigned year, unsigned number, uint32_t station, uint8_t *cards, size_t length, size_t *bytes) {
+    if (station > 99999) return refused(32, 0);
+    int64_t hours[LAST_MINUTE / 60];
+    size_t count = month->last / 60;
+    peer_series(month, 60, 60, hours, count);
+    for (size_t i = 0; i < count; i++) {
+        hours[i] = floor_div(hours[i] + 50, 100);
+        if (hours[i] < -999 || hours[i] > 9998) return refused(33, (int)(i / CARD_HOURS) + 1);
+    }
+    *bytes = count / CARD_HOURS * CARD;
+    if (length < *bytes) return refused(34, 0);
+    for (size_t i = 0; i < count / CARD_HOURS; i++) write_card(cards + i * CARD, i, station, year, number, hours + i * CARD_HOURS);
     return accepted;
 }

@@ -1,4 +1,4 @@
-// Peer (a): document 01's whole numbers in C, the whole way from the card file to heights and turns.
+// Peer (a): document 01's whole numbers in C, the whole way from the card file to heights, turns and hourly cards.
 #ifndef PEER_H
 #define PEER_H
 
@@ -73,6 +73,7 @@ struct outcome peer_height(const struct month *month, uint32_t minute, int64_t *
 struct outcome peer_series(const struct month *month, uint32_t start, uint32_t step, int64_t *heights, size_t places);
 struct outcome peer_turns(const struct month *month, const struct table *table, const struct station *station, uint32_t first, uint32_t last,
                           uint32_t *minutes, size_t minute_places, int64_t *heights, size_t height_places, size_t *count, bool *high);
+struct outcome peer_hourly(const struct month *month, unsigned year, unsigned number, uint32_t station, uint8_t *cards, size_t length, size_t *bytes);
 
 // The lent table of cosines, filled once from the bench.
 extern uint32_t cosines[1025];

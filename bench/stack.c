@@ -40,6 +40,8 @@ static void bookings(void) { number = cuvalimodo_bookings(&w.clock, booked, BOOK
 static void series(void) { number = cuvalimodo_series(&w.clock, 0, 1, heights, 1440).number; }
 static void turns(void) { number = cuvalimodo_turns(&w.clock, 0, MONTH, minutes, MONTH, heights, MONTH).number; }
 static void year(void) { number = cuvalimodo_year(&w.clock, w.year, 0, 60, 0, YEAR, hourly, YEAR / 60 + 1, minutes, MONTH, heights, MONTH).number; }
+static uint8_t written[CUVALIMODO_HOURLY_SIZE];
+static void hourly_cards(void) { number = cuvalimodo_hourly(&w.clock, 7120, written, sizeof written).number; }
 static cuvalimodo_table_names names_read;
 static void names(void) { names_read = cuvalimodo_names(&w.clock); }
 
@@ -63,6 +65,7 @@ void print_stack(const char *file, size_t length, const char *deepest, size_t de
     line("bookings", bookings, 1024);
     line("a series", series, 1 << 20);
     line("turns of a month", turns, 1 << 20);
+    line("hourly cards", hourly_cards, 1 << 20);
     line("a year", year, 1 << 20);
     printf("| of it, the arguments and weights of its twelve months | %zu |\n", (size_t)YEAR_ROWS);
     line("the names", names, 1 << 20);

@@ -14,6 +14,7 @@ static int64_t heights[YEAR + 1], turned[MONTH];
 static double reals[MONTH + 1];
 static uint32_t minutes[MONTH + 1], booked_minutes[LISTS + MOST_BOOKED];
 static size_t booked;
+static uint8_t cards[CUVALIMODO_HOURLY_SIZE];
 static volatile int64_t sink;
 
 static double now(void) {
@@ -109,6 +110,14 @@ static void single_heights(uint32_t n) {
     }
 }
 
+static void our_hourly(uint32_t n) {
+    for (uint32_t i = 0; i < n; i++) sink += cuvalimodo_hourly(&w.clock, 7120 + i % 2, cards, sizeof cards).number;
+}
+
+static void series_of_hours(uint32_t n) {
+    for (uint32_t i = 0; i < n; i++) sink += cuvalimodo_series(&w.clock, 60, 60, heights, HOURS).number;
+}
+
 static void our_turns(uint32_t n) {
     for (uint32_t i = 0; i < n; i++) sink += cuvalimodo_turns(&w.clock, i % 2, MONTH, minutes, MONTH, heights, MONTH).number;
 }
@@ -136,6 +145,11 @@ static void peer_turn_searches(uint32_t n) {
     bool high;
     for (uint32_t i = 0; i < n; i++)
         sink += peer_turns(&w.prepared, &w.table, &w.station, i % 2, MONTH, minutes, MONTH, heights, MONTH, &count, &high).number;
+}
+
+static void peer_hourlies(uint32_t n) {
+    size_t bytes;
+    for (uint32_t i = 0; i < n; i++) sink += peer_hourly(&w.prepared, w.year, w.month, 7120 + i % 2, cards, sizeof cards, &bytes).number;
 }
 
 static void our_year_search(uint32_t n) {
@@ -220,6 +234,17 @@ static void time_bookings(int count, size_t minutes_booked) {
     time_beside(what, "ours, single heights", our_bookings, single_heights, (uint32_t)(440000 / (booked * (size_t)count) + 1), 1.05);
 }
 
+// A month's hourly cards beside our own series of its hours, on the same clock, and beside the peer's cards.
+static void time_hourly(int count) {
+    char what[80];
+    snprintf(what, sizeof what, "hourly cards, a month, %d const.", count);
+    repeated *sides[] = {our_hourly, series_of_hours, peer_hourlies};
+    double t[SIDES], r[SIDES];
+    race(sides, 3, (uint32_t)(4000 / count + 1), t, r);
+    line(what, "ours, series of its hours", t[0], t[1], r[1], 0);
+    line(what, "(a) whole numbers in C", t[0], t[2], r[2], 0);
+}
+
 // A year's sheet beside our own of its months, which are prepared before: the year's turns, and every minute of it.
 static void time_year(int count) {
     char what[80];
@@ -245,6 +270,7 @@ void print_times(const char *file, size_t length) {
         time_series(sizes[i]);
         time_bookings(sizes[i], 24);
         time_bookings(sizes[i], MOST_BOOKED);
+        time_hourly(sizes[i]);
     }
     set(file, length, 11);
     time_two("a single height, 11 constituents", our_heights, peer_heights, 20000, 1.1);

@@ -1,12 +1,13 @@
 """Has the players of all languages play the second code's scripts: python3 bindings/compare.py NAME=COMMAND ...
 
-The scripts are 200 of about 100 calls, generated from a seed; replay's own; those of tools/malformed.py; and five made here, of numbers at the ends
-of their types, buffers of every size, whole years, bookings, and card files of every kind. A player gets all of them as files in one run. Each answer must
-be the second code's, and every refusal must come up, also every one that a year can have, and every one that bookings can have.
+The scripts are 200 of about 100 calls, generated from a seed; replay's own; those of tools/malformed.py; and six made here, of numbers at the ends
+of their types, buffers of every size, whole years, bookings, hourly cards, and card files of every kind. A player gets all of them as files in one run.
+Every byte of each answer must be the second code's, and every refusal must come up, also every one that a year, bookings or hourly cards can have.
 """
 
 import collections
 import os
+import random
 import subprocess
 import sys
 import tempfile
@@ -18,15 +19,19 @@ import compare_many  # noqa: E402
 import malformed  # noqa: E402
 import replay_example  # noqa: E402
 from bookings import call as bookings_call  # noqa: E402
+from cards import read_card_file  # noqa: E402
+from decks import STILLS, still_file  # noqa: E402
 from generate import cards_call  # noqa: E402
+from hours import AMPLITUDE, HIGHEST, LOWEST  # noqa: E402
 from replay_example import CARDS, LAST, station  # noqa: E402
 
 SEED, COUNT = 1, 200
 LARGEST = 4_294_967_295
 YEAR = 366 * 1_440
-REFUSALS = [*range(1, 12), *range(21, 24), 31]
+REFUSALS = [*range(1, 12), *range(21, 24), *range(31, 35)]
 YEAR_REFUSALS = [8, 9, 10, 11, 21, 22]
 BOOKINGS_REFUSALS = [9, 21, 22, 23, 31]
+HOURLY_REFUSALS = [21, 22, 23, 32, 33, 34]
 
 
 def call(word, *numbers):
@@ -93,6 +98,43 @@ def bookings():
         yield bookings_call(minutes, 2)
 
 
+def levels():
+    """A card file of still constituents, and stations whose height is always one: the limits of a card, and past them."""
+    deck = still_file(random.Random(SEED))
+    still = [place for place, (name, _) in enumerate(read_card_file(deck).frequencies) if name in STILLS]
+    yield cards_call(deck)
+    for level in (LOWEST - 1, LOWEST, -50, -51, 0, 49, 50, HIGHEST, HIGHEST + 1):
+        full, rest = divmod(abs(level), AMPLITUDE)
+        yield station(0, [(place, size, 18_000 if level < 0 else 0) for place, size in zip(still, [AMPLITUDE] * full + [rest])])
+        yield from (call(b"date", 2009, 4), call(b"hourly", 5, 138 * 30), call(b"hourly", 5, 0))
+
+
+def hourly():
+    """Hourly cards without a table, without a station and without a month, of numbers and buffers that are refused later; then with a month: station
+    numbers of every length, buffers that are exact, shorter and longer, months of every length, and heights that no card takes, from one card of
+    the month on. A height after each says that the month stays."""
+    latitude, records = victoria()
+    early = b"".join(call(b"hourly", *numbers) for numbers in ((7_120, 4_278), (100_000, 4_278), (7_120, 0), (LARGEST, 0)))
+    yield from (early, cards_call(CARDS), early, station(latitude, records), early, call(b"date", 1976, 7))
+    for number, size in (
+        (0, 4_278), (7, 4_278), (42, 4_279), (712, 4_278), (7_120, 4_278), (99_999, 4_278), (100_000, 4_278), (131_072 + 7_120, 4_278), (2**31, 4_278),
+        (LARGEST, 4_278), (100_000, 0), (7_120, 4_277), (7_120, 4_209), (7_120, 138), (7_120, 69), (7_120, 0), (7_120, 65_536 + 4_278), (7_120, 70_000),
+    ):
+        yield call(b"hourly", number, size)
+        yield call(b"height", 510)
+    for year, month, days in ((1950, 1, 31), (1977, 2, 28), (1999, 12, 31), (2000, 2, 29), (2009, 4, 30), (2049, 11, 30)):
+        yield call(b"date", year, month)
+        for size in (138 * days - 1, 138 * days, 138 * days + 1):
+            yield call(b"hourly", 7_120, size)
+    for place, lag in ((2, 0), (2, 9_000), (4, 0), (4, 27_000), (5, 0), (47, 0)):
+        yield station(latitude, [(0, AMPLITUDE, 18_000), (place, 36_000, lag)])
+        yield call(b"date", 1976, 7)
+        for number, size in ((7_120, 4_278), (7_120, 0), (100_000, 0)):
+            yield call(b"hourly", number, size)
+        yield call(b"height", 510)
+    yield from levels()
+
+
 def updates():
     """Stations and dates at the ends of their types; most are refused."""
     latitude, records = victoria()
@@ -132,14 +174,14 @@ def deepest():
     deck = subprocess.run([sys.executable, os.path.join(ROOT, "tools", "deepest_cards.py")], stdout=subprocess.PIPE, check=True).stdout
     everything = station(2905, [(k, 1_000, 0) for k in range(64)])
     month = call(b"date", 1976, 7) + call(b"series", 0, 60, 9) + call(b"turns", 0, LAST, 1_500, 1_500)
-    return cards_call(deck) + everything + month + call(b"year", 1976, 0, 1_440, 367, 0, 90_000, 3_000, 3_000)
+    return cards_call(deck) + everything + month + call(b"hourly", 7_120, 4_278) + call(b"year", 1976, 0, 1_440, 367, 0, 90_000, 3_000, 3_000)
 
 
 def scripts():
     """Each script with the second code's answers."""
     yield from compare_many.answered(SEED, COUNT)
     with open(malformed.SCRIPT, "rb") as file:
-        by_hand = [file.read(), ends(), b"".join(years()), b"".join(bookings()), card_files(), deepest()]
+        by_hand = [file.read(), ends(), b"".join(years()), b"".join(bookings()), b"".join(hourly()), card_files(), deepest()]
     for script in [*by_hand, *malformed.short_scripts()]:
         yield script, compare_many.answers(script)
 
@@ -154,36 +196,32 @@ def write_files(folder, played):
 
 
 def groups(output):
-    """The answers to each script: a blank line ends them."""
+    """What is written to each script: a blank line ends it."""
     found, lines = [], []
-    for line in output.decode().split("\n")[:-1]:
+    for line in output.split(b"\n")[:-1]:
         if line:
-            lines.append(line)
+            lines.append(line + b"\n")
         else:
-            found.append(lines)
+            found.append(b"".join(lines))
             lines = []
     return found
-
-
-def first_difference(got, wanted):
-    pairs = enumerate(zip([*got, "nothing"], [*wanted, "nothing"]), 1)
-    return next("answer %d is %.80s, not %.80s" % (number, *pair) for number, pair in pairs if pair[0] != pair[1])
 
 
 def compare(name, command, paths, played):
     """Plays all scripts by one player; whether each answer is the second code's."""
     run = subprocess.run(command.split() + paths, stdout=subprocess.PIPE, stderr=subprocess.PIPE)
-    answers = groups(run.stdout)
+    written = groups(run.stdout)
     differing = 0
-    for path, got, (_, wanted) in zip(paths, answers, played):
+    for path, got, (script, answers) in zip(paths, written, played):
+        wanted = "".join(answer + "\n" for answer in answers).encode()
         if got != wanted:
             differing += 1
-            print("%s, %s: %s" % (name, os.path.basename(path), first_difference(got, wanted)))
-    if run.returncode or len(answers) != len(played):
-        print("%s ended with status %d after %d scripts: %s" % (name, run.returncode, len(answers), run.stderr.decode()[-1000:]))
+            print("%s, %s: %s" % (name, os.path.basename(path), compare_many.first_difference(script, wanted, got)))
+    if run.returncode or len(written) != len(played):
+        print("%s ended with status %d after %d scripts: %s" % (name, run.returncode, len(written), run.stderr.decode()[-1000:]))
         return False
     print("%s: %d generated scripts and %d others, %d answers, %d scripts differ from the second code"
-          % (name, COUNT, len(played) - COUNT, sum(map(len, answers)), differing))
+          % (name, COUNT, len(played) - COUNT, sum(len(list(compare_many.parted(got))) for got in written), differing))
     return differing == 0
 
 
@@ -203,7 +241,9 @@ def main():
         paths = write_files(folder, played)
         same = [compare(*player.split("=", 1), paths, played) for player in sys.argv[1:]]
     there = [came_up("how often each refusal came up: ", collections.Counter(kind for _, kind in answered), REFUSALS)]
-    for title, alone, numbers in (("a year", b"year", YEAR_REFUSALS), ("bookings", b"bookings", BOOKINGS_REFUSALS)):
+    for title, alone, numbers in (
+        ("a year", b"year", YEAR_REFUSALS), ("bookings", b"bookings", BOOKINGS_REFUSALS), ("hourly cards", b"hourly", HOURLY_REFUSALS),
+    ):
         there.append(came_up("and with %s: " % title, collections.Counter(kind for word, kind in answered if word == alone), numbers))
     sys.exit(0 if same and all(same + there) else 1)
 

@@ -33,7 +33,7 @@
  *   minute      minutes after 00:00 on the 1st of the month, GMT, 0 to days * 1,440 inclusive; for a year, after 00:00 on 1 January, 0 to
  *               525,600 or, in a leap year, 527,040 inclusive
  *   step        minutes, 1 to 1,440
- *   height      tenths of a millimetre
+ *   height      tenths of a millimetre; on hourly cards the nearest centimetre, a half going up
  */
 #ifndef CUVALIMODO_H
 #define CUVALIMODO_H
@@ -52,24 +52,24 @@ extern "C" {
 /* Why a call was refused: the field `number` of each result. */
 enum cuvalimodo_refusal {
     CUVALIMODO_ACCEPTED = 0,
-    CUVALIMODO_BAD_LINE = 1,        /* a line over 80 columns, or a byte outside 32 to 126; place: the card's line */
-    CUVALIMODO_MALFORMED = 2,       /* a malformed number; place: the card's line */
-    CUVALIMODO_OUT_OF_RANGE = 3,    /* a number outside its range; place: the card's line, the station's record, or 0 for the latitude */
-    CUVALIMODO_BAD_NAME = 4,        /* a name blank or twice, or a station's place twice; place: line or record */
-    CUVALIMODO_MISSING = 5,         /* a definition, main or frequency missing, or a place not in the table; place: line or record */
-    CUVALIMODO_TOO_MANY = 6,        /* more entries or records than there may be; place: line, or 147 for records */
-    CUVALIMODO_ENDED = 7,           /* the card file ends inside a part; place: the line after the last */
-    CUVALIMODO_BAD_DATE = 8,        /* year or month out of range */
-    CUVALIMODO_BAD_MINUTES = 9,     /* minutes outside the month, or the year, or reversed; or step out of range; place: the booking, else 0 */
-    CUVALIMODO_TOO_MANY_TURNS = 10, /* more turns than one of the lent buffers holds */
-    CUVALIMODO_TOO_LARGE = 11,      /* a nodal correction too large; place: the station's record */
-    CUVALIMODO_NO_TABLE = 21,       /* the clock has no table: load_cards comes first */
-    CUVALIMODO_NO_STATION = 22,     /* no station: set_station comes before */
-    CUVALIMODO_NO_MONTH = 23,       /* no month: set_date comes before */
-    CUVALIMODO_UNEQUAL_BUFFERS = 31, /* the two lent buffers of bookings differ in length */
+    CUVALIMODO_BAD_LINE = 1,            /* a line over 80 columns, or a byte outside 32 to 126; place: the card's line */
+    CUVALIMODO_MALFORMED = 2,           /* a malformed number; place: the card's line */
+    CUVALIMODO_OUT_OF_RANGE = 3,        /* a number outside its range; place: the card's line, the station's record, or 0 for the latitude */
+    CUVALIMODO_BAD_NAME = 4,            /* a name blank or twice, or a station's place twice; place: line or record */
+    CUVALIMODO_MISSING = 5,             /* a definition, main or frequency missing, or a place not in the table; place: line or record */
+    CUVALIMODO_TOO_MANY = 6,            /* more entries or records than there may be; place: line, or 147 for records */
+    CUVALIMODO_ENDED = 7,               /* the card file ends inside a part; place: the line after the last */
+    CUVALIMODO_BAD_DATE = 8,            /* year or month out of range */
+    CUVALIMODO_BAD_MINUTES = 9,         /* minutes outside the month, or the year, or reversed; or step out of range; place: the booking, else 0 */
+    CUVALIMODO_TOO_MANY_TURNS = 10,     /* more turns than one of the lent buffers holds */
+    CUVALIMODO_TOO_LARGE = 11,          /* a nodal correction too large; place: the station's record */
+    CUVALIMODO_NO_TABLE = 21,           /* the clock has no table: load_cards comes first */
+    CUVALIMODO_NO_STATION = 22,         /* no station: set_station comes before */
+    CUVALIMODO_NO_MONTH = 23,           /* no month: set_date comes before */
+    CUVALIMODO_UNEQUAL_BUFFERS = 31,    /* the two lent buffers of bookings differ in length */
     CUVALIMODO_BAD_STATION_NUMBER = 32, /* a station number over 99999, for hourly cards */
-    CUVALIMODO_BAD_HEIGHT = 33, /* a height outside -999 to 9998 centimetres; place: the first hourly card with one */
-    CUVALIMODO_SHORT_BUFFER = 34 /* the lent buffer is too short for the month's hourly cards */
+    CUVALIMODO_BAD_HEIGHT = 33,         /* a height outside -999 to 9998 centimetres; place: the first hourly card with one */
+    CUVALIMODO_SHORT_BUFFER = 34        /* the lent buffer is too short for the month's hourly cards */
 };
 
 /* A clock: a table of constituents, a station and a month, each there or not. What is inside is the library's own. */
@@ -116,6 +116,13 @@ typedef struct cuvalimodo_turnings {
     bool high;
 } cuvalimodo_turnings;
 
+/* What hourly cards come to: how many bytes they take; or the refusal's number and place (an hourly card, from 1; else 0), and 0 bytes. */
+typedef struct cuvalimodo_cards {
+    uint32_t number; /* CUVALIMODO_ACCEPTED, or why not */
+    size_t place;
+    size_t bytes;
+} cuvalimodo_cards;
+
 /* The names of a table's constituents: that of place n is the five bytes from 5 * n on, with blanks behind a shorter one. */
 #define CUVALIMODO_NAME_SIZE 5
 typedef struct cuvalimodo_table_names {
@@ -132,6 +139,7 @@ static_assert(sizeof(cuvalimodo_clock) == CUVALIMODO_CLOCK_SIZE && alignof(cuval
 static_assert(sizeof(cuvalimodo_record) == 12 && offsetof(cuvalimodo_record, amplitude) == 4, "a record lies as in the library");
 static_assert(sizeof(cuvalimodo_counts) == 48 && sizeof(cuvalimodo_verdict) == 16, "results lie as in the library");
 static_assert(sizeof(cuvalimodo_reading) == 24 && sizeof(cuvalimodo_turnings) == 32 && sizeof(bool) == 1, "results lie as in the library");
+static_assert(sizeof(cuvalimodo_cards) == 24 && offsetof(cuvalimodo_cards, bytes) == 16, "results lie as in the library");
 static_assert(sizeof(cuvalimodo_table_names) == 808 && offsetof(cuvalimodo_table_names, bytes) == 8, "names lie as in the library");
 
 /* Checks a card file: frequencies, longitudes, main and shallow-water constituents. No clock is asked for. */
@@ -198,6 +206,13 @@ cuvalimodo_turnings cuvalimodo_year(const cuvalimodo_clock *clock, uint32_t year
                                     int64_t *series, size_t series_length,
                                     uint32_t *minutes, size_t minutes_length,
                                     int64_t *heights, size_t heights_length);
+
+/*
+ * The month's hourly cards, (I1,1X,I5,7X,3I2,12A4), under a station number of 0 to 99,999, into `cards` from its front: two cards a day, of 01:00 to
+ * 12:00 and of 13:00 to 24:00, each 68 columns and an LF. They take 138 bytes for each day of the month; the bytes beyond them are left as they were.
+ */
+#define CUVALIMODO_HOURLY_SIZE 4278 /* the cards of 31 days */
+cuvalimodo_cards cuvalimodo_hourly(const cuvalimodo_clock *clock, uint32_t station, uint8_t *cards, size_t cards_length);
 
 /* The words of a refusal; none for a number that is no refusal's. printf("%s\n", cuvalimodo_refusal_text(6).text) */
 cuvalimodo_text cuvalimodo_refusal_text(uint32_t number);

@@ -350,12 +350,27 @@ static bool year(struct script *s, const int64_t *n)
     return true;
 }
 
+static bool hourly(struct script *s, const int64_t *n)
+{
+    (void)s;
+    struct lent lent = lend((size_t)n[1], 1);
+    copy(lent);
+    cuvalimodo_cards said = cuvalimodo_hourly(held(), (uint32_t)n[0], lent.at, lent.size);
+    clock_stands(false);
+    if (accepted(said.number, said.place)) {
+        printf("hourly %zu\n", said.bytes);
+        fwrite(lent.at, 1, said.bytes, stdout);
+    }
+    back(lent, said.bytes);
+    return true;
+}
+
 static const struct {
     const char *word;
     int numbers;
     bool (*play)(struct script *, const int64_t *);
-} calls[] = {{"cards", 1, cards},   {"station", 2, station},   {"date", 2, date},   {"height", 1, height},
-             {"series", 3, series}, {"bookings", 2, bookings}, {"turns", 4, turns}, {"year", 8, year}};
+} calls[] = {{"cards", 1, cards},       {"station", 2, station}, {"date", 2, date}, {"height", 1, height},  {"series", 3, series},
+             {"bookings", 2, bookings}, {"turns", 4, turns},     {"year", 8, year}, {"hourly", 2, hourly}};
 
 enum { CALLS = sizeof calls / sizeof *calls, NUMBERS = 8 };
 

@@ -30,6 +30,7 @@ if TYPE_CHECKING:
     from _typeshed import ReadableBuffer, WriteableBuffer
 
 CLOCK_SIZE = 16832
+HOURLY_SIZE = 4278  # the hourly cards of 31 days
 NAME_SIZE = 5
 
 
@@ -82,7 +83,8 @@ class Refusal(IntEnum):
 
 
 class Refused(Exception):
-    """A refused call: its number, its place (a card's line, a station's record or a booked minute, from 1; else 0) and the library's words for it."""
+    """A refused call: its number, its place (a card's line, a station's record, a booked minute or an hourly card, from 1; else 0) and the
+    library's words for it."""
 
     def __init__(self, number: int, place: int) -> None:
         super().__init__(number, place)
@@ -117,6 +119,10 @@ class _Turnings(ctypes.Structure):
     _fields_ = [("number", ctypes.c_uint32), ("place", ctypes.c_size_t), ("count", ctypes.c_size_t), ("high", ctypes.c_bool)]
 
 
+class _Cards(ctypes.Structure):
+    _fields_ = [("number", ctypes.c_uint32), ("place", ctypes.c_size_t), ("bytes", ctypes.c_size_t)]
+
+
 class _TableNames(ctypes.Structure):
     _fields_ = [("count", ctypes.c_size_t), ("bytes", ctypes.c_uint8 * (160 * NAME_SIZE))]
 
@@ -142,6 +148,7 @@ def _load() -> ctypes.PyDLL:
         ("bookings", _Verdict, [clock, *lent, *lent]),
         ("turns", _Turnings, [clock, u32, u32, *lent, *lent]),
         ("year", _Turnings, [clock, u32, u32, u32, u32, u32, *lent, *lent, *lent]),
+        ("hourly", _Cards, [clock, u32, *lent]),
         ("refusal_text", _Text, [u32]),
     ):
         function = getattr(library, "cuvalimodo_" + name)
@@ -340,3 +347,16 @@ class Clock:
         series, minutes, heights = array("q", bytes(8 * count)), array("I", bytes(4 * room)), array("q", bytes(8 * room))
         found = self.year_into(series, minutes, heights, year, start, step, first, last)
         return series, _turns(minutes, heights, *found)
+
+    def hourly_into(self, cards: WriteableBuffer, number: SupportsIndex) -> int:
+        """Writes the month's hourly cards, (I1,1X,I5,7X,3I2,12A4), under a station number of 0 to 99,999 to the front of a buffer of bytes: how many
+        they take, 138 for each day of the month."""
+        result = _library.cuvalimodo_hourly(self._memory, _u32(number), *_lent(_buffer(ctypes.c_uint8, "B", cards)))
+        _accept(result)
+        return result.bytes
+
+    def hourly(self, number: SupportsIndex) -> bytes:
+        """The month's hourly cards under a station number, each with its LF."""
+        cards = bytearray(HOURLY_SIZE)
+        size = self.hourly_into(cards, number)
+        return bytes(cards[:size])

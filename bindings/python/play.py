@@ -131,6 +131,15 @@ class Guarded:
             heights.stands(found)
         return list(series.numbers), list(zip(minutes.numbers[:found], heights.numbers[:found])), high
 
+    def hourly(self, number, places):
+        cards = Lent(ctypes.c_uint8, places)
+        size = 0
+        try:
+            size = self.call(self.clock.hourly_into, cards.numbers, number)
+        finally:
+            cards.stands(size)
+        return bytes(cards.numbers[:size])
+
 
 def main():
     clock = Guarded()

@@ -16,7 +16,7 @@ ROOT = os.path.join(os.path.dirname(os.path.abspath(__file__)), "..", "..")
 sys.path.insert(0, os.path.join(ROOT, "second"))
 
 from cards import read_card_file  # noqa: E402
-from cuvalimodo import Clock, Counts, Refusal, Refused, Turn, check_cards, refusal_text  # noqa: E402
+from cuvalimodo import HOURLY_SIZE, Clock, Counts, Refusal, Refused, Turn, check_cards, refusal_text  # noqa: E402
 from incident import LATITUDE, VICTORIA  # noqa: E402
 
 LAST = 31 * 1440
@@ -139,6 +139,31 @@ class Buffers(unittest.TestCase):
             self.clock.bookings([0, LAST + 1])
         self.assertEqual(caught.exception.place, 2)
 
+    def test_hourly_cards(self):
+        cards = self.clock.hourly(7120)
+        heights = ["%4d" % ((height + 50) // 100) for height in self.clock.series(60, 60, 744)]
+        lines = ["%d  7120       %2d 776%s\n" % (1 + k % 2, 1 + k // 2, "".join(heights[12 * k : 12 * k + 12])) for k in range(62)]
+        self.assertEqual(cards.decode(), "".join(lines))
+        self.assertEqual(len(cards), HOURLY_SIZE)
+        for lent in (bytearray(HOURLY_SIZE), array("B", bytes(HOURLY_SIZE)), memoryview(bytearray(HOURLY_SIZE)), (ctypes.c_uint8 * HOURLY_SIZE)()):
+            self.assertEqual(self.clock.hourly_into(lent, Index(7120)), HOURLY_SIZE)
+            self.assertEqual(bytes(lent), cards)
+        for wrong in (array("b", cards), array("I", cards + bytes(2)), [0] * HOURLY_SIZE, cards, memoryview(bytearray(2 * HOURLY_SIZE))[::2]):
+            with self.assertRaises((TypeError, BufferError)):
+                self.clock.hourly_into(wrong, 7120)
+
+    def test_a_part_of_a_buffer_of_cards(self):
+        self.clock.set_date(1977, 2)
+        lent = bytearray(b"." * HOURLY_SIZE)
+        size = self.clock.hourly_into(memoryview(lent)[1:], 99999)
+        self.assertEqual((size, bytes(lent)), (28 * 138, (b"." + self.clock.hourly(99999)).ljust(HOURLY_SIZE, b".")))
+        before = bytes(lent)
+        for number, places, why in ((100000, size, Refusal.BAD_STATION_NUMBER), (7120, size - 1, Refusal.SHORT_BUFFER), (7120, 0, Refusal.SHORT_BUFFER)):
+            with self.assertRaises(Refused) as caught:
+                self.clock.hourly_into(memoryview(lent)[:places], number)
+            self.assertEqual((caught.exception.number, caught.exception.place), (why, 0))
+        self.assertEqual(bytes(lent), before)
+
     def test_a_year(self):
         daily, turns = self.clock.year(1976, 0, 1440, 367, 0, YEAR)
         self.assertEqual(daily[182], self.wanted[0])
@@ -170,6 +195,7 @@ class Numbers(unittest.TestCase):
             for call in (lambda n: clock.series(0, n, 1), lambda n: clock.turns(n, 9), lambda n: clock.turns(0, n), refusal_text):
                 self.overflows(call, wrong)
             self.overflows(clock.bookings, [0, wrong])
+            self.overflows(clock.hourly, wrong)
             for place in range(5):
                 self.overflows(lambda n: clock.year_into(array("q"), array("I"), array("q"), *([1976, 0, 60, 0, 0][:place] + [n] + [0] * (4 - place))), wrong)
 

@@ -221,6 +221,14 @@ fn year(held: &Held, sheet: Sheet, count: usize, minute_places: usize, height_pl
     Ok(format!("year {count}{} {turns}", spaced(series)))
 }
 
+fn hourly(held: &Held, number: u32, size: usize) -> Result<String, Refusal> {
+    let mut lent = Lent::new(&vec![PAINT as u8; size], PAINT as u8);
+    let said = held.read(|clock| clock.hourly(number, lent.numbers()));
+    let cards = lent.stands(said.unwrap_or(0));
+    let lines: String = cards.iter().map(|&byte| char::from(byte)).collect();
+    Ok(format!("hourly {}\n{}", said?, lines.strip_suffix('\n').unwrap_or(&lines)))
+}
+
 /// Reads one call and makes it; nothing where the script is not of the form.
 fn play_call(held: &mut Held, script: &mut Script) -> Option<Result<String, Refusal>> {
     let words = script.words()?;
@@ -267,6 +275,11 @@ fn play_call(held: &mut Held, script: &mut Script) -> Option<Result<String, Refu
             let (count, minutes, heights) = (place(count)?, place(minutes)?, place(heights)?);
             script.line += 1;
             year(held, sheet, count, minutes, heights)
+        }
+        [b"hourly", number, size] => {
+            let (number, size) = (word(number)?, place(size)?);
+            script.line += 1;
+            hourly(held, number, size)
         }
         _ => return None,
     })

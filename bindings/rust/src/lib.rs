@@ -1,4 +1,4 @@
-//! A berth clock: tidal heights, and high and low waters, from a card file of constituents, a station and a month.
+//! A berth clock: tidal heights, high and low waters, and hourly cards, from a card file of constituents, a station and a month.
 //!
 //! The calls are those of the proved library of Cuvalimodo (`crates/cuvalimodo_c`). One that is turned down gives a [`Refusal`], with document 01's
 //! number and place, and leaves the clock and the lent buffers as they were.
@@ -31,9 +31,10 @@
 mod sys;
 
 use std::fmt;
-pub use sys::{Record, Sheet, CLOCK_SIZE};
+pub use sys::{Record, Sheet, CLOCK_SIZE, HOURLY_SIZE};
 
-/// A refused call: why, by document 01's number, and its place (a card's line, a station's record or a booked minute, from 1; else 0).
+/// A refused call: why, by document 01's number, and its place (a card's line, a station's record, a booked minute or an hourly card, from 1;
+/// else 0).
 #[derive(Clone, Copy, Debug, PartialEq, Eq, Hash)]
 pub struct Refusal {
     /// Why: one of the constants below.
@@ -305,6 +306,32 @@ impl Clock {
         let said = sys::year(&self.0, sheet, series, minutes, heights);
         accepted(said.number, said.place)?;
         Ok(Turns { count: said.count, first_high: said.high })
+    }
+
+    /// Writes the month's hourly cards, (I1,1X,I5,7X,3I2,12A4), under a station number of 0 to 99,999 to the front of the buffer; what is past them
+    /// stays. How many bytes they take: 138 for each day of the month, so that [`HOURLY_SIZE`] are enough.
+    ///
+    /// ```
+    /// use cuvalimodo::{Clock, Record, Refusal, HOURLY_SIZE};
+    /// let cards = include_bytes!(concat!(env!("CARGO_MANIFEST_DIR"), "/../../data/standard-cards.txt"));
+    /// let mut clock = Clock::new();
+    /// clock.load_cards(cards)?;
+    /// clock.set_station(2905, &[Record { place: clock.place_of("Z0").unwrap(), amplitude: 18450, phase: 0 }])?;
+    /// clock.set_date(1976, 2)?;
+    /// let mut hourly = [b'.'; HOURLY_SIZE];
+    /// let bytes = clock.hourly(7120, &mut hourly)?;
+    /// assert_eq!(bytes, 29 * 138);
+    /// assert_eq!(hourly[..69], *b"1  7120        1 276 185 185 185 185 185 185 185 185 185 185 185 185\n");
+    /// assert!(hourly[bytes..].iter().all(|&byte| byte == b'.'));
+    ///
+    /// assert_eq!(clock.hourly(100_000, &mut hourly), Err(Refusal { number: Refusal::BAD_STATION_NUMBER, place: 0 }));
+    /// assert_eq!(clock.hourly(7120, &mut hourly[..bytes - 1]), Err(Refusal { number: Refusal::SHORT_BUFFER, place: 0 }));
+    /// # Ok::<(), Refusal>(())
+    /// ```
+    pub fn hourly(&self, number: u32, cards: &mut [u8]) -> Result<usize, Refusal> {
+        let said = sys::hourly(&self.0, number, cards);
+        accepted(said.number, said.place)?;
+        Ok(said.bytes)
     }
 
     /// The clock's bytes. A refused call leaves the clock's state as it was, which is proved, and every byte, which is tested (`bindings/compare.py`).

@@ -8,6 +8,9 @@
 /// How many bytes a clock has.
 pub const CLOCK_SIZE: usize = 16832;
 
+/// How many bytes the hourly cards of 31 days take.
+pub const HOURLY_SIZE: usize = 4278;
+
 /// How many bytes a name has.
 pub const NAME_SIZE: usize = 5;
 
@@ -87,6 +90,13 @@ pub struct Turnings {
 }
 
 #[repr(C)]
+pub struct Cards {
+    pub number: u32,
+    pub place: usize,
+    pub bytes: usize,
+}
+
+#[repr(C)]
 pub struct TableNames {
     pub count: usize,
     pub bytes: [u8; 160 * NAME_SIZE],
@@ -130,6 +140,7 @@ extern "C" {
         heights: *mut i64,
         heights_length: usize,
     ) -> Turnings;
+    fn cuvalimodo_hourly(clock: &Clock, station: u32, cards: *mut u8, cards_length: usize) -> Cards;
     fn cuvalimodo_refusal_text(number: u32) -> Text;
 }
 
@@ -191,6 +202,11 @@ pub fn year(clock: &Clock, sheet: Sheet, series: &mut [i64], minutes: &mut [u32]
     unsafe {
         cuvalimodo_year(clock, year, start, step, first, last, series.as_mut_ptr(), series.len(), minutes, minutes_length, heights, heights_length)
     }
+}
+
+pub fn hourly(clock: &Clock, station: u32, cards: &mut [u8]) -> Cards {
+    // SAFETY: see the head of this file.
+    unsafe { cuvalimodo_hourly(clock, station, cards.as_mut_ptr(), cards.len()) }
 }
 
 pub fn refusal_text(number: u32) -> Text {

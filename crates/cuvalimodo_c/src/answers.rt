@@ -1,10 +1,12 @@
 // What the calls say, in numbers: the structs that cross to other languages.
 ghost use mathlib.Core.Path.{_≡_};
 ghost use Rattle.refusals.specs.Outcome.{outcomeOf};
+ghost use Rattle.hourly.specs.Answers.{cardsReturned};
 ghost use Rattle.clock.specs.Returned.{heightReturned, turnsReturned};
-ghost use Rattle.cuvalimodo_c.specs.Answers.{verdictReturned, readingReturned, turningsReturned, Plain, PlainReading, PlainTurnings};
+ghost use Rattle.cuvalimodo_c.specs.Answers.{verdictReturned, readingReturned, turningsReturned, cardsTold, Plain, PlainReading, PlainTurnings, PlainCards};
 use clock::HeightAnswer;
 use clock::TurnsAnswer;
+use hourly::CardsAnswer;
 use refusals::Answer;
 
 // What a call says: number 0 where it is accepted, else the refusal's number and place.
@@ -29,6 +31,14 @@ pub struct Turnings {
     pub place: usize,
     pub count: usize,
     pub high: bool,
+}
+
+// How many bytes a month's hourly cards take, with number 0; or the refusal's number and place.
+#[repr(C)]
+pub struct Cards {
+    pub number: u32,
+    pub place: usize,
+    pub bytes: usize,
 }
 
 // The words of a refusal, with zeros behind them: a C string.
@@ -87,6 +97,24 @@ pub fn told_turns(answer: TurnsAnswer) -> Turnings
             place,
             count: 0,
             high: false,
+        },
+    }
+}
+
+// The answer of hourly cards in numbers.
+pub fn told_cards(answer: CardsAnswer) -> Cards
+    ensures { λ r. ⌜ (cardsTold r ≡ cardsReturned answer) × PlainCards r ⌝ }
+{
+    match answer {
+        CardsAnswer::Bytes(bytes) => Cards {
+            number: 0,
+            place: 0,
+            bytes,
+        },
+        CardsAnswer::Refused(refusal, place) => Cards {
+            number: refusals::number_of(refusal),
+            place,
+            bytes: 0,
         },
     }
 }

@@ -2,10 +2,11 @@
 ghost use mathlib.Core.Path.{_≡_};
 ghost use Rattle.refusals.specs.Outcome.{outcomeOf};
 ghost use Rattle.clock.specs.View.{Made};
-ghost use Rattle.clock.specs.Posts.{CardsPost, StationPost, DatePost, SeriesPost, TurnsPost, YearPost};
+ghost use Rattle.clock.specs.Posts.{CardsPost, StationPost, DatePost, SeriesPost, TurnsPost, YearPost, HourlyPost};
 ghost use Rattle.station.specs.Records.{recordsOf};
-ghost use Rattle.cuvalimodo_c.specs.Answers.{verdictReturned, turningsReturned, Plain, PlainTurnings};
+ghost use Rattle.cuvalimodo_c.specs.Answers.{verdictReturned, turningsReturned, cardsTold, Plain, PlainTurnings, PlainCards};
 use crate::answers;
+use crate::answers::Cards;
 use crate::answers::Turnings;
 use crate::answers::Verdict;
 use calls::annual::Sheet;
@@ -98,4 +99,12 @@ pub fn year(
         last,
     };
     answers::told_turns(clock::year(clock, sheet, series, minutes, heights))
+}
+
+// A month's hourly cards.
+pub fn hourly(clock: Clock, station: u32, cards: &mut [u8]) -> Cards
+    requires { ⌜ Made clock ⌝ }
+    ensures { λ r. ⌜ HourlyPost clock station (now (cards .entry)) (now (cards .exit)) (cardsTold r) × PlainCards r ⌝ }
+{
+    answers::told_cards(clock::hourly(clock, station, cards))
 }

@@ -12,12 +12,13 @@ ghost use Rattle.refusal_words.specs.Words.{wordsOf, bytesOf, zerosBehind};
 ghost use Rattle.columns.specs.Names.{namesFrom};
 ghost use Rattle.calls.specs.Names.{namesIn};
 ghost use Rattle.clock.specs.View.{view, Made};
-ghost use Rattle.clock.specs.Posts.{NewPost, CardsPost, StationPost, DatePost, HeightPost, SeriesPost, TurnsPost, YearPost, BookingsPost};
-ghost use Rattle.cuvalimodo_c.specs.Answers.{verdictReturned, readingReturned, turningsReturned, Plain, PlainReading, PlainTurnings};
+ghost use Rattle.clock.specs.Posts.{NewPost, CardsPost, StationPost, DatePost, HeightPost, SeriesPost, TurnsPost, YearPost, BookingsPost, HourlyPost};
+ghost use Rattle.cuvalimodo_c.specs.Answers.{verdictReturned, readingReturned, turningsReturned, cardsTold, Plain, PlainReading, PlainTurnings, PlainCards};
 
 mod answers; // what the calls say, in numbers
 mod byvalue; // the calls by value, in numbers
 
+use crate::answers::Cards;
 use crate::answers::Reading;
 use crate::answers::Text;
 use crate::answers::Turnings;
@@ -165,6 +166,15 @@ pub extern "C" fn cuvalimodo_bookings(
 {
     let answer = clock::bookings_lent(clock, minutes, heights);
     answers::told(answer)
+}
+
+// The month's hourly cards under a station number, into the lent buffer from its front; or a refusal.
+#[no_mangle]
+pub extern "C" fn cuvalimodo_hourly(clock: &Clock, station: u32, cards: &mut [u8]) -> Cards
+    requires { ⌜ Made (now clock) ⌝ }
+    ensures { λ r. ⌜ HourlyPost (now (clock .entry)) station (now (cards .entry)) (now (cards .exit)) (cardsTold r) × PlainCards r ⌝ }
+{
+    byvalue::hourly(*clock, station, cards)
 }
 
 // The names of the clock's frequencies by place, none where it has no table.

@@ -1,10 +1,8 @@
 -- `cuvalimodo_bookings` meets its contract: a walk of its MIR. The reference and the slices go on to `clock::bookings_lent` (`PassedOn`), and the answer to `told`. Assumes nothing.
-use Rattle.clock.proofs.Walking.{_≡_, refl, subst, ℕ, List, [], _∷_, length, URA, named, SProp, ent, emp, id⊢, Lft, Share, Memory, Routine, Heap, Calls, Loops, WpFn, Atoms, Fun, factI, givenOf, tablesOf, Given, ‵, raw, _$_, _∵_, !, qed, move, keep, use0, fjoin, suffices, frame, done, whole, sub, look-in, look, init, forget, stop, hop, fld, from, load, and-then, no-more, assigns, land, returns, enter, alloc1, alloc0, params1, pass1, pass0, free1, free0, FmC, owns, Is, shows, u32, RefT, ptr-vals, peeks, nothing, Vals, Contract, Triple, cited, says, needs, Stays, walkOf, Walks, ends-at, walked, Met, asks, walks-meet}
+use Rattle.clock.proofs.Walking.{_≡_, refl, subst, ℕ, List, [], _∷_, length, URA, named, SProp, ent, emp, id⊢, Lft, Share, Memory, Routine, Heap, Calls, Loops, WpFn, Atoms, Fun, factI, givenOf, tablesOf, Given, ‵, raw, _$_, _∵_, !, qed, move, keep, use0, fjoin, suffices, frame, done, look, init, stop, from, load, and-then, no-more, land, returns, enter, alloc1, alloc0, params1, pass1, pass0, free0, FmC, owns, Is, shows, u32, RefT, ptr-vals, peeks, nothing, Vals, Contract, Triple, cited, says, needs, Stays, walkOf, Walks, ends-at, walked, Met, asks, walks-meet}
 use mathlib.Core.Path.{sym}
 use lib.IntN.{ℤ}
 use contract.Lifetimes.{toks}
-use types.Part.{agg}
-use types.Run.{addr}
 use denote.Builtin.{i64}
 use denote.Ref.{ShrRef, shr-tells}
 use denote.Slice.{sliceVal, ShrSlice, MutSlice, Room, slice-vals, shr-slice-tells, mut-slice-tells}
@@ -25,6 +23,7 @@ use Rattle.clock.proofs.bookings_lent.Symbol.{name as #first}
 use Rattle.clock.proofs.bookings_lent.Met as first-thm
 use Rattle.cuvalimodo_c.specs.declared.answers.Verdict.{Verdict}
 use Rattle.cuvalimodo_c.specs.Answers.{verdictReturned, Plain}
+use Rattle.cuvalimodo_c.proofs.Lending.{relent, freed}
 use Rattle.cuvalimodo_c.proofs.answers.Verdict as R
 use Rattle.cuvalimodo_c.proofs.answers.Verdict.Laws as R′
 use Rattle.cuvalimodo_c.proofs.answers.told as then
@@ -65,21 +64,20 @@ module _ {M : Type 1} (𝓤 : URA M) (H : Heap 𝓤) (A : Atoms 𝓤) (W : Given
         alloc1 ! (λ l₀. alloc1 ! (λ l₁. alloc1 ! (λ l₂. alloc1 ! (λ l₃. alloc1 ! (λ l₄. alloc1 ! (λ l₅. alloc1 ! (λ l₆. alloc0 ! $ params1 ! $
         pass1 ! (init ! 10 refl (tt, tt)) $ pass1 ! (init ! 8 refl (tt, (tt, (record { fits = gm .0 }, tt)))) $ pass1 ! (init ! 6 refl (tt, (tt, (record { fits = gh .0 }, tt)))) $ pass0 ! $ move ! (14 ∷ 15 ∷ []) $
         -- [the tokens; what the parameters own; _6; …; _5; …; _4; …; _3; …; _2; …; _1; …; _0; …]
-        assigns ! (addr ! (from ! (fld ! refl (hop ! (look-in ! 8 (sub ! 0 refl (whole !))) (stop !))))) (from ! (stop !)) (init ! 4 refl (tt, tt)) $
-        assigns ! (agg ! (and-then ! (load ! (from ! (stop !)) (look ! 4 refl)) (and-then ! (load ! (from ! (fld ! refl (stop !))) (look-in ! 8 (sub ! 1 refl (whole !)))) (no-more !)))) (from ! (stop !)) (init ! 2 refl (tt, (tt, (record { fits = gh .0 }, tt)))) $
+        move ! (8 ∷ 4 ∷ 2 ∷ []) $ relent ! refl refl refl (gh .0) $ move ! (3 ∷ 4 ∷ []) $
+        -- [the tokens; what the parameters own; _3; _5; _6; …; …; _4; …; …; _2; …; _1; …; _0; …]
         asks 𝓤 H A first.ended (first.clauses 𝓤 H A at-mem run) W (ghosts .0) tt (λ r ws. Found r (ws .1 .1 .0)) (factI 𝓤 (Made (x .now)) (emp 𝓤) made) (λ r ws. id⊢ 𝓤 _) fm known-first
-        (and-then ! (load ! (from ! (stop !)) (look ! 11 refl)) (and-then ! (load ! (from ! (stop !)) (look ! 9 refl)) (and-then ! (load ! (from ! (stop !)) (look ! 1 refl)) (no-more !))))
+        (and-then ! (load ! (from ! (stop !)) (look ! 11 refl)) (and-then ! (load ! (from ! (stop !)) (look ! 9 refl)) (and-then ! (load ! (from ! (stop !)) (look ! 3 refl)) (no-more !))))
         (λ v r ws p. peeks ! N.the-row (Is N.the-row) (shows 𝓤 H A N.the-row) r (v ∷ []) (λ is.
-        -- [the answer; the tokens; what is said of the parameters; _6; …; _5; …; _4; …; _3; …; _2; …; _1; …; _0; …]
-        land ! (from ! (stop !)) (init ! 7 refl (EL.lawful N.the-type N′.the-laws 𝓤 H A W tt .typed r _ is .0)) $
+        -- [the answer; the tokens; what is said of the parameters; _3; _5; _6; …; …; _4; …; …; _2; …; _1; …; _0; …]
+        land ! (from ! (stop !)) (init ! 8 refl (EL.lawful N.the-type N′.the-laws 𝓤 H A W tt .typed r _ is .0)) $
         nothing ! $ move ! (1 ∷ 0 ∷ []) $ fjoin ! $ use0 W (raw (emp 𝓤)) (id⊢ 𝓤 _) $
         asks 𝓤 H A then.ended (then.clauses 𝓤 H A at-mem run) W (tt, tt, tt, (r, tt), (v ∷ [], tt)) tt (λ d ws₁. Told r d) (id⊢ 𝓤 _) (λ d ws₁. id⊢ 𝓤 _) fm known-then
-        (and-then ! (load ! (from ! (stop !)) (look ! 7 refl)) (no-more !))
+        (and-then ! (load ! (from ! (stop !)) (look ! 8 refl)) (no-more !))
         (λ u d ws₁ e. peeks ! R.the-row (Is R.the-row) (shows 𝓤 H A R.the-row) d (u ∷ []) (λ is₁.
-        -- [the verdict; …; …; the tokens; what is said of the parameters; _6; …; _5; …; _4; …; _3; …; _2; …; _1; …; _0; …]
-        land ! (from ! (stop !)) (init ! 17 refl (LL.lawful R.the-type R′.the-laws 𝓤 H A W .typed d _ is₁ .0)) $
-        returns ! (look ! 17 refl) $ forget ! 5 refl $ forget ! 7 refl $ forget ! 9 refl $ forget ! 11 refl $ forget ! 13 refl $ forget ! 15 refl $ forget ! 17 refl $
-        move ! (17 ∷ 18 ∷ []) $ free1 ! $ move ! (15 ∷ 16 ∷ []) $ free1 ! $ move ! (13 ∷ 14 ∷ []) $ free1 ! $ move ! (11 ∷ 12 ∷ []) $ free1 ! $ move ! (9 ∷ 10 ∷ []) $ free1 ! $ move ! (7 ∷ 8 ∷ []) $ free1 ! $ move ! (5 ∷ 6 ∷ []) $ free1 ! $ free0 ! $
+        -- [the verdict; …; …; the tokens; what is said of the parameters; _3; _5; _6; …; …; _4; …; …; _2; …; _1; …; _0; …]
+        land ! (from ! (stop !)) (init ! 17 refl (LL.lawful R.the-type R′.the-laws 𝓤 H A W .typed d _ is₁ .0)) $ returns ! (look ! 17 refl) $
+        move ! (17 ∷ 18 ∷ 15 ∷ 16 ∷ 13 ∷ 14 ∷ 5 ∷ 12 ∷ 10 ∷ 11 ∷ 6 ∷ 9 ∷ 7 ∷ 8 ∷ []) $ freed ! $ freed ! $ freed ! $ freed ! $ freed ! $ freed ! $ freed ! $ free0 ! $
         suffices ! _ (ends-at 𝓤 H A it.ended stayed (it.clauses 𝓤 H A at-mem run) W ghosts u d ws (tt, (tt, (tt, tt)))) $ says ! (subst (BookingsPost (x .now) (minutes .now) (heights .now) (ws .1 .1 .0)) (sym (e .0)) p, e .1) $
         keep ! (3 ∷ 4 ∷ 0 ∷ []) $ frame ! $ frame ! $ done !))))))))))))
 

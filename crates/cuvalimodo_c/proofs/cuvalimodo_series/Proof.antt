@@ -1,9 +1,7 @@
 -- `cuvalimodo_series` meets its contract: a walk of its MIR. The clock is copied (`Copied`), the slice is lent on, and both go to `byvalue::series` (`PassedOn`). Assumes nothing.
-use Rattle.clock.proofs.Walking.{refl, ℕ, _<_, _^_, List, [], _∷_, length, URA, named, w32, Val, vint, SProp, ent, emp, id⊢, Lft, Share, flft, Memory, Routine, Heap, Calls, Loops, WpFn, Atoms, Fun, factI, givenOf, tablesOf, Given, ‵, raw, _⊛_, _$_, _∵_, !, qed, move, split, join, fsplit, suffices, frame, done, whole, sub, look-in, look, init, forget, stop, hop, fld, from, load, and-then, no-more, assigns, land, returns, enter, alloc1, alloc0, params1, pass1, pass0, free1, free0, FmC, owns, Is, shows, uint-vals, uint-tells, u32, RefT, ptr-vals, peeks, Vals, Contract, Triple, cited, says, needs, Stays, walkOf, Walks, ends-at, walked, Met, asks, walks-meet}
+use Rattle.clock.proofs.Walking.{refl, ℕ, _<_, _^_, List, [], _∷_, length, URA, named, w32, Val, vint, SProp, ent, emp, id⊢, Lft, Share, flft, Memory, Routine, Heap, Calls, Loops, WpFn, Atoms, Fun, factI, givenOf, tablesOf, Given, ‵, raw, _⊛_, _$_, _∵_, !, qed, move, split, join, fsplit, suffices, frame, done, look, init, stop, from, load, and-then, no-more, land, returns, enter, alloc1, alloc0, params1, pass1, pass0, free0, FmC, owns, Is, shows, uint-vals, uint-tells, u32, RefT, ptr-vals, peeks, Vals, Contract, Triple, cited, says, needs, Stays, walkOf, Walks, ends-at, walked, Met, asks, walks-meet}
 use lib.IntN.{ℤ}
 use contract.Lifetimes.{toks}
-use types.Part.{agg}
-use types.Run.{addr}
 use denote.Builtin.{i64}
 use denote.Ref.{ShrRef, shr-tells}
 use denote.Slice.{sliceVal, MutSlice, Room, slice-vals, mut-slice-tells}
@@ -16,6 +14,7 @@ use Rattle.cuvalimodo_c.specs.declared.answers.Verdict.{Verdict}
 use Rattle.cuvalimodo_c.specs.Answers.{verdictReturned, Plain}
 use Rattle.cuvalimodo_c.proofs.Stored.{clockVal}
 use Rattle.cuvalimodo_c.proofs.Copied.{copied}
+use Rattle.cuvalimodo_c.proofs.Lending.{relent, freed}
 use Rattle.clock.proofs.PassedOn.{all-passed, all-go}
 use Rattle.cuvalimodo_c.proofs.answers.Verdict as R
 use Rattle.cuvalimodo_c.proofs.answers.Verdict.Laws as R′
@@ -57,16 +56,14 @@ module _ {M : Type 1} (𝓤 : URA M) (H : Heap 𝓤) (A : Atoms 𝓤) (W : Given
         move ! (16 ∷ []) $ split ! $ move ! (18 ∷ []) $ fsplit ! $ move ! (0 ∷ 1 ∷ 2 ∷ 8 ∷ 16 ∷ []) $
         copied 𝓤 H A W κ q x _ l₀ l₁ 5 l₅ _ _ _ (λ _. from ! (stop !)) $
         -- [what the call's parameters own; the clock's token; the copy; _1; the slice's token; _7; …; _6; …; …; _4; …; _3; …; _2; …; …; _0; …]
-        assigns ! (addr ! (from ! (fld ! refl (hop ! (look-in ! 10 (sub ! 0 refl (whole !))) (stop !))))) (from ! (stop !)) (init ! 7 refl (tt, tt)) $
-        assigns ! (agg ! (and-then ! (load ! (from ! (stop !)) (look ! 7 refl)) (and-then ! (load ! (from ! (fld ! refl (stop !))) (look-in ! 10 (sub ! 1 refl (whole !)))) (no-more !)))) (from ! (stop !)) (init ! 5 refl (tt, (tt, (record { fits = gn .0 }, tt)))) $
-        move ! (4 ∷ 0 ∷ []) $
+        move ! (10 ∷ 7 ∷ 5 ∷ []) $ relent ! refl refl refl (gn .0) $ move ! (7 ∷ 3 ∷ []) $
+        -- [the slice's token; what the call's parameters own; _4; _6; _7; the clock's token; the copy; _1; …; …; …; …; _3; …; _2; …; …; _0; …]
         asks 𝓤 H A inner.ended (inner.clauses 𝓤 H A at-mem run) W ((κ₁, tt), (q₁, tt), tt, (x .now, (start, (step, (heights, tt)))), (clockVal (x .now) ∷ [], at .1)) tt (λ r ws. Said r (ws .1 .1 .1 .0)) (factI 𝓤 (Made (x .now)) (emp 𝓤) made) (λ r ws. id⊢ 𝓤 _) fm known
-        (and-then ! (load ! (from ! (stop !)) (look ! 2 refl)) (and-then ! (load ! (from ! (stop !)) (look ! 13 refl)) (and-then ! (load ! (from ! (stop !)) (look ! 11 refl)) (and-then ! (load ! (from ! (stop !)) (look ! 4 refl)) (no-more !)))))
+        (and-then ! (load ! (from ! (stop !)) (look ! 5 refl)) (and-then ! (load ! (from ! (stop !)) (look ! 13 refl)) (and-then ! (load ! (from ! (stop !)) (look ! 11 refl)) (and-then ! (load ! (from ! (stop !)) (look ! 3 refl)) (no-more !)))))
         (λ v r ws p. peeks ! R.the-row (Is R.the-row) (shows 𝓤 H A R.the-row) r (v ∷ []) (λ is.
-        -- [the verdict; the slice's token; what is said of the last heights; the clock's token; the copy; _1; _7; …; _6; …; …; _4; …; _3; …; _2; …; …; _0; …]
-        land ! (from ! (stop !)) (init ! 18 refl (LL.lawful R.the-type R′.the-laws 𝓤 H A W .typed r _ is .0)) $
-        returns ! (look ! 18 refl) $ forget ! 4 refl $ forget ! 5 refl $ forget ! 6 refl $ forget ! 8 refl $ forget ! 11 refl $ forget ! 13 refl $ forget ! 15 refl $ forget ! 18 refl $
-        move ! (18 ∷ 19 ∷ []) $ free1 ! $ move ! (5 ∷ 17 ∷ []) $ free1 ! $ move ! (14 ∷ 15 ∷ []) $ free1 ! $ move ! (12 ∷ 13 ∷ []) $ free1 ! $ move ! (10 ∷ 11 ∷ []) $ free1 ! $ move ! (4 ∷ 9 ∷ []) $ free1 ! $ move ! (6 ∷ 7 ∷ []) $ free1 ! $ move ! (4 ∷ 5 ∷ []) $ free1 ! $ free0 ! $
+        -- [the verdict; the slice's token; what is said of the last heights; _4; _6; _7; the clock's token; the copy; _1; …; …; …; …; _3; …; _2; …; …; _0; …]
+        land ! (from ! (stop !)) (init ! 18 refl (LL.lawful R.the-type R′.the-laws 𝓤 H A W .typed r _ is .0)) $ returns ! (look ! 18 refl) $
+        move ! (18 ∷ 19 ∷ 8 ∷ 17 ∷ 15 ∷ 16 ∷ 13 ∷ 14 ∷ 3 ∷ 12 ∷ 7 ∷ 11 ∷ 4 ∷ 10 ∷ 5 ∷ 9 ∷ []) $ freed ! $ freed ! $ freed ! $ freed ! $ freed ! $ freed ! $ freed ! $ freed ! $ free0 ! $
         suffices ! _ (ends-at 𝓤 H A it.ended stayed (it.clauses 𝓤 H A at-mem run) W ghosts v r ws (tt, (tt, (tt, (tt, tt))))) $ says ! p $
         move ! (3 ∷ 1 ∷ []) $ join ! $ frame ! $ move ! (1 ∷ []) $ frame ! $ done !)))))))))))
 

@@ -1,9 +1,7 @@
 -- `cuvalimodo_year` meets its contract: a walk of its MIR. The clock is copied (`Copied`), the three slices are lent on, and all goes to `byvalue::year` (`PassedOn`). Assumes nothing.
-use Rattle.clock.proofs.Walking.{refl, ℕ, _<_, _^_, List, [], _∷_, length, URA, named, w32, Val, vint, SProp, ent, emp, id⊢, Lft, Share, flft, Memory, Routine, Heap, Calls, Loops, WpFn, Atoms, Fun, factI, givenOf, tablesOf, Given, ‵, raw, _⊛_, _$_, _∵_, !, qed, move, split, join, fsplit, suffices, frame, done, whole, sub, look-in, look, init, forget, stop, hop, fld, from, load, and-then, no-more, assigns, land, returns, enter, alloc1, alloc0, params1, pass1, pass0, free1, free0, FmC, owns, Is, shows, uint-vals, uint-tells, u32, RefT, ptr-vals, peeks, Vals, Contract, Triple, cited, says, needs, Stays, walkOf, Walks, ends-at, walked, Met, asks, walks-meet}
+use Rattle.clock.proofs.Walking.{refl, ℕ, _<_, _^_, List, [], _∷_, length, URA, named, w32, Val, vint, SProp, ent, emp, id⊢, Lft, Share, flft, Memory, Routine, Heap, Calls, Loops, WpFn, Atoms, Fun, factI, givenOf, tablesOf, Given, ‵, raw, _⊛_, _$_, _∵_, !, qed, move, split, join, fsplit, suffices, frame, done, look, init, stop, from, load, and-then, no-more, land, returns, enter, alloc1, alloc0, params1, pass1, pass0, free0, FmC, owns, Is, shows, uint-vals, uint-tells, u32, RefT, ptr-vals, peeks, Vals, Contract, Triple, cited, says, needs, Stays, walkOf, Walks, ends-at, walked, Met, asks, walks-meet}
 use lib.IntN.{ℤ}
 use contract.Lifetimes.{toks}
-use types.Part.{agg}
-use types.Run.{addr}
 use denote.Builtin.{i64}
 use denote.Ref.{ShrRef, shr-tells}
 use denote.Slice.{sliceVal, MutSlice, Room, slice-vals, mut-slice-tells}
@@ -16,6 +14,7 @@ use Rattle.cuvalimodo_c.specs.declared.answers.Turnings.{Turnings}
 use Rattle.cuvalimodo_c.specs.Answers.{turningsReturned, PlainTurnings}
 use Rattle.cuvalimodo_c.proofs.Stored.{clockVal}
 use Rattle.cuvalimodo_c.proofs.Copied.{copied}
+use Rattle.cuvalimodo_c.proofs.Lending.{relent, freed}
 use Rattle.clock.proofs.PassedOn.{all-passed, all-go}
 use Rattle.cuvalimodo_c.proofs.answers.Turnings as R
 use Rattle.cuvalimodo_c.proofs.answers.Turnings.Laws as R′
@@ -65,25 +64,15 @@ module _ {M : Type 1} (𝓤 : URA M) (H : Heap 𝓤) (A : Atoms 𝓤) (W : Given
         move ! (34 ∷ []) $ split ! $ move ! (36 ∷ []) $ fsplit ! $ move ! (0 ∷ 1 ∷ 2 ∷ 16 ∷ 34 ∷ []) $
         copied 𝓤 H A W κ q x _ l₀ l₁ 10 l₁₀ _ _ _ (λ _. from ! (stop !)) $
         -- [what the call's parameters own; the clock's token; the copy; _1; the slices' tokens; _16; …; _15; …; _14; …; _13; …; _12; …; _11; …; …; _9; …; _8; …; _7; …; _6; …; _5; …; _4; …; _3; …; _2; …; …; _0; …]
-        assigns ! (addr ! (from ! (fld ! refl (hop ! (look-in ! 22 (sub ! 0 refl (whole !))) (stop !))))) (from ! (stop !)) (init ! 15 refl (tt, tt)) $
-        assigns ! (agg ! (and-then ! (load ! (from ! (stop !)) (look ! 15 refl)) (and-then ! (load ! (from ! (fld ! refl (stop !))) (look-in ! 22 (sub ! 1 refl (whole !)))) (no-more !)))) (from ! (stop !)) (init ! 13 refl (tt, (tt, (record { fits = gk .0 }, tt)))) $
-        assigns ! (addr ! (from ! (fld ! refl (hop ! (look-in ! 20 (sub ! 0 refl (whole !))) (stop !))))) (from ! (stop !)) (init ! 11 refl (tt, tt)) $
-        assigns ! (agg ! (and-then ! (load ! (from ! (stop !)) (look ! 11 refl)) (and-then ! (load ! (from ! (fld ! refl (stop !))) (look-in ! 20 (sub ! 1 refl (whole !)))) (no-more !)))) (from ! (stop !)) (init ! 9 refl (tt, (tt, (record { fits = gm .0 }, tt)))) $
-        assigns ! (addr ! (from ! (fld ! refl (hop ! (look-in ! 18 (sub ! 0 refl (whole !))) (stop !))))) (from ! (stop !)) (init ! 7 refl (tt, tt)) $
-        assigns ! (agg ! (and-then ! (load ! (from ! (stop !)) (look ! 7 refl)) (and-then ! (load ! (from ! (fld ! refl (stop !))) (look-in ! 18 (sub ! 1 refl (whole !)))) (no-more !)))) (from ! (stop !)) (init ! 5 refl (tt, (tt, (record { fits = gn .0 }, tt)))) $
-        move ! (4 ∷ 0 ∷ []) $
+        move ! (22 ∷ 15 ∷ 13 ∷ []) $ relent ! refl refl refl (gk .0) $ move ! (21 ∷ 14 ∷ 12 ∷ []) $ relent ! refl refl refl (gm .0) $ move ! (20 ∷ 13 ∷ 11 ∷ []) $ relent ! refl refl refl (gn .0) $ move ! (13 ∷ 9 ∷ []) $
+        -- [the slices' tokens; what the call's parameters own; _9; _15; _16; _8; _13; _14; _7; _11; _12; the clock's token; the copy; _1; …; …; …; …; …; …; …; …; …; …; _6; …; _5; …; _4; …; _3; …; _2; …; …; _0; …]
         asks 𝓤 H A inner.ended (inner.clauses 𝓤 H A at-mem run) W ((κ₁, (κ₂, (κ₃, tt))), (q₁, (q₂, (q₃, tt))), tt, (x .now, (year, (start, (step, (first, (last, (series, (minutes, (heights, tt))))))))), (clockVal (x .now) ∷ [], at .1)) tt
         (λ r ws. Said r (ws .1 .1 .1 .1 .1 .1 .0) (ws .1 .1 .1 .1 .1 .1 .1 .0) (ws .1 .1 .1 .1 .1 .1 .1 .1 .0)) (factI 𝓤 (Made (x .now)) (emp 𝓤) made) (λ r ws. id⊢ 𝓤 _) fm known
-        (and-then ! (load ! (from ! (stop !)) (look ! 2 refl)) (and-then ! (load ! (from ! (stop !)) (look ! 31 refl)) (and-then ! (load ! (from ! (stop !)) (look ! 29 refl)) (and-then ! (load ! (from ! (stop !)) (look ! 27 refl)) (and-then ! (load ! (from ! (stop !)) (look ! 25 refl)) (and-then ! (load ! (from ! (stop !)) (look ! 23 refl))
-        (and-then ! (load ! (from ! (stop !)) (look ! 12 refl)) (and-then ! (load ! (from ! (stop !)) (look ! 8 refl)) (and-then ! (load ! (from ! (stop !)) (look ! 4 refl)) (no-more !))))))))))
+        (and-then ! (load ! (from ! (stop !)) (look ! 11 refl)) (and-then ! (load ! (from ! (stop !)) (look ! 31 refl)) (and-then ! (load ! (from ! (stop !)) (look ! 29 refl)) (and-then ! (load ! (from ! (stop !)) (look ! 27 refl)) (and-then ! (load ! (from ! (stop !)) (look ! 25 refl)) (and-then ! (load ! (from ! (stop !)) (look ! 23 refl)) (and-then ! (load ! (from ! (stop !)) (look ! 9 refl)) (and-then ! (load ! (from ! (stop !)) (look ! 6 refl)) (and-then ! (load ! (from ! (stop !)) (look ! 3 refl)) (no-more !))))))))))
         (λ v r ws p. peeks ! R.the-row (Is R.the-row) (shows 𝓤 H A R.the-row) r (v ∷ []) (λ is.
-        -- [the turnings; the slices' tokens; what is said of the last series, minutes and heights; the clock's token; the copy; _1; _16; …; _15; …; _14; …; _13; …; _12; …; _11; …; …; _9; …; _8; …; _7; …; _6; …; _5; …; _4; …; _3; …; _2; …; …; _0; …]
-        land ! (from ! (stop !)) (init ! 36 refl (LL.lawful R.the-type R′.the-laws 𝓤 H A W .typed r _ is .0)) $
-        returns ! (look ! 36 refl) $ forget ! 4 refl $ forget ! 5 refl $ forget ! 6 refl $ forget ! 8 refl $ forget ! 10 refl $ forget ! 12 refl $ forget ! 14 refl $ forget ! 16 refl $
-        forget ! 19 refl $ forget ! 21 refl $ forget ! 23 refl $ forget ! 25 refl $ forget ! 27 refl $ forget ! 29 refl $ forget ! 31 refl $ forget ! 33 refl $ forget ! 36 refl $
-        move ! (36 ∷ 37 ∷ []) $ free1 ! $ move ! (5 ∷ 35 ∷ []) $ free1 ! $ move ! (32 ∷ 33 ∷ []) $ free1 ! $ move ! (30 ∷ 31 ∷ []) $ free1 ! $ move ! (28 ∷ 29 ∷ []) $ free1 ! $ move ! (26 ∷ 27 ∷ []) $ free1 ! $ move ! (24 ∷ 25 ∷ []) $ free1 ! $
-        move ! (22 ∷ 23 ∷ []) $ free1 ! $ move ! (20 ∷ 21 ∷ []) $ free1 ! $ move ! (18 ∷ 19 ∷ []) $ free1 ! $ move ! (4 ∷ 17 ∷ []) $ free1 ! $
-        move ! (14 ∷ 15 ∷ []) $ free1 ! $ move ! (12 ∷ 13 ∷ []) $ free1 ! $ move ! (10 ∷ 11 ∷ []) $ free1 ! $ move ! (8 ∷ 9 ∷ []) $ free1 ! $ move ! (6 ∷ 7 ∷ []) $ free1 ! $ move ! (4 ∷ 5 ∷ []) $ free1 ! $ free0 ! $
+        -- [the turnings; the slices' tokens; what is said of the last series, minutes and heights; _9; _15; _16; _8; _13; _14; _7; _11; _12; the clock's token; the copy; _1; …; …; …; …; …; …; …; …; …; …; _6; …; _5; …; _4; …; _3; …; _2; …; …; _0; …]
+        land ! (from ! (stop !)) (init ! 36 refl (LL.lawful R.the-type R′.the-laws 𝓤 H A W .typed r _ is .0)) $ returns ! (look ! 36 refl) $
+        move ! (36 ∷ 37 ∷ 14 ∷ 35 ∷ 33 ∷ 34 ∷ 31 ∷ 32 ∷ 29 ∷ 30 ∷ 27 ∷ 28 ∷ 25 ∷ 26 ∷ 9 ∷ 24 ∷ 6 ∷ 23 ∷ 3 ∷ 22 ∷ 13 ∷ 21 ∷ 10 ∷ 20 ∷ 11 ∷ 19 ∷ 7 ∷ 18 ∷ 8 ∷ 17 ∷ 4 ∷ 16 ∷ 5 ∷ 15 ∷ []) $ freed ! $ freed ! $ freed ! $ freed ! $ freed ! $ freed ! $ freed ! $ freed ! $ freed ! $ freed ! $ freed ! $ freed ! $ freed ! $ freed ! $ freed ! $ freed ! $ freed ! $ free0 ! $
         suffices ! _ (ends-at 𝓤 H A it.ended stayed (it.clauses 𝓤 H A at-mem run) W ghosts v r ws (tt, (tt, (tt, (tt, (tt, (tt, (tt, (tt, (tt, tt)))))))))) $ says ! p $
         move ! (3 ∷ 1 ∷ []) $ join ! $ frame ! $ move ! (1 ∷ []) $ frame ! $ done !))))))))))))))))))))
 
