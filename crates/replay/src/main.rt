@@ -1,4 +1,4 @@
-// Plays a script of calls to a clock that starts with no table, and writes a line for each call.
+// Plays a script of calls to a clock that starts with no table, and writes a line for each call, hourly cards behind theirs.
 //
 // It takes a card file of 262,143 bytes and 65,536 places in each lent buffer. What asks for more ends the run as a line that is not of the form does; but hourly cards may ask for any buffer.
 ghost use mathlib.Core.Path.{_≡_};
