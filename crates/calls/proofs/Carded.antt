@@ -30,7 +30,7 @@ module _ (table : Table) (station : Station) (month : Dated) (number : ℕ) wher
   bytes-by : (t s d : Bool) (places : ℕ) (o : Outcome Unit) → hourlyBy t s d number ≡ o
       → hourlyBytes (stateOf t table s station d month) number places ≡ (o >> new places)
   unfolding hourlyBytes
-  bytes-by true true true places o e = of-any (ltb mostStationNumber number) (table, station, month) (λ x. bytesOf (monthCards (x .1 .1) number) places) o e
+  bytes-by true true true places o e = of-any (ltb mostStationNumber number) (table, station, month) (λ x. bytesOf (monthCards (x .2) number) places) o e
   bytes-by true true false places o e = ap (λ (x : Outcome Unit). x >> new places) e
   bytes-by true false d places o e = ap (λ (x : Outcome Unit). x >> new places) e
   bytes-by false s d places o e = ap (λ (x : Outcome Unit). x >> new places) e

@@ -26,7 +26,7 @@ use calls::annual;
 use calls::annual::Sheet;
 use calls::asked;
 use calls::bookings;
-use calls::hourly::hourly_answer;
+use calls::hourcards::hourly_answer;
 use calls::settings;
 use card_file::reader;
 use cosine::ENTRIES;

@@ -1,10 +1,10 @@
--- `calls::hourly::hourly_answer` meets its contract: the state first, and then 32. Assumes nothing.
+-- `calls::hourcards::hourly_answer` meets its contract: the state first, and then 32. Assumes nothing.
 use borrow.Author.Needs.{needs}
 use borrow.Author.Tests.{lt-ltb, le-ltb}
 use Rattle.hourly.specs.Month.{mostStationNumber}
 use Rattle.calls.proofs.asked.States.{hourly-by}
-use Rattle.calls.proofs.hourly.hourly_answer.Statement.{statement}
-use Rattle.calls.proofs.hourly.hourly_answer.Tie as tie
+use Rattle.calls.proofs.hourcards.hourly_answer.Statement.{statement}
+use Rattle.calls.proofs.hourcards.hourly_answer.Tie as tie
 
 state-answer-requires : tie.Need-state-answer-requires
 state-answer-requires c κs = search needs
