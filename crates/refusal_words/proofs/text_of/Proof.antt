@@ -121,6 +121,24 @@ slice-aggregate-with-zeros-16 c = search needs
 with-zeros-requires-16 : tie.Need-with-zeros-requires-16
 with-zeros-requires-16 c κs = search needs
 
+slice-aggregate-with-zeros-17 : tie.Need-slice-aggregate-with-zeros-17
+slice-aggregate-with-zeros-17 c = search needs
+
+with-zeros-requires-17 : tie.Need-with-zeros-requires-17
+with-zeros-requires-17 c κs = search needs
+
+slice-aggregate-with-zeros-18 : tie.Need-slice-aggregate-with-zeros-18
+slice-aggregate-with-zeros-18 c = search needs
+
+with-zeros-requires-18 : tie.Need-with-zeros-requires-18
+with-zeros-requires-18 c κs = search needs
+
+slice-aggregate-with-zeros-19 : tie.Need-slice-aggregate-with-zeros-19
+slice-aggregate-with-zeros-19 c = search needs
+
+with-zeros-requires-19 : tie.Need-with-zeros-requires-19
+with-zeros-requires-19 c κs = search needs
+
 returns : tie.Need-returns
 unfolding refusalRows wordsIn bytesOf zerosBehind
 returns c = rw (c .before .before .match .keys1) (c .with-zeros .ensures)
@@ -182,8 +200,20 @@ unfolding refusalRows wordsIn bytesOf zerosBehind
 returns-15 c = rw (c .before .before .match .keys15) (c .with-zeros15 .ensures)
 
 returns-16 : tie.Need-returns-16
+unfolding refusalRows wordsIn bytesOf zerosBehind
+returns-16 c = rw (c .before .before .match .keys16) (c .with-zeros16 .ensures)
+
+returns-17 : tie.Need-returns-17
+unfolding refusalRows wordsIn bytesOf zerosBehind
+returns-17 c = rw (c .before .before .match .keys17) (c .with-zeros17 .ensures)
+
+returns-18 : tie.Need-returns-18
+unfolding refusalRows wordsIn bytesOf zerosBehind
+returns-18 c = rw (c .before .before .match .keys18) (c .with-zeros18 .ensures)
+
+returns-19 : tie.Need-returns-19
 unfolding refusalRows bytesOf zerosBehind
-returns-16 c = rw (no-words (Unit {0}) refusalRows (c .before .before .before .args .number) (c .before .before .match .rest)) (c .with-zeros16 .ensures)
+returns-19 c = rw (no-words (Unit {0}) refusalRows (c .before .before .before .args .number) (c .before .before .match .rest)) (c .with-zeros19 .ensures)
 
 pub text-of-spec : {M : Type 1} → statement M
 text-of-spec =
@@ -221,6 +251,12 @@ text-of-spec =
     with-zeros-requires-15
     slice-aggregate-with-zeros-16
     with-zeros-requires-16
+    slice-aggregate-with-zeros-17
+    with-zeros-requires-17
+    slice-aggregate-with-zeros-18
+    with-zeros-requires-18
+    slice-aggregate-with-zeros-19
+    with-zeros-requires-19
     returns
     returns-2
     returns-3
@@ -236,4 +272,7 @@ text-of-spec =
     returns-13
     returns-14
     returns-15
-    returns-16)
+    returns-16
+    returns-17
+    returns-18
+    returns-19)
