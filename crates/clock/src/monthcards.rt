@@ -1,9 +1,9 @@
 // A month's hourly cards, from what a clock keeps and a date that is in range.
 ghost use mathlib.Core.Path.{_≡_};
 ghost use mathlib.Core.Bool.{true};
-ghost use Prim.Native.Nat.{_≤_};
+ghost use Prim.Native.Nat.{_/_, _≤_};
 ghost use lib.ListN.{length};
-ghost use Rattle.limits.specs.Limits.{mostRecords};
+ghost use Rattle.limits.specs.Limits.{mostMinutes, mostRecords};
 ghost use Rattle.cosine.specs.Fixed.{IsTable};
 ghost use Rattle.calendar.specs.Calendar.{inRange};
 ghost use Rattle.month_prepared.specs.inner.View.{constituentsFrom};
@@ -13,8 +13,18 @@ ghost use Rattle.hourly.specs.Answers.{cardsReturned};
 ghost use Rattle.hourly.specs.Month.{cardsOf, bytesOf, intoBuffer, mostStationNumber};
 use cosine::ENTRIES;
 use hourly::CardsAnswer;
-use hourly::HOURS;
+use limits::MINUTES;
 use limits::RECORDS;
+
+// The full hours of the longest month.
+const HOURS: usize = MINUTES / 60;
+
+// Room for their heights. (A function's result, so that its length is known as a fact.)
+fn hour_places() -> [i64; HOURS]
+    ensures { λ r. ⌜ mostMinutes / 60 ≡ length r ⌝ }
+{
+    [0; HOURS]
+}
 
 // The heights at the full hours of the month are worked out as a series, and their cards written.
 pub fn cards<'a>(
@@ -35,7 +45,7 @@ pub fn cards<'a>(
     ensures { λ r. ⌜ record { returned = cardsReturned r; buffer = now (out .exit) } ≡ intoBuffer (bytesOf (cardsOf (heightAt (constituentsFrom (now (arguments .entry)) (now (lags .entry)) (now (frequencies .entry)) (now (ps .entry)) (now (qs .entry)) count)) number year month) (length (now (out .entry)))) (now (out .entry)) ⌝ }
 {
     let end = 24 * calendar::month_days(year, month) as usize;
-    let mut hours = [0i64; HOURS];
+    let mut hours = hour_places();
     heights::series::series(
         cosines,
         arguments,

@@ -14,9 +14,6 @@ use refusals::Refusal;
 // The largest station number.
 pub const STATION_NUMBER: u32 = 99_999;
 
-// The full hours of the longest month.
-pub const HOURS: usize = 744;
-
 // How many bytes the cards take; or a refusal.
 pub enum CardsAnswer {
     Bytes(usize),
