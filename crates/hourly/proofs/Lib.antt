@@ -6,3 +6,5 @@ pub mod Formats
 pub mod Cards
 pub mod Back
 pub mod Nearest
+pub mod Hours
+pub mod Given

@@ -7,12 +7,22 @@ ghost use Rattle.calendar.specs.Calendar.{inRange, monthDays};
 ghost use Rattle.hourly.specs.Answers.{cardsReturned};
 ghost use Rattle.hourly.specs.Month.{bytesOf, intoBuffer, mostStationNumber};
 ghost use Rattle.hourly.specs.inner.Hours.{cardsIn};
-
+use centimetres::HEIGHTS;
 use refusals::Answer;
 use refusals::Refusal;
+use writing::HEADING;
+use writing::Heading;
+
+mod centimetres; // heights in centimetres
+mod writing; // cards written
 
 // The largest station number.
 pub const STATION_NUMBER: u32 = 99_999;
+
+// The width of a height on these cards, and the bytes of a card.
+pub const NARROW: usize = 4;
+
+pub const CARD: usize = HEADING + HEIGHTS * NARROW + 1;
 
 // How many bytes the cards take; or a refusal.
 pub enum CardsAnswer {
@@ -31,5 +41,20 @@ pub fn write_cards(
     requires { ⌜ (length (now hours) ≡ 24 * monthDays year month) × ((inRange year month ≡ true) × (station ≤ mostStationNumber)) ⌝ }
     ensures { λ r. ⌜ record { returned = cardsReturned r; buffer = now (out .exit) } ≡ intoBuffer (bytesOf (cardsIn (now (hours .entry)) station year month) (length (now (out .entry)))) (now (out .entry)) ⌝ }
 {
-    CardsAnswer::Bytes(0)
+    let answer = centimetres::heights_answer(hours);
+    if let Answer::Refused(refusal, place) = answer {
+        return CardsAnswer::Refused(refusal, place);
+    }
+    let cards = hours.len() / HEIGHTS;
+    let bytes = CARD * cards;
+    if out.len() < bytes {
+        return CardsAnswer::Refused(Refusal::ShortBuffer, 0);
+    }
+    let heading = Heading {
+        station,
+        year,
+        month,
+    };
+    writing::put_cards(out, NARROW, heading, hours, cards);
+    CardsAnswer::Bytes(bytes)
 }
