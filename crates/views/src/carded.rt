@@ -1,11 +1,12 @@
 // The month's hourly cards for the harbour office.
 ghost use Rattle.clock.specs.View.{Made};
 use clock::Clock;
+use hourly::CARD;
 use hourly::CardsAnswer;
 use page::shown::Date;
 
-// The bytes of the longest month's cards: two a day, of 69 bytes each.
-const BYTES: usize = 4_278;
+// The bytes of the longest month's cards, two a day.
+const BYTES: usize = 62 * CARD;
 
 // hourly YEAR MONTH STATION: the cards alone, under a station number.
 pub fn hourly(clock: Clock, date: Date, station: u32)
