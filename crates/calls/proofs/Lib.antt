@@ -5,4 +5,5 @@ pub mod Dates
 pub mod Posed
 pub mod YearSheet
 pub mod Booked
+pub mod Carded
 pub mod Singly

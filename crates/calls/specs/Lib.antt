@@ -4,5 +4,6 @@ pub mod Reasons
 pub mod Calls
 pub mod Year
 pub mod Bookings
+pub mod Hourly
 pub mod Names
 pub mod inner

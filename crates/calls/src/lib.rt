@@ -5,3 +5,4 @@ pub mod reasons; // why a series is refused
 pub mod settings; // stations, dates, months
 pub mod annual; // a year's sheet
 pub mod bookings; // a list of minutes
+pub mod hourcards; // hourly cards

@@ -9,3 +9,4 @@ pub mod LentOn
 pub mod PassedOn
 pub mod OneMonth
 pub mod Sheets
+pub mod Hours

@@ -14,6 +14,7 @@ use Rattle.calls.specs.Calls.{cardsReturns, cardsLeaves, stationReturns, statio
 use Rattle.calls.specs.declared.annual.Sheet.{Sheet}
 use Rattle.calls.specs.Year.{yearGives}
 use Rattle.calls.specs.Bookings.{bookingsGives}
+use Rattle.calls.specs.Hourly.{hourlyGives}
 use Rattle.clock.specs.View.{view, Made}
 use Rattle.clock.specs.declared.Clock.{Clock}
 
@@ -52,3 +53,7 @@ pub record YearPost (c : Clock) (sheet : Sheet) (series seriesLeft : List ℤ) (
 -- the clock is given by value, or lent to be read: "a call that a request adds leaves table, station and month as they were"
 pub record BookingsPost (c : Clock) (minutes : List ℕ) (heights left : List ℤ) (returned : Outcome Unit) : Type 0 where
   pub gives : record { returned = returned; heights = left } ≡ bookingsGives (view c) minutes heights
+
+-- the clock is given by value, or lent to be read, and stays as it was
+pub record HourlyPost (c : Clock) (number : ℕ) (buffer left : List ℕ) (returned : Outcome ℕ) : Type 0 where
+  pub gives : record { returned = returned; buffer = left } ≡ hourlyGives (view c) number buffer

@@ -10,23 +10,27 @@ ghost use Rattle.calendar.specs.Calendar.{inRange};
 ghost use Rattle.calls.specs.State.{some};
 ghost use Rattle.calls.specs.Names.{namesThere, namesIn};
 ghost use Rattle.clock.specs.View.{view, Sound, Made};
-ghost use Rattle.clock.specs.Posts.{NewPost, CardsPost, StationPost, DatePost, HeightPost, SeriesPost, TurnsPost, YearPost, BookingsPost};
+ghost use Rattle.clock.specs.Posts.{NewPost, CardsPost, StationPost, DatePost, HeightPost, SeriesPost, TurnsPost, YearPost, BookingsPost, HourlyPost};
 ghost use Rattle.clock.specs.inner.Posts.{BarePost, PreparedPost, PartsMade, HeightFrom, BookingsFrom};
 ghost use Rattle.station.specs.Records.{recordsOf};
 ghost use Rattle.turns.specs.inner.Answers.{returnedOf};
+ghost use Rattle.hourly.specs.Answers.{cardsReturned};
 ghost use Rattle.clock.specs.Returned.{heightReturned, turnsReturned};
 ghost use Rattle.refusals.specs.Outcome.{outcomeOf};
 ghost use Rattle.clock.specs.inner.Parts.{accepts, withStation, withMonth};
 
 mod yearsheet; // a year's sheet, from a table and a station
+mod monthcards; // a month's hourly cards, from its constituents and its date
 
 use calls::annual;
 use calls::annual::Sheet;
 use calls::asked;
 use calls::bookings;
+use calls::hourcards::hourly_answer;
 use calls::settings;
 use card_file::reader;
 use cosine::ENTRIES;
+use hourly::CardsAnswer;
 use limits::RECORDS;
 use month_prepared::Month;
 use month_prepared::months;
@@ -439,6 +443,34 @@ pub fn bookings_lent(held: &Clock, minutes: &[u32], heights: &mut [i64]) -> Answ
         minutes,
         heights,
     )
+}
+
+// The month's hourly cards for the harbour office, under a station number, into the lent buffer from its front; or a refusal.
+pub fn hourly(clock: Clock, number: u32, cards: &mut [u8]) -> CardsAnswer
+    requires { ⌜ Made clock ⌝ }
+    ensures { λ r. ⌜ HourlyPost clock number (now (cards .entry)) (now (cards .exit)) (cardsReturned r) ⌝ }
+{
+    let asked = hourly_answer(clock.tabled, clock.stationed, clock.dated, number);
+    match asked {
+        Answer::Accepted => {
+            return monthcards::cards(
+                &clock.cosines,
+                &clock.arguments,
+                &clock.lags,
+                &clock.frequencies,
+                &clock.ps,
+                &clock.qs,
+                clock.count,
+                clock.year,
+                clock.month,
+                number,
+                cards,
+            );
+        }
+        Answer::Refused(refusal, place) => {
+            return CardsAnswer::Refused(refusal, place);
+        }
+    }
 }
 
 // What a search says: how many turns, and whether the first is high; or 10.

@@ -11,7 +11,7 @@ ghost use Rattle.heights.specs.Height.{heightAt};
 
 pub mod minuteangle; // angles
 pub mod shares; // shares
-mod series; // series of a month
+pub mod series; // series of a month
 pub mod months; // across month ends
 pub mod bookings; // at a list of minutes
 pub mod distance; // nearness

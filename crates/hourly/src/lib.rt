@@ -19,9 +19,6 @@ mod writing; // cards written
 // The largest station number.
 pub const STATION_NUMBER: u32 = 99_999;
 
-// The full hours of the longest month.
-pub const HOURS: usize = 744;
-
 // The width of a height on these cards, and the bytes of a card.
 pub const NARROW: usize = 4;
 

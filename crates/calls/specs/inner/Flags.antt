@@ -10,6 +10,7 @@ use Rattle.calls.specs.State.{Maybe, none, some, Dated, State}
 use Rattle.calls.specs.Asked.{monthAsked, dateAsked, minutesAsked}
 use Rattle.calls.specs.Year.{yearAsked}
 use Rattle.calls.specs.Bookings.{bookingsAsked}
+use Rattle.calls.specs.Hourly.{hourlyAsked}
 
 -- what a flag says is there
 abbrev pub when : {A : Type 0} → Bool → A → Maybe A
@@ -46,3 +47,8 @@ yearBy tabled stationed year = answered (yearAsked {T = Unit} {S = Unit} (when t
 abbrev pub bookingsBy : Bool → Bool → Bool → ℕ → List ℕ → ℕ → Outcome Unit
 bookingsBy tabled stationed dated last minutes places =
     answered (bookingsAsked {T = Unit} {S = Unit} {M = Unit} (λ _. last) minutes places (when tabled tt) (when stationed tt) (when dated tt))
+
+-- what hourly cards ask first, by the flags
+abbrev pub hourlyBy : Bool → Bool → Bool → ℕ → Outcome Unit
+hourlyBy tabled stationed dated number =
+    answered (hourlyAsked {T = Unit} {S = Unit} {M = Unit} number (when tabled tt) (when stationed tt) (when dated tt))
