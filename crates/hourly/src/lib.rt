@@ -23,6 +23,9 @@ pub const NARROW: usize = 4;
 
 pub const CARD: usize = HEADING + HEIGHTS * NARROW + 1;
 
+// The bytes of the longest month's cards, two a day.
+pub const LONGEST: usize = 2 * 31 * CARD;
+
 // How many bytes the cards take; or a refusal.
 pub enum CardsAnswer {
     Bytes(usize),

@@ -13,8 +13,8 @@ use clock::After;
 use clock::Clock;
 use clock::HeightAnswer;
 use clock::TurnsAnswer;
-use hourly::CARD;
 use hourly::CardsAnswer;
+use hourly::LONGEST;
 use script::YearLine;
 use station::records::Rows;
 use transcript::answers;
@@ -22,9 +22,6 @@ use transcript::input;
 use transcript::reading;
 use transcript::reading::Asked;
 use transcript::reading::Heard;
-
-// The bytes of the longest month's hourly cards, two a day.
-const CARDS: usize = 2 * 31 * CARD;
 
 // What a call leaves: the clock, the next place on the page, and whether the run goes on.
 struct Step {
@@ -275,10 +272,10 @@ fn cards_into(clock: Clock, number: u32, cards: &mut [u8], page: &mut [u8], at: 
 }
 
 // The bytes for hourly cards.
-fn card_places() -> [u8; CARDS]
+fn card_places() -> [u8; LONGEST]
     ensures { λ r. ⌜ 4278 ≡ length r ⌝ }
 {
-    [0; CARDS]
+    [0; LONGEST]
 }
 
 // The answer of hourly cards, in as many bytes as their line asks. To ask more than the longest month's cards take makes no difference.
@@ -286,7 +283,7 @@ fn hourly_call(clock: Clock, number: u32, bytes: u32, page: &mut [u8], at: usize
     requires { ⌜ Made clock ⌝ }
 {
     let mut cards = card_places();
-    let n = output::on_page(CARDS, bytes as usize);
+    let n = output::on_page(LONGEST, bytes as usize);
     cards_into(clock, number, &mut cards[..n], page, at)
 }
 

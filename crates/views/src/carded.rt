@@ -1,18 +1,15 @@
 // The month's hourly cards for the harbour office.
 ghost use Rattle.clock.specs.View.{Made};
 use clock::Clock;
-use hourly::CARD;
 use hourly::CardsAnswer;
+use hourly::LONGEST;
 use page::shown::Date;
-
-// The bytes of the longest month's cards, two a day.
-const BYTES: usize = 62 * CARD;
 
 // hourly YEAR MONTH STATION: the cards alone, under a station number.
 pub fn hourly(clock: Clock, date: Date, station: u32)
     requires { ⌜ Made clock ⌝ }
 {
-    let mut cards = [0u8; BYTES];
+    let mut cards = [0u8; LONGEST];
     let answer = clock::hourly(clock, station, &mut cards);
     match answer {
         CardsAnswer::Bytes(count) => {
