@@ -13,8 +13,6 @@ use lib.IntN.{ℤ, pos, _+ℤ_, _-ℤ_, zero-*ℤ}
 use lib.ListN.{length, drop, length-replicate}
 use mir.Val.{Val}
 use Rattle.limits.specs.Limits.{mostMinutes}
-use Rattle.angles.specs.Ticks.{centidegree}
-use Rattle.angles.specs.Floor.{floorDiv, modTurn}
 use Rattle.cosine.specs.Fraction.{factorial, arc, unit, term, added, taken, whole, base}
 use Rattle.cosine.specs.Fixed.{entry, fixedBase, fixedCosine}
 use Rattle.calendar.specs.Calendar.{isFourth, monthDays, monthMinutes, monthsDays, yearMinutes, yearsDays, dayCount, between, inRange}
@@ -154,7 +152,7 @@ year-is = refl
 -- Z0 has angle 0 at every minute, and so one height
 angle-is : (minute : ℕ) → angle 0 0 0 minute ≡ 0
 unfolding angle
-angle-is minute = ap (λ (z : ℤ). modTurn (pos 0 -ℤ pos (0 * centidegree) +ℤ z)) (zero-*ℤ (pos minute -ℤ pos 21_600))
+angle-is minute = rw (zero-*ℤ (pos minute -ℤ pos 21_600))
 
 share-is : share (pos 409_600) (pos 0) 0 ≡ pos 409_600
 unfolding share fixedCosine fixedBase entry base added taken whole term factorial arc unit
@@ -162,7 +160,7 @@ share-is = refl
 
 height-is : (minute : ℕ) → heightAt z0-month minute ≡ pos 100
 unfolding heightAt sumOfShares
-height-is minute = ap (λ (z : ℤ). floorDiv (z +ℤ pos 0 +ℤ pos 2_048) 4_096) (ap (share (pos 409_600) (pos 0)) (angle-is minute) ∙ share-is)
+height-is minute = rw (angle-is minute, share-is)
 
 over-is : heightOver z0-year 0 ≡ pos 100
 unfolding ownerOf
