@@ -1,4 +1,4 @@
-// The sheets of the month that a clock has prepared, and of a file's bookings in it, its hourly cards, written on standard output, or the clock's refusal, said; and those of a year.
+// The sheets of the month that a clock has prepared, those of a file's bookings in it, and its hourly cards, written on standard output, or the clock's refusal, said; and the sheets of a year.
 mod booked; // a file's bookings
 mod carded; // hourly cards
 mod tabulated; // heights for other programs
