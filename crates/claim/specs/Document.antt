@@ -163,8 +163,8 @@ sheetPoints sheet y =
 abbrev pub bookingsPoints : {A : Type 0} → List ℕ → Outcome A → List ℤ → List Point
 bookingsPoints minutes returned heights = onAccepted returned (λ _. pointsOf minutes heights) []
 
--- what was given, by its kind: a height, heights that were written, turns, a year's sheet, or nothing that is a height of the exact sum: hourly cards
--- say centimetres (`OfHourly` in `Claim`)
+-- the heights in what was given, by its kind: one that is returned, those that are written, those of turns, those of a year's sheet. Hourly cards have
+-- centimetres, for which 02 states no distance (what is said of them: `OfHourly` in `Claim`)
 abbrev pub pointsBy : (Outcome ℤ → List Point) → (SeriesGiven → List Point) → (TurnsGiven → List Point) → (YearGiven → List Point) → Gave → List Point
 pointsBy height heights turns sheet (told r) = []
 pointsBy height heights turns sheet (predicted r) = height r
