@@ -20,6 +20,7 @@ import clock  # noqa: E402
 import generate  # noqa: E402
 import heights  # noqa: E402
 from replay import Script, ScriptError, read_call, replay  # noqa: E402
+from replayed import parted  # noqa: E402
 
 
 # The calls whose answers are counted alone too.
@@ -64,18 +65,6 @@ def answered(seed, count):
     for index in range(count):
         script = generate.script(random.Random("scripts %d %d" % (seed, index)), index, standard)
         yield script, answers(script)
-
-
-def parted(text):
-    """The answers in what a program wrote, each with its LF; that of `hourly` with the bytes it announces."""
-    at = 0
-    while at < len(text):
-        end = text.find(b"\n", at) + 1 or len(text)
-        word, _, size = text[at:end].partition(b" ")
-        if word == b"hourly" and size.strip().isdigit():
-            end += int(size)
-        yield text[at:end]
-        at = end
 
 
 def first_difference(script, wanted, got):

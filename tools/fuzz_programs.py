@@ -7,7 +7,7 @@ Usage: python3 tools/fuzz_programs.py [COUNT [SEED [PROGRAM ...]]]     COUNT inp
 Each input is a good one, damaged: bytes flipped, lost or put in, lines swapped or repeated, numbers made huge, NULs, bytes beyond ASCII,
 CR LF, empty files, files over 65,536 bytes, odd arguments. Whatever comes in, a program must end by itself within the time limit, by no
 signal, and say what its format has:
-  cuvalimodo   a whole sheet and nothing on standard error; or one line on standard error and nothing on standard output
+  cuvalimodo   a whole sheet, or hourly cards, and nothing on standard error; or one line on standard error and nothing on standard output
   cardcheck    one line: accepted with four counts, or refused with a number and a line
   replay       lines of its format, hourly cards among them
 An SVG sheet must be well-formed XML. The input of a failure is kept in target/fuzz/.
@@ -29,10 +29,11 @@ KEPT = os.path.join(ROOT, "target", "fuzz")
 LIMIT = 20.0  # seconds for one input, far above what one takes
 
 CARDCHECK = re.compile(rb"accepted \d+ \d+ \d+ \d+\n|refused \d+ \d+\n")
-HOURLY = rb"hourly (3864|4002|4140|4278)(\n[12] [ \d]{5} {7}[ \d]{6}([ \d-]{3}\d){12}){56,62}"
+CARD = rb"[12] [ \d]{5} {7}[ \d]{6}([ \d-]{3}\d){12}"
+HOURLY = rb"hourly (3864|4002|4140|4278)(\n" + CARD + rb"){56,62}"
 REPLAY = re.compile(
     rb"((accepted|refused \d+ \d+|height -?\d+|heights( -?\d+)*|(year \d+( -?\d+)* )?turns \d+ [01]( \d+ -?\d+)*|" + HOURLY + rb")\n)*(script \d+\n)?")
-CARD = re.compile(rb"[12] ")
+HOURLY_CARDS = re.compile(rb"(" + CARD + rb"\n){56,62}")
 CSV = re.compile(rb"(#[^\n]*\n)+[^\n#]*\n([^\n,]+,((high|low),)?-?\d+\.\d+\n)*")
 
 
@@ -163,6 +164,7 @@ def good_arguments(r):
         ["day", year, month, day],
         ["day", year, month, day, "%02d:%02d" % (r.randrange(24), r.randrange(60))],
         ["bookings", year, month, "bookings.txt"],
+        ["hourly", year, month, str(r.choice([0, 7_120, 99_999, 100_000]))],
         ["heights", year, month],
         ["heights", year, month, r.choice(["1", "10", "60", "1440"])],
         ["series", year, month, day, "00:00", r.choice(["1", "60"]), r.choice(["0", "1", "100"])],
@@ -210,6 +212,8 @@ def sheet_kind(out):
         return None
     if b"--cards FILE" in out:
         return "help"
+    if HOURLY_CARDS.fullmatch(out):
+        return "hourly cards"
     if b"CRC-32" not in out:
         return None
     if out.startswith(b"<svg"):
@@ -241,7 +245,7 @@ def judge_lines(form, done):
     if not form.fullmatch(done.stdout):
         return "FAILED: not of the format"
     last_line = done.stdout.rstrip(b"\n").split(b"\n")[-1]
-    last = last_line.split(b" ") if not CARD.match(last_line) else [b"hourly"]
+    last = last_line.split(b" ") if not re.match(CARD, last_line) else [b"hourly"]
     return " ".join(word.decode() for word in last[:2]) if last[0] == b"refused" else last[0].decode() or "nothing"
 
 

@@ -6,12 +6,18 @@ standard error; standard output must stay empty. Refusals 21 to 23 cannot be rea
 asks for a month: their words stand in the list of `cuvalimodo refusals`, which is compared too.
 """
 
+import calendar
 import os
 import subprocess
 import sys
 import tempfile
 
 HERE = os.path.dirname(os.path.abspath(__file__))
+sys.path.insert(0, os.path.join(HERE, "..", "second"))
+
+import hourly
+from refusal import Refusal
+
 DATA = os.path.join(HERE, "..", "data")
 
 with open(os.path.join(DATA, "standard-cards.txt")) as file:
@@ -141,6 +147,16 @@ ASKED = [
     (["bookings", "1976", "13", "a"], "month 13: year or month out of range (refusal 8)"),
     (["bookings", "1976", "7", "a", "--csv"], "--csv: one word too many, try --help"),
     (["bookings", "1976", "7", "no-such-file"], "no-such-file: No such file or directory"),
+    (["hourly", "1976", "7"], "hourly: more words are wanted, try --help"),
+    (["hourly", "1976", "7", "7120", "8"], "8: one word too many, try --help"),
+    (["hourly", "1976", "7", "Victoria"], "Victoria: not a whole number, try --help"),
+    (["hourly", "1976", "7", "07:12"], "07:12: not a whole number, try --help"),
+    (["hourly", "1976", "7", "-1"], "-1: no such option, try --help"),
+    (["hourly", "1976", "7", "7120", "--csv"], "--csv: one word too many, try --help"),
+    (["hourly", "1976", "13", "100000"], "month 13: year or month out of range (refusal 8)"),
+    (["hourly", "2050", "7", "100000"], "year 2050: year or month out of range (refusal 8)"),
+    (["hourly", "1976", "7", "100000"], "station 100000: station number over 99999 (refusal 32)"),
+    (["hourly", "1976", "7", "4294967295"], "station 4294967295: station number over 99999 (refusal 32)"),
     (["year"], "year: more words are wanted, try --help"),
     (["svg"], "svg: more words are wanted, try --help"),
     (["year", "1976", "7"], "7: one word too many, try --help"),
@@ -192,6 +208,20 @@ BOOKED = [
     (["99 12:00"], "99 12:00 is outside April 1976 (refusal 9)"),
 ]
 
+# months, each with a station number, whose hourly cards are compared: of all lengths, and of years that end in one digit
+CARDED = [(1976, 7, 7120), (1976, 4, 0), (1999, 2, 99999), (2000, 2, 5), (2005, 11, 65536), (1950, 1, 12345)]
+HOURS = {1: "01:00 to 12:00", 2: "13:00 to 24:00"}
+
+
+def cards_of(table, year, month, station):
+    """The hourly cards of a month whose hourly heights a table has, 00:00 of the 1st the first of them."""
+    rows = [row.split(",") for row in table.decode().split("\n")[5:-1]]
+    heights = [hourly.centimetres(int(height.replace(".", ""))) for _, height in rows]
+    return [
+        hourly.HourlyCard(k % 2 + 1, station, year, month, k // 2 + 1, heights[12 * k:12 * k + 12])
+        for k in range(len(heights) // 12)
+    ]
+
 
 class Messages:
     def __init__(self, program, folder):
@@ -218,6 +248,19 @@ class Messages:
         with open(os.path.join(self.folder, "bookings.txt"), "wb") as file:
             file.write(text)
         self.expect(["bookings", "1976", "7", "bookings.txt"], "", output)
+
+    def carded(self, year, month, station, options):
+        """A month's hourly cards: what is written or said is what the heights that the program gives come to."""
+        date = [str(year), str(month)]
+        cards = cards_of(self.run(["heights"] + date + options).stdout, year, month, station)
+        words = ["hourly"] + date + [str(station)] + options
+        try:
+            hourly.check_cards(cards)
+            self.expect(words, "", b"".join(map(hourly.card_line, cards)))
+        except Refusal as refusal:
+            card = cards[refusal.place - 1]
+            where = "card %d of %d %s %d, %s" % (card.number, card.day, calendar.month_name[month], year, HOURS[card.number])
+            self.expect(words, where + ": a height outside -999 to 9998, in hundredths of the unit (refusal 33)\n")
 
     def edited(self, option, name, lines, faults):
         for edit, number, words, refusal in faults:
@@ -293,6 +336,13 @@ def main():
         m.booked(b"14 08:30 \x00\t\x1b\x7f\xc3\xa9\r!\r\n", face + b"14 08:30 ?\t?\x7f\xc3\xa9?!   3.598\n")
         # as many as fit a file
         m.booked(b"14 08:30\n" * 7281, face + b"14 08:30   3.598\n" * 7281)
+        # hourly cards of Victoria, and of the same with its level as far below zero: 33
+        below = list(STATION)
+        line(2, 47, " 180.00")(below)
+        m.write("station.txt", below)
+        for month in CARDED:
+            m.carded(*month, [])
+            m.carded(*month, ["--station", "station.txt"])
         m.expect(["refusals"], "", REFUSALS.encode())
         print("%d messages are as they should be, %d are not" % (m.right, m.wrong))
         sys.exit(1 if m.wrong else 0)

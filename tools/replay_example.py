@@ -1,7 +1,7 @@
 #!/usr/bin/env python3
 """Writes the script that the program replay is run on: tools/replay_example.py > crates/replay/stdin.
 
-The manual's sample, Victoria in July 1976, with calls before, between and behind it that are refused, years and bookings among them; then document 01's cases "Checked against". What the program must answer
+The manual's sample, Victoria in July 1976, with calls before, between and behind it that are refused, years, bookings and hourly cards among them; then document 01's cases "Checked against". What the program must answer
 (crates/replay/stdout) is what the second code answers, and
 
     tools/replay_example.py --paper crates/replay/stdout
@@ -19,6 +19,7 @@ sys.path.insert(0, os.path.join(HERE, "..", "second"))
 
 import bookings
 from clock import Clock
+from replayed import parted
 
 LAST = 44_640
 # minutes of 1976
@@ -59,15 +60,18 @@ def sample():
         b"height 0\n",
         b"cards 9\nno cards\n\n",
         bookings.call([LAST + 1], 0),
+        b"hourly 100000 0\n",
         b"year 1949 0 0 0 1 0 0 0\n",
         b"cards %d\n%s\n" % (len(CARDS), CARDS),
         b"date 1976 7\n",
+        b"hourly 100000 0\n",
         b"year 1949 0 0 0 1 0 0 0\n",
         station(5_401, records),
         station(latitude, [(0, 0, 0)] * 147),
         station(latitude, records + records[:1]),
         station(latitude, records),
         b"height 0\n",
+        b"hourly 100000 0\n",
         b"year 1976 %d 60 49 %d %d 200 200\n" % (LAST_OF_JULY, FIRST_OF_JULY - 1_440, LAST_OF_JULY + 2_880),
         b"year 1949 0 0 0 1 0 0 0\n",
         b"year 1976 0 1440 367 0 0 0 0\n",
@@ -87,6 +91,9 @@ def sample():
         bookings.call([0, 1], 1),
         bookings.call([], 0),
         bookings.call([], 1),
+        b"hourly 100000 0\n",
+        b"hourly 99999 4277\n",
+        b"hourly 7120 4278\n",
         b"series 0 60 745\n",
         b"series 0 60 746\n",
         b"series 0 1 0\n",
@@ -101,6 +108,14 @@ def sample():
         b"date 2049 12\n",
         b"turns 0 44640 0 0\n",
         b"series 44640 1440 1\n",
+        b"hourly 0 4294967295\n",
+        b"date 2000 2\n",
+        b"hourly 99999 4001\n",
+        b"hourly 99999 4002\n",
+        station(0, [(PLACES["Z0"], 65_535, 18_000), (PLACES["MM"], 65_535, 0)]),
+        b"date 1976 7\n",
+        b"hourly 5 0\n",
+        b"hourly 100000 0\n",
     ]
 
 
@@ -150,7 +165,7 @@ def differ(answers):
 def main():
     if sys.argv[1:2] == ["--paper"]:
         with open(sys.argv[2], "rb") as file:
-            found = list(differ(file.read().split(b"\n")))
+            found = list(differ([answer.removesuffix(b"\n") for answer in parted(file.read())]))
         for call, given in found:
             print(f"{call[:60]!r}: {given[:60]!r} is not what document 01 gives")
         sys.exit(len(found) > 0)

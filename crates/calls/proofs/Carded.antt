@@ -1,10 +1,9 @@
 -- Hourly cards, by what is asked first: a refusal, or what the month's cards come to. By the cases of the state's flags. Assumes nothing.
 use Prim.{Unit}
-use Prim.Native.Nat.{ℕ, _≤_}
+use Prim.Native.Nat.{ℕ}
 use mathlib.Core.Bool.{Bool, true, false}
-use mathlib.Core.Path.{_≡_, refl, sym, ap}
+use mathlib.Core.Path.{_≡_, refl, ap}
 use mathlib.Core.List.{List}
-use borrow.Author.Tests.{ltb-false}
 use lib.Dec.{ltb}
 use lib.ListN.{length}
 use Rattle.refusals.specs.Outcome.{Outcome, accepted, refused, refuseIf, answered, _>>_, _>>=_}
@@ -12,7 +11,7 @@ use Rattle.refusals.proofs.Laws.{not-both}
 use Rattle.table.specs.Table.{Table}
 use Rattle.station.specs.Station.{Station}
 use Rattle.hourly.specs.Month.{bytesOf, intoBuffer, mostStationNumber}
-use Rattle.calls.specs.State.{Dated, State}
+use Rattle.calls.specs.State.{Dated}
 use Rattle.calls.specs.Hourly.{monthCards, hourlyBytes, hourlyGives}
 use Rattle.calls.specs.inner.Flags.{stateOf, hourlyBy}
 
@@ -46,13 +45,7 @@ module _ (table : Table) (station : Station) (month : Dated) (number : ℕ) wher
     unfolding hourlyGives
     cards-given e = rw (bytes-by t s d (length buffer) (accepted tt) e)
 
--- what is accepted has passed: a table and a month are there, and the number is not over
-let-pass : (over : Bool) → _≡_ {A = Outcome (Unit {0})} (answered {A = Unit {0} × Unit {0} × Unit {0}} (refuseIf over 32 0 (accepted (tt, tt, tt)))) (accepted tt) → over ≡ false
-let-pass true e = not-both e
-let-pass false e = refl
-
-pub hourly-within : (t s d : Bool) (number : ℕ) → hourlyBy t s d number ≡ accepted tt → (t ≡ true) × ((d ≡ true) × (number ≤ mostStationNumber))
-hourly-within true true true number e = (refl, (refl, ltb-false mostStationNumber number (let-pass (ltb mostStationNumber number) e)))
-hourly-within true true false number e = not-both e
-hourly-within true false d number e = not-both e
-hourly-within false s d number e = not-both e
+-- what is accepted has a table
+pub hourly-tabled : (t s d : Bool) (number : ℕ) → hourlyBy t s d number ≡ accepted tt → t ≡ true
+hourly-tabled true s d number e = refl
+hourly-tabled false s d number e = not-both e

@@ -19,7 +19,7 @@ use Rattle.calls.specs.Bookings.{bookingsHeights, bookingsGives}
 use Rattle.calls.proofs.Singly.{as-single-requests}
 use Rattle.refusals.specs.Outcome.{Outcome, accepted, refused}
 use Rattle.refusals.proofs.Laws.{not-both}
-use Rattle.claim.specs.Document.{Request, Cards, Station, Date, Height, Series, Turns, Year, Bookings, Names, Gave, told, predicted, wrote, found, filled, named, Last, nothing, workedOut, after, gives, givesAll, lastAfter, Point, pointsFrom, pointsOf, points, constituentsThere, preparedMonth, monthsFor, AllNear, nil, cons, EachNear, end, next}
+use Rattle.claim.specs.Document.{Request, Cards, Station, Date, Height, Series, Turns, Year, Bookings, Hourly, Names, Gave, told, predicted, wrote, found, filled, carded, named, Last, nothing, workedOut, after, gives, givesAll, lastAfter, Point, pointsFrom, pointsOf, points, constituentsThere, preparedMonth, monthsFor, AllNear, nil, cons, EachNear, end, next, lastConstituents}
 use Rattle.claim.proofs.Points.{near-call}
 use Rattle.claim.proofs.Given.{all-found, turns-give, as-many, year-gives}
 use Rattle.claim.specs.Claim.{OfAHeight, OfASeries, OfTurns, OfAYearsSeries, OfAYearsTurns, OfBookings}
@@ -96,6 +96,7 @@ AllStand (predicted r) = Unit {0}
 AllStand (wrote s) = Unit {0}
 AllStand (found t) = Stand (t .returned) (t .minutes) (t .heights)
 AllStand (filled y) = Stand (y .returned) (y .minutes) (y .heights)
+AllStand (carded c) = Unit {0}
 AllStand (named names) = Unit {0}
 
 all-stand : (l : Last) (q : Request) → AllStand (gives l q)
@@ -110,6 +111,7 @@ all-stand l (Turns first last ms hs) =
 all-stand l (Year sheet ss ms hs) =
     year-gives (λ months y. AllStand (filled y)) sheet ss ms hs (λ months number place. tt) (λ months ts. found-stand (heightOver months) ts ms hs) (workedOut l .table) (workedOut l .station) (workedOut l .month)
 all-stand l (Bookings minutes heights) = tt
+all-stand l (Hourly number buffer) = tt
 all-stand l Names = tt
 
 -- what the last call of a list gives is what the document gives for it
@@ -126,7 +128,7 @@ last-is : (d : Gave) (gs : List Gave) (g : Gave) → last-of d (gs ++ g ∷ []) 
 last-is d [] g = refl
 last-is d (f ∷ gs) g = last-is f gs g
 
-last-exactly : (qs : List Request) (gs : List Gave) (q : Request) (g : Gave) → gs ++ g ∷ [] ≡ givesAll nothing (qs ++ q ∷ []) → g ≡ gives (lastAfter nothing qs) q
+pub last-exactly : (qs : List Request) (gs : List Gave) (q : Request) (g : Gave) → gs ++ g ∷ [] ≡ givesAll nothing (qs ++ q ∷ []) → g ≡ gives (lastAfter nothing qs) q
 last-exactly qs gs q g e = sym (last-is g gs g) ∙ ap (last-of g) (e ∙ gives-last nothing qs q) ∙ last-is g (givesAll nothing qs) (gives (lastAfter nothing qs) q)
 
 last-stands : (qs : List Request) (gs : List Gave) (q : Request) (g : Gave) → gs ++ g ∷ [] ≡ givesAll nothing (qs ++ q ∷ []) → AllStand g
@@ -168,6 +170,11 @@ of-a-years-turns qs gs sheet ss ss′ ms ms′ hs hs′ count high claim n c =
     let in-heights : count ≤ length hs′ = there .1 in
     of-nth _ ms′ hs′ count n c (omega arith) (omega arith) (near-behind _ (pointsFrom (sheet .start) (sheet .step) ss′) _ (last-near nothing qs gs _ _ (claim .near)))
 
+-- what a single request gives is near, from whatever was last accepted
+pub single-near : (l : Last) (minute : ℕ) (height : ℤ) → predicted (accepted height) ≡ gives l (Height minute) → Near (lastConstituents l) minute height
+single-near l minute height e =
+    alone (workedOut l .month) minute height (the-one (subst (λ (g : Gave). AllNear (monthsFor l (Height minute)) (points (Height minute) g)) (sym e) (near-call l (Height minute))))
+
 -- ---- bookings: each as a single height
 
 -- where bookings are accepted, what is written is all of their heights
@@ -193,6 +200,4 @@ of-bookings qs gs minutes before left claim n h =
     let height : ℤ = getD left n (pos 0) in
     let all : bookingsHeights k minutes (length before) ≡ accepted left = all-written _ before left (as-written (last-exactly qs gs _ _ (claim .exactly))) in
     let single : accepted height ≡ heightReturns k minute = nth-single (heightReturns k) minutes left n (as-single-requests k minutes (length before) left all) h in
-    let near : AllNear (monthsFor l (Height minute)) (points (Height minute) (predicted (accepted height))) =
-    subst (λ (o : Outcome ℤ). AllNear (monthsFor l (Height minute)) (points (Height minute) (predicted o))) (sym single) (near-call l (Height minute)) in
-    (ap predicted single, alone (month-after qs) minute height (the-one near))
+    (ap predicted single, single-near l minute height (ap predicted single))

@@ -23,6 +23,9 @@ use Rattle.station.specs.declared.records.Record.{Record}
 use Rattle.station.specs.declared.records.Rows.{Rows}
 use Rattle.station.specs.Records.{recordsFrom, recordsOf}
 use Rattle.station.specs.inner.Rows.{noRows}
+use Rattle.hourly.specs.declared.CardsAnswer.{CardsAnswer}
+use Rattle.hourly.specs.declared.CardsAnswer.the-variants as cards
+use Rattle.hourly.specs.Answers.{cardsReturned}
 use Rattle.clock.specs.declared.Clock.{Clock}
 use Rattle.clock.specs.declared.HeightAnswer.{HeightAnswer}
 use Rattle.clock.specs.declared.HeightAnswer.the-variants as height
@@ -37,12 +40,14 @@ use Rattle.calls.specs.Calls.{cardsReturns, cardsLeaves, stationReturns, statio
 use Rattle.calls.specs.declared.annual.Sheet.{Sheet}
 use Rattle.calls.specs.Year.{sheetAsked, yearGives}
 use Rattle.calls.specs.Bookings.{bookingsHeights, bookingsGives}
-use Rattle.clock.specs.Posts.{NewPost, CardsPost, StationPost, DatePost, HeightPost, SeriesPost, TurnsPost, YearPost, BookingsPost}
+use Rattle.calls.specs.Hourly.{hourlyBytes, hourlyGives}
+use Rattle.clock.specs.Posts.{NewPost, CardsPost, StationPost, DatePost, HeightPost, SeriesPost, TurnsPost, YearPost, BookingsPost, HourlyPost}
 use Rattle.cuvalimodo_c.specs.declared.answers.Verdict.{Verdict}
 use Rattle.cuvalimodo_c.specs.declared.answers.Reading.{Reading}
 use Rattle.cuvalimodo_c.specs.declared.answers.Turnings.{Turnings}
-use Rattle.cuvalimodo_c.specs.Answers.{verdictReturned, readingReturned, turningsReturned, verdictOf, readingOf, turningsOf, Plain, PlainReading, PlainTurnings}
-use Rattle.claim.specs.Document.{Cards, Station, Date, Height, Series, Turns, Year, Bookings, Names, told, predicted, wrote, found, filled, named}
+use Rattle.cuvalimodo_c.specs.declared.answers.Cards.{Cards as HeldCards}
+use Rattle.cuvalimodo_c.specs.Answers.{verdictReturned, readingReturned, turningsReturned, cardsTold, verdictOf, readingOf, turningsOf, cardsToldOf, Plain, PlainReading, PlainTurnings, PlainCards}
+use Rattle.claim.specs.Document.{Cards, Station, Date, Height, Series, Turns, Year, Bookings, Hourly, Names, told, predicted, wrote, found, filled, carded, named}
 use Rattle.claim.specs.Calls.{Keeps, New, Call, Calls, done, _then_}
 use Rattle.claim.specs.Controls.{Controls, aSheet, eachKind, eachRefused}
 
@@ -115,6 +120,10 @@ module _ (c : Clock) (p : NewPost c) where
   unfolding bookingsHeights bookingsGives
   no-bookings minutes hs = record { gives = sym (ap (λ (k : State). bookingsGives k minutes hs) (p .leaves)) }
 
+  no-hourly : (number : ℕ) (buffer : List ℕ) → HourlyPost c number buffer buffer (refused 21 0)
+  unfolding hourlyBytes hourlyGives
+  no-hourly number buffer = record { gives = sym (ap (λ (k : State). hourlyGives k number buffer) (p .leaves)) }
+
 -- ---- each kind of call is there
 
 new-there : (c : Clock) → NewPost c → New c
@@ -160,6 +169,11 @@ bookings-there : (c : Clock) (minutes : List ℕ) (hs hs′ : List ℤ) (answer 
     → Call c (Bookings minutes hs) (wrote (record { returned = outcomeOf answer; heights = hs′ })) c
 bookings-there c minutes hs hs′ answer p =
     Call.bookings {κs = ([], ([], tt))} {minutes = lent minutes} {before = lent hs} {r = answer} (record { bound = λ w. tt; contract = kept _ _ p })
+
+hourly-there : (c : Clock) (number : ℕ) (buffer left : List ℕ) (answer : CardsAnswer) → HourlyPost c number buffer left (cardsReturned answer)
+    → Call c (Hourly number buffer) (carded (record { returned = cardsReturned answer; buffer = left })) c
+hourly-there c number buffer left answer p =
+    Call.hourlies {κs = ([], tt)} {before = lent buffer} {r = answer} (record { bound = λ w. tt; contract = kept _ _ p })
 
 names-there : (c : Clock) (r : TableNames) → namesFrom (r .bytes) 0 (r .count) ≡ namesIn (view c) → Call c Names (named (namesFrom (r .bytes) 0 (r .count))) c
 names-there c r p = Call.hands {r = r} (record { bound = λ w. tt; contract = kept _ _ p })
@@ -214,6 +228,11 @@ held-bookings-there : (c : Clock) (minutes : List ℕ) (hs hs′ : List ℤ) (r 
 held-bookings-there c minutes hs hs′ r p plain =
     Call.heldBookings {κs = ([], ([], ([], tt)))} {clock = lent c} {minutes = lent minutes} {before = lent hs} {r = r} (record { bound = λ w. tt; contract = kept _ _ (p, plain) })
 
+held-hourly-there : (c : Clock) (number : ℕ) (buffer left : List ℕ) (r : HeldCards) → HourlyPost c number buffer left (cardsTold r) → PlainCards r
+    → Call c (Hourly number buffer) (carded (record { returned = cardsTold r; buffer = left })) c
+held-hourly-there c number buffer left r p plain =
+    Call.heldHourlies {κs = ([], ([], tt))} {clock = lent c} {before = lent buffer} {r = r} (record { bound = λ w. tt; contract = kept _ _ (p, plain) })
+
 held-names-there : (c : Clock) (r : TableNames) → namesFrom (r .bytes) 0 (r .count) ≡ namesIn (view c) → Call c Names (named (namesFrom (r .bytes) 0 (r .count))) c
 held-names-there c r p = Call.heldHands {κs = ([], tt)} {clock = lent c} {r = r} (record { bound = λ w. tt; contract = kept _ _ p })
 
@@ -228,6 +247,7 @@ each-kind c p =
     then turns-there c 0 1 (9 ∷ []) (9 ∷ []) (pos 5 ∷ []) (pos 5 ∷ []) (turns.Refused NoTable 0) (no-turns c p 0 1 (9 ∷ []) (pos 5 ∷ []))
     then year-there c aSheet (pos 3 ∷ []) (pos 3 ∷ []) (9 ∷ []) (9 ∷ []) (pos 5 ∷ []) (pos 5 ∷ []) (turns.Refused NoTable 0) (no-year c p aSheet (pos 3 ∷ []) (9 ∷ []) (pos 5 ∷ []))
     then bookings-there c (9 ∷ 0 ∷ []) (pos 5 ∷ []) (pos 5 ∷ []) (Refused NoTable 0) (no-bookings c p (9 ∷ 0 ∷ []) (pos 5 ∷ []))
+    then hourly-there c 100_000 (7 ∷ []) (7 ∷ []) (cards.Refused NoTable 0) (no-hourly c p 100_000 (7 ∷ []))
     then held-cards-there c c [] (verdictOf (refused 7 1)) (no-cards c p) refl
     then held-station-there c c (pos 0) [] (verdictOf (refused 21 0)) (no-station c p (pos 0) []) refl
     then held-date-there c c 1976 7 (verdictOf (refused 21 0)) (no-month c p 1976 7) refl
@@ -236,6 +256,7 @@ each-kind c p =
     then held-turns-there c 0 1 (9 ∷ []) (9 ∷ []) (pos 5 ∷ []) (pos 5 ∷ []) (turningsOf (refused 21 0)) (no-turns c p 0 1 (9 ∷ []) (pos 5 ∷ [])) refl
     then held-year-there c aSheet (pos 3 ∷ []) (pos 3 ∷ []) (9 ∷ []) (9 ∷ []) (pos 5 ∷ []) (pos 5 ∷ []) (turningsOf (refused 21 0)) (no-year c p aSheet (pos 3 ∷ []) (9 ∷ []) (pos 5 ∷ [])) refl
     then held-bookings-there c (9 ∷ 0 ∷ []) (pos 5 ∷ []) (pos 5 ∷ []) (verdictOf (refused 21 0)) (no-bookings c p (9 ∷ 0 ∷ []) (pos 5 ∷ [])) refl
+    then held-hourly-there c 100_000 (7 ∷ []) (7 ∷ []) (cardsToldOf (refused 21 0)) (no-hourly c p 100_000 (7 ∷ [])) refl
     then lent-height-there c 0 (height.Refused NoTable 0) (no-height c p 0)
     then lent-bookings-there c (9 ∷ 0 ∷ []) (pos 5 ∷ []) (pos 5 ∷ []) (Refused NoTable 0) (no-bookings c p (9 ∷ 0 ∷ []) (pos 5 ∷ []))
     then placing-there c c (pos 0) 0 noRows (Refused NoTable 0) (no-station c p (pos 0) [])
@@ -256,6 +277,7 @@ controls =
       turns = turns-there;
       year = year-there;
       bookings = bookings-there;
+      hourly = hourly-there;
       names = names-there;
       held-new = held-new-there;
       held-cards = held-cards-there;
@@ -268,6 +290,7 @@ controls =
       held-year = held-year-there;
       lent-bookings = lent-bookings-there;
       held-bookings = held-bookings-there;
+      held-hourly = held-hourly-there;
       held-names = held-names-there;
       each-kind = each-kind;
     }

@@ -21,12 +21,13 @@ use Rattle.calls.specs.Calls.{cardsReturns, cardsLeaves, stationReturns, statio
 use Rattle.calls.specs.declared.annual.Sheet.{Sheet}
 use Rattle.calls.specs.Year.{yearGives}
 use Rattle.calls.specs.Bookings.{bookingsGives}
+use Rattle.calls.specs.Hourly.{hourlyGives}
 use Rattle.turns.specs.Written.{TurnsFound}
 use Rattle.clock.specs.View.{view, Made}
-use Rattle.clock.specs.Posts.{NewPost, CardsPost, StationPost, DatePost, HeightPost, SeriesPost, TurnsPost, YearPost, BookingsPost}
+use Rattle.clock.specs.Posts.{NewPost, CardsPost, StationPost, DatePost, HeightPost, SeriesPost, TurnsPost, YearPost, BookingsPost, HourlyPost}
 use Rattle.claim.specs.Zeroed.{zeroed}
 use Rattle.claim.specs.Calls.{Keeps, New, Call, Calls, done, _then_}
-use Rattle.claim.specs.Document.{Request, Cards, Station, Date, Height, Series, Turns, Year, Bookings, Names, Gave, told, predicted, wrote, found, filled, named, Last, nothing, tableOfCards, workedOut, after, gives, givesAll, lastAfter, EachNear}
+use Rattle.claim.specs.Document.{Request, Cards, Station, Date, Height, Series, Turns, Year, Bookings, Hourly, Names, Gave, told, predicted, wrote, found, filled, carded, named, Last, nothing, tableOfCards, workedOut, after, gives, givesAll, lastAfter, EachNear}
 use Rattle.claim.specs.Claim.{OfAnyCalls}
 use Rattle.claim.proofs.Points.{near-calls}
 use Rattle.claim.proofs.Decided.{same-once}
@@ -143,6 +144,11 @@ bookings-follow : {c : Clock} {minutes : List ℕ} {hs hs′ : List ℤ} {return
 unfolding gives after
 bookings-follow {minutes = minutes} {hs = hs} l h p = (ap wrote (p .gives ∙ ap (λ (k : State). bookingsGives k minutes hs) (h .keeps)), h)
 
+hourly-follows : {c : Clock} {number : ℕ} {buffer left : List ℕ} {returned : Outcome ℕ} (l : Last) → Agrees c l → HourlyPost c number buffer left returned
+    → Follows l (Hourly number buffer) (carded (record { returned = returned; buffer = left })) c
+unfolding gives after
+hourly-follows {number = number} {buffer = buffer} l h p = (ap carded (p .gives ∙ ap (λ (k : State). hourlyGives k number buffer) (h .keeps)), h)
+
 names-follow : {c : Clock} {names : List (List ℕ)} (l : Last) → Agrees c l → names ≡ namesIn (view c) → Follows l Names (named names) c
 unfolding gives after
 names-follow l h p = (ap named (p ∙ ap namesIn (h .keeps)), h)
@@ -158,6 +164,7 @@ call-agrees l h (Call.serieses x) = ∥∥₁-map (holds (x .contract) (h .made)
 call-agrees l h (Call.searches x) = ∥∥₁-map (holds (x .contract) (h .made)) (turns-follow l h)
 call-agrees l h (Call.years x) = ∥∥₁-map (holds (x .contract) (h .made)) (year-follows l h)
 call-agrees l h (Call.bookings x) = ∥∥₁-map (holds (x .contract) (h .made)) (bookings-follow l h)
+call-agrees l h (Call.hourlies x) = ∥∥₁-map (holds (x .contract) (h .made)) (hourly-follows l h)
 call-agrees l h (Call.hands x) = ∥∥₁-map (holds (x .contract) (h .made)) (names-follow l h)
 call-agrees l h (Call.heldLoads x) = ∥∥₁-map (holds (x .contract) (h .made)) (λ p. cards-follow l h (p .0))
 call-agrees l h (Call.heldStations x) = ∥∥₁-map (holds (x .contract) (h .made)) (λ p. station-follows l h (p .0))
@@ -169,6 +176,7 @@ call-agrees l h (Call.heldSearches x) = ∥∥₁-map (holds (x .contract) (h .m
 call-agrees l h (Call.heldYears x) = ∥∥₁-map (holds (x .contract) (h .made)) (λ p. year-follows l h (p .0))
 call-agrees l h (Call.lentBookings x) = ∥∥₁-map (holds (x .contract) (h .made)) (bookings-follow l h)
 call-agrees l h (Call.heldBookings x) = ∥∥₁-map (holds (x .contract) (h .made)) (λ p. bookings-follow l h (p .0))
+call-agrees l h (Call.heldHourlies x) = ∥∥₁-map (holds (x .contract) (h .made)) (λ p. hourly-follows l h (p .0))
 call-agrees l h (Call.heldHands x) = ∥∥₁-map (holds (x .contract) (h .made)) (names-follow l h)
 
 calls-agree : {c c′ : Clock} {qs : List Request} {gs : List Gave} (l : Last) → Agrees c l → Calls c qs gs c′ → ∥ ((gs ≡ givesAll l qs) × Agrees c′ (lastAfter l qs)) ∥₁

@@ -10,7 +10,7 @@ use native.Mathlib.Decide.{ℕ-discrete}
 use lib.IntN.{ℤ, ℤ-discrete}
 use Rattle.refusals.specs.Outcome.{Outcome, accepted, refused}
 use Rattle.turns.specs.Written.{TurnsFound}
-use Rattle.claim.specs.Document.{Gave, told, predicted, wrote, found, filled, named}
+use Rattle.claim.specs.Document.{Gave, told, predicted, wrote, found, filled, carded, named}
 
 -- what has a code that can be read back can be told apart where the codes can
 coded : {A B : Type 0} (code : A → B) (read : B → A) → ((a : A) → read (code a) ≡ a) → Discrete B → Discrete A
@@ -47,26 +47,28 @@ turns-discrete =
 -- ---- what a call gives: which kind it is, what it returns, its buffers, and the names
 
 abbrev Code : Type 0
-Code = ℕ × (Outcome Unit × (Outcome ℤ × (Outcome TurnsFound × (List ℕ × (List ℤ × (List ℤ × List (List ℕ)))))))
+Code = ℕ × (Outcome Unit × (Outcome ℤ × (Outcome TurnsFound × (Outcome ℕ × (List ℕ × (List ℤ × (List ℤ × List (List ℕ))))))))
 
 abbrev none : {A : Type 0} → Outcome A
 none = refused 0 0
 
 abbrev gave-code : Gave → Code
-gave-code (told r) = (0, (r, (none, (none, ([], ([], ([], [])))))))
-gave-code (predicted r) = (1, (none, (r, (none, ([], ([], ([], [])))))))
-gave-code (wrote s) = (2, (s .returned, (none, (none, ([], (s .heights, ([], [])))))))
-gave-code (found t) = (3, (none, (none, (t .returned, (t .minutes, (t .heights, ([], [])))))))
-gave-code (filled y) = (4, (none, (none, (y .returned, (y .minutes, (y .heights, (y .series, [])))))))
-gave-code (named names) = (5, (none, (none, (none, ([], ([], ([], names)))))))
+gave-code (told r) = (0, (r, (none, (none, (none, ([], ([], ([], []))))))))
+gave-code (predicted r) = (1, (none, (r, (none, (none, ([], ([], ([], []))))))))
+gave-code (wrote s) = (2, (s .returned, (none, (none, (none, ([], (s .heights, ([], []))))))))
+gave-code (found t) = (3, (none, (none, (t .returned, (none, (t .minutes, (t .heights, ([], []))))))))
+gave-code (filled y) = (4, (none, (none, (y .returned, (none, (y .minutes, (y .heights, (y .series, []))))))))
+gave-code (carded c) = (5, (none, (none, (none, (c .returned, (c .buffer, ([], ([], []))))))))
+gave-code (named names) = (6, (none, (none, (none, (none, ([], ([], ([], names))))))))
 
 abbrev gave-read : Code → Gave
-gave-read (zero, (r, (h, (t, (ms, (hs, (ss, ns))))))) = told r
-gave-read (suc zero, (r, (h, (t, (ms, (hs, (ss, ns))))))) = predicted h
-gave-read (suc (suc zero), (r, (h, (t, (ms, (hs, (ss, ns))))))) = wrote (record { returned = r; heights = hs })
-gave-read (suc (suc (suc zero)), (r, (h, (t, (ms, (hs, (ss, ns))))))) = found (record { returned = t; minutes = ms; heights = hs })
-gave-read (suc (suc (suc (suc zero))), (r, (h, (t, (ms, (hs, (ss, ns))))))) = filled (record { returned = t; series = ss; minutes = ms; heights = hs })
-gave-read (suc (suc (suc (suc (suc n)))), (r, (h, (t, (ms, (hs, (ss, ns))))))) = named ns
+gave-read (zero, (r, (h, (t, (n, (ms, (hs, (ss, ns)))))))) = told r
+gave-read (suc zero, (r, (h, (t, (n, (ms, (hs, (ss, ns)))))))) = predicted h
+gave-read (suc (suc zero), (r, (h, (t, (n, (ms, (hs, (ss, ns)))))))) = wrote (record { returned = r; heights = hs })
+gave-read (suc (suc (suc zero)), (r, (h, (t, (n, (ms, (hs, (ss, ns)))))))) = found (record { returned = t; minutes = ms; heights = hs })
+gave-read (suc (suc (suc (suc zero))), (r, (h, (t, (n, (ms, (hs, (ss, ns)))))))) = filled (record { returned = t; series = ss; minutes = ms; heights = hs })
+gave-read (suc (suc (suc (suc (suc zero)))), (r, (h, (t, (n, (ms, (hs, (ss, ns)))))))) = carded (record { returned = n; buffer = ms })
+gave-read (suc (suc (suc (suc (suc (suc k))))), (r, (h, (t, (n, (ms, (hs, (ss, ns)))))))) = named ns
 
 gave-back : (g : Gave) → gave-read (gave-code g) ≡ g
 gave-back (told r) = refl
@@ -74,12 +76,13 @@ gave-back (predicted r) = refl
 gave-back (wrote s) = refl
 gave-back (found t) = refl
 gave-back (filled y) = refl
+gave-back (carded c) = refl
 gave-back (named names) = refl
 
 gave-discrete : Discrete Gave
 gave-discrete =
     coded gave-code gave-read gave-back
-    (×-discrete ℕ-discrete (×-discrete (outcome-discrete unit-discrete) (×-discrete (outcome-discrete ℤ-discrete) (×-discrete (outcome-discrete turns-discrete) (×-discrete (List-discrete ℕ-discrete) (×-discrete (List-discrete ℤ-discrete) (×-discrete (List-discrete ℤ-discrete) (List-discrete (List-discrete ℕ-discrete)))))))))
+    (×-discrete ℕ-discrete (×-discrete (outcome-discrete unit-discrete) (×-discrete (outcome-discrete ℤ-discrete) (×-discrete (outcome-discrete turns-discrete) (×-discrete (outcome-discrete ℕ-discrete) (×-discrete (List-discrete ℕ-discrete) (×-discrete (List-discrete ℤ-discrete) (×-discrete (List-discrete ℤ-discrete) (List-discrete (List-discrete ℕ-discrete))))))))))
 
 -- to have given the same is a proposition, of one call and of a list
 pub gave-once : (g h : Gave) → IsProp (g ≡ h)

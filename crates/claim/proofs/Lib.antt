@@ -4,5 +4,7 @@ pub mod Decided
 pub mod Dates
 pub mod Backed
 pub mod AtEachHeight
+pub mod Hours
+pub mod Carded
 pub mod Zeros
 pub mod Claim

@@ -27,7 +27,7 @@ use Rattle.calls.specs.Year.{yearGives}
 use Rattle.calls.specs.Bookings.{bookingsHeights, bookingsGives}
 use Rattle.calls.proofs.Singly.{as-single-requests}
 use Rattle.calls.proofs.Posed.{height-of, series-of}
-use Rattle.claim.specs.Document.{Request, Cards, Station, Date, Height, Series, Turns, Year, Bookings, Names, Last, workedOut, after, gives, givesAll, Point, heightPoints, pointsFrom, seriesPoints, pointsOf, turnsPoints, sheetPoints, bookingsPoints, points, preparedMonth, monthsOn, monthsFor, AllNear, nil, cons, EachNear, end, next}
+use Rattle.claim.specs.Document.{Request, Cards, Station, Date, Height, Series, Turns, Year, Bookings, Hourly, Names, Last, workedOut, after, gives, givesAll, Point, heightPoints, pointsFrom, seriesPoints, pointsOf, turnsPoints, sheetPoints, bookingsPoints, points, preparedMonth, monthsOn, monthsFor, AllNear, nil, cons, EachNear, end, next}
 use Rattle.claim.proofs.Given.{ready-by, all-found, turns-give, as-many, year-gives}
 
 -- ---- one height, of a month alone and of months that follow one another
@@ -129,6 +129,7 @@ unfolding gives
 near-call l (Cards file) = nil
 near-call l (Station latitude records) = nil
 near-call l (Date year month) = nil
+near-call l (Hourly number buffer) = nil
 near-call l Names = nil
 near-call l (Height minute) = height-given (workedOut l .table) (workedOut l .station) (workedOut l .month) minute
 near-call l (Series start step heights) = series-given (workedOut l .table) (workedOut l .station) (workedOut l .month) start step heights

@@ -21,6 +21,8 @@ use Rattle.columns.specs.Names.{namesFrom}
 use Rattle.station.specs.declared.records.Record.{Record}
 use Rattle.station.specs.declared.records.Rows.{Rows}
 use Rattle.station.specs.Records.{recordsOf}
+use Rattle.hourly.specs.declared.CardsAnswer.{CardsAnswer}
+use Rattle.hourly.specs.Answers.{cardsReturned}
 use Rattle.calls.specs.declared.annual.Sheet.{Sheet}
 use Rattle.clock.specs.declared.Clock.{Clock}
 use Rattle.clock.specs.declared.After.{After}
@@ -31,8 +33,9 @@ use Rattle.clock.specs.Returned.{heightReturned, turnsReturned}
 use Rattle.cuvalimodo_c.specs.declared.answers.Verdict.{Verdict}
 use Rattle.cuvalimodo_c.specs.declared.answers.Reading.{Reading}
 use Rattle.cuvalimodo_c.specs.declared.answers.Turnings.{Turnings}
-use Rattle.cuvalimodo_c.specs.Answers.{verdictReturned, readingReturned, turningsReturned}
-use Rattle.claim.specs.Document.{Request, Cards, Station, Date, Height, Series, Turns, Year, Bookings, Names, Gave, told, predicted, wrote, found, filled, named}
+use Rattle.cuvalimodo_c.specs.declared.answers.Cards.{Cards as HeldCards}
+use Rattle.cuvalimodo_c.specs.Answers.{verdictReturned, readingReturned, turningsReturned, cardsTold}
+use Rattle.claim.specs.Document.{Request, Cards, Station, Date, Height, Series, Turns, Year, Bookings, Hourly, Names, Gave, told, predicted, wrote, found, filled, carded, named}
 use Rattle.claim.specs.Zeroed.{zeroed}
 use Rattle.clock.proofs.new as new
 use Rattle.clock.proofs.load_cards as load
@@ -46,6 +49,7 @@ use Rattle.clock.proofs.turns as turns
 use Rattle.clock.proofs.year as year
 use Rattle.clock.proofs.bookings as booking
 use Rattle.clock.proofs.bookings_lent as bookingLent
+use Rattle.clock.proofs.hourly as hourly
 use Rattle.clock.proofs.names as names
 use Rattle.cuvalimodo_c.proofs.cuvalimodo_new as heldNew
 use Rattle.cuvalimodo_c.proofs.cuvalimodo_load_cards as heldLoad
@@ -56,6 +60,7 @@ use Rattle.cuvalimodo_c.proofs.cuvalimodo_series as heldSeries
 use Rattle.cuvalimodo_c.proofs.cuvalimodo_turns as heldTurns
 use Rattle.cuvalimodo_c.proofs.cuvalimodo_year as heldYear
 use Rattle.cuvalimodo_c.proofs.cuvalimodo_bookings as heldBooking
+use Rattle.cuvalimodo_c.proofs.cuvalimodo_hourly as heldHourly
 use Rattle.cuvalimodo_c.proofs.cuvalimodo_names as heldNames
 
 -- What is known of a call whose `requires` is P and whose `ensures` is Q, at every model of the logic: where a plain fact φ gives P, and Q
@@ -86,7 +91,8 @@ pub data New : Clock → Type 2 where
   zeros : New zeroed
 
 -- One call: the clock that it gets, the call with all that is lent to it, what it gives, and the clock that it leaves. (Heights, series,
--- turns, years, bookings and names take the clock by value, or are lent it to be read, and give none back: what they leave is what they got.)
+-- turns, years, bookings, hourly cards and names take the clock by value, or are lent it to be read, and give none back: what they leave is what
+-- they got.)
 pub data Call : Clock → Request → Gave → Clock → Type 2 where
   loads : {κs : Lfts 1} {c : Clock} {file : RefT (List ℕ)} {r : After}
       → Once load.ended (λ M. load.clauses) κs (c, (file, tt)) r (tt, (tt, tt))
@@ -116,6 +122,9 @@ pub data Call : Clock → Request → Gave → Clock → Type 2 where
   bookings : {κs : Lfts 2} {c : Clock} {minutes : RefT (List ℕ)} {before : RefT (List ℤ)} {after : List ℤ} {r : Answer}
       → Once booking.ended (λ M. booking.clauses) κs (c, (minutes, (before, tt))) r (tt, (tt, (after, tt)))
       → Call c (Bookings (now minutes) (now before)) (wrote (record { returned = outcomeOf r; heights = after })) c
+  hourlies : {κs : Lfts 1} {c : Clock} {number : ℕ} {before : RefT (List ℕ)} {after : List ℕ} {r : CardsAnswer}
+      → Once hourly.ended (λ M. hourly.clauses) κs (c, (number, (before, tt))) r (tt, (tt, (after, tt)))
+      → Call c (Hourly number (now before)) (carded (record { returned = cardsReturned r; buffer = after })) c
   hands : {c : Clock} {r : TableNames}
       → Once names.ended (λ M. names.clauses) tt (c, tt) r (tt, tt)
       → Call c Names (named (namesFrom (r .bytes) 0 (r .count))) c
@@ -150,6 +159,9 @@ pub data Call : Clock → Request → Gave → Clock → Type 2 where
   heldBookings : {κs : Lfts 3} {clock : RefT Clock} {minutes : RefT (List ℕ)} {before : RefT (List ℤ)} {after : List ℤ} {r : Verdict}
       → Once heldBooking.ended (λ M. heldBooking.clauses) κs (clock, (minutes, (before, tt))) r (tt, (tt, (after, tt)))
       → Call (now clock) (Bookings (now minutes) (now before)) (wrote (record { returned = verdictReturned r; heights = after })) (now clock)
+  heldHourlies : {κs : Lfts 2} {clock : RefT Clock} {number : ℕ} {before : RefT (List ℕ)} {after : List ℕ} {r : HeldCards}
+      → Once heldHourly.ended (λ M. heldHourly.clauses) κs (clock, (number, (before, tt))) r (tt, (tt, (after, tt)))
+      → Call (now clock) (Hourly number (now before)) (carded (record { returned = cardsTold r; buffer = after })) (now clock)
   heldHands : {κs : Lfts 1} {clock : RefT Clock} {r : TableNames}
       → Once heldNames.ended (λ M. heldNames.clauses) κs (clock, tt) r (tt, tt)
       → Call (now clock) Names (named (namesFrom (r .bytes) 0 (r .count))) (now clock)

@@ -1,17 +1,24 @@
 -- 01, demand 3: THE CLAIM, as it is proved (proofs/Claim.antt), and what it says of a single height, of a series, of turns, of a year's
--- sheet and of bookings (proofs/AtEachHeight.antt).
+-- sheet, of bookings (proofs/AtEachHeight.antt) and of hourly cards (proofs/Carded.antt).
 -- Assumes nothing.
-use Prim.Native.Nat.{ℕ, _+_, _*_, _<_}
+use Prim.Native.Nat.{ℕ, _+_, _*_, _<_, _≤_}
 use mathlib.Core.Bool.{Bool}
 use mathlib.Core.List.{List, [], _∷_, _++_}
 use mathlib.Core.Path.{_≡_}
-use lib.IntN.{ℤ, pos}
-use lib.ListN.{length, getD}
+use lib.IntN.{ℤ, pos, natAbs, _-ℤ_, _*ℤ_}
+use lib.ListN.{length, getD, take, drop}
+use Rattle.calendar.specs.Calendar.{monthDays}
 use Rattle.heights.specs.Exact.{Near, NearOver}
 use Rattle.refusals.specs.Outcome.{accepted}
+use Rattle.hourly.specs.Card.{Entry, value, gap, HourlyCard}
+use Rattle.hourly.specs.Format.{narrow}
+use Rattle.hourly.specs.Writing.{cardsWritten}
+use Rattle.hourly.specs.Reading.{cardsRead}
+use Rattle.calls.specs.State.{some, Dated}
+use Rattle.calls.specs.Hourly.{monthCards}
 use Rattle.calls.specs.declared.annual.Sheet.{Sheet}
 use Rattle.clock.specs.declared.Clock.{Clock}
-use Rattle.claim.specs.Document.{Request, Height, Series, Turns, Year, Bookings, Gave, predicted, wrote, found, filled, Last, nothing, lastConstituents, lastYear, gives, givesAll, lastAfter, EachNear}
+use Rattle.claim.specs.Document.{Request, Height, Series, Turns, Year, Bookings, Hourly, Gave, predicted, wrote, found, filled, carded, Last, nothing, workedOut, lastConstituents, lastYear, gives, givesAll, lastAfter, EachNear}
 use Rattle.claim.specs.Calls.{New, Calls}
 
 -- `exactly`: what the calls return and write is what the document gives for the list, all of it and no other: each call accepted or refused
@@ -76,3 +83,39 @@ OfBookings =
     → (n : ℕ) → n < length after
     → (predicted (accepted (getD after n (pos 0))) ≡ gives (Before qs) (Height (getD minutes n 0)))
     × Near (lastConstituents (Before qs)) (getD minutes n 0) (getD after n (pos 0))
+
+-- ---- 02, No. 4: hourly cards say a height for each hour of the month
+
+-- the heights on cards, one after another
+abbrev pub heightsOn : List HourlyCard → List Entry
+heightsOn [] = []
+heightsOn (card ∷ cards) = card .heights ++ heightsOn cards
+
+-- hour n of the month, from 0, is over at minute 60 × (n + 1), 01:00 being the first: the cards have that minute's height at place n, in
+-- centimetres, "the nearest": within half a centimetre of what a single request gives, which keeps its distance
+pub record OnCards (l : Last) (cards : List HourlyCard) (n : ℕ) : Type 0 where
+  pub height : ℤ
+  pub single : predicted (accepted height) ≡ gives l (Height (60 * (n + 1)))
+  pub near : Near (lastConstituents l) (60 * (n + 1)) height
+  pub centimetres : ℤ
+  pub stands : getD (heightsOn cards) n gap ≡ value centimetres
+  pub nearest : natAbs (pos 100 *ℤ centimetres -ℤ height) ≤ 50
+
+-- the call returned n and left these bytes in the buffer
+pub record Carded (l : Last) (number n : ℕ) (buffer left : List ℕ) : Type 0 where
+  -- "Write a prepared month's cards [..] and return how many bytes they take"
+  pub month : Dated
+  pub prepared : workedOut l .month ≡ some month
+  pub count : n ≡ length (cardsWritten narrow (monthCards month number))
+  pub written : take n left ≡ cardsWritten narrow (monthCards month number)
+  -- "the bytes beyond them unchanged"
+  pub beyond : drop n left ≡ drop n buffer
+  -- "these cards, read by that format and 01's number rule, give the station number, dates and centimetre heights written"
+  pub read : cardsRead narrow (take n left) ≡ accepted (monthCards month number)
+  pub hours : (hour : ℕ) → hour < 24 * monthDays (month .year) (month .month) → OnCards l (monthCards month number) hour
+
+abbrev pub OfHourly : Type 0
+OfHourly =
+    (qs : List Request) (gs : List Gave) (number n : ℕ) (buffer left : List ℕ)
+    → Claim (qs ++ Hourly number buffer ∷ []) (gs ++ carded (record { returned = accepted n; buffer = left }) ∷ [])
+    → Carded (Before qs) number n buffer left

@@ -12,6 +12,8 @@ use Rattle.columns.specs.Names.{namesFrom}
 use Rattle.station.specs.declared.records.Record.{Record}
 use Rattle.station.specs.declared.records.Rows.{Rows}
 use Rattle.station.specs.Records.{recordsOf}
+use Rattle.hourly.specs.declared.CardsAnswer.{CardsAnswer}
+use Rattle.hourly.specs.Answers.{cardsReturned}
 use Rattle.calls.specs.declared.annual.Sheet.{Sheet}
 use Rattle.clock.specs.declared.Clock.{Clock}
 use Rattle.clock.specs.declared.HeightAnswer.{HeightAnswer}
@@ -20,23 +22,25 @@ use Rattle.clock.specs.declared.TableNames.{TableNames}
 use Rattle.clock.specs.View.{view}
 use Rattle.calls.specs.Names.{namesIn}
 use Rattle.clock.specs.Returned.{heightReturned, turnsReturned}
-use Rattle.clock.specs.Posts.{NewPost, CardsPost, StationPost, DatePost, HeightPost, SeriesPost, TurnsPost, YearPost, BookingsPost}
+use Rattle.clock.specs.Posts.{NewPost, CardsPost, StationPost, DatePost, HeightPost, SeriesPost, TurnsPost, YearPost, BookingsPost, HourlyPost}
 use Rattle.cuvalimodo_c.specs.declared.answers.Verdict.{Verdict}
 use Rattle.cuvalimodo_c.specs.declared.answers.Reading.{Reading}
 use Rattle.cuvalimodo_c.specs.declared.answers.Turnings.{Turnings}
-use Rattle.cuvalimodo_c.specs.Answers.{verdictReturned, readingReturned, turningsReturned, Plain, PlainReading, PlainTurnings}
-use Rattle.claim.specs.Document.{Request, Cards, Station, Date, Height, Series, Turns, Year, Bookings, Names, Gave, told, predicted, wrote, found, filled, named}
+use Rattle.cuvalimodo_c.specs.declared.answers.Cards.{Cards as HeldCards}
+use Rattle.cuvalimodo_c.specs.Answers.{verdictReturned, readingReturned, turningsReturned, cardsTold, Plain, PlainReading, PlainTurnings, PlainCards}
+use Rattle.claim.specs.Document.{Request, Cards, Station, Date, Height, Series, Turns, Year, Bookings, Hourly, Names, Gave, told, predicted, wrote, found, filled, carded, named}
 use Rattle.claim.specs.Calls.{New, Call, Calls}
 
 -- the calls of the papers, and what a clock with no table gives for them: an empty card file ends inside its first part, 7 at line 1; the others find
--- no table, 21, and leave the lent places as they were (bookings too, which have a place too few: "31, [..] after the state checks")
+-- no table, 21, and leave the lent places as they were (bookings too, which have a place too few: "31, [..] after the state checks"; and hourly cards,
+-- whose station number is over 99999 and whose buffer is too short: 32 to 34 "come after the state checks")
 abbrev pub aSheet : Sheet
 aSheet = record { year = 1976; start = 0; step = 1; first = 0; last = 1 }
 
 abbrev each : List Request
 each =
     Cards [] ∷ Station (pos 0) [] ∷ Date 1976 7 ∷ Height 0 ∷ Series 0 1 (pos 5 ∷ []) ∷ Turns 0 1 (9 ∷ []) (pos 5 ∷ [])
-    ∷ Year aSheet (pos 3 ∷ []) (9 ∷ []) (pos 5 ∷ []) ∷ Bookings (9 ∷ 0 ∷ []) (pos 5 ∷ []) ∷ []
+    ∷ Year aSheet (pos 3 ∷ []) (9 ∷ []) (pos 5 ∷ []) ∷ Bookings (9 ∷ 0 ∷ []) (pos 5 ∷ []) ∷ Hourly 100_000 (7 ∷ []) ∷ []
 
 abbrev refusals : List Gave
 refusals =
@@ -44,7 +48,8 @@ refusals =
     ∷ wrote (record { returned = refused 21 0; heights = pos 5 ∷ [] })
     ∷ found (record { returned = refused 21 0; minutes = 9 ∷ []; heights = pos 5 ∷ [] })
     ∷ filled (record { returned = refused 21 0; series = pos 3 ∷ []; minutes = 9 ∷ []; heights = pos 5 ∷ [] })
-    ∷ wrote (record { returned = refused 21 0; heights = pos 5 ∷ [] }) ∷ []
+    ∷ wrote (record { returned = refused 21 0; heights = pos 5 ∷ [] })
+    ∷ carded (record { returned = refused 21 0; buffer = 7 ∷ [] }) ∷ []
 
 -- a list with each kind of call in it: a call of the papers with the clock by value, and with the clock lent; a height of `clock::height_lent` and
 -- bookings of `clock::bookings_lent`, a station whose records are in arrays, and the names, of which there are none, with the clock by value and lent
@@ -72,6 +77,8 @@ pub record Controls : Type 2 where
       → Call c (Year sheet ss ms hs) (filled (record { returned = turnsReturned answer; series = ss′; minutes = ms′; heights = hs′ })) c
   pub bookings : (c : Clock) (minutes : List ℕ) (hs hs′ : List ℤ) (answer : Answer) → BookingsPost c minutes hs hs′ (outcomeOf answer)
       → Call c (Bookings minutes hs) (wrote (record { returned = outcomeOf answer; heights = hs′ })) c
+  pub hourly : (c : Clock) (number : ℕ) (buffer left : List ℕ) (answer : CardsAnswer) → HourlyPost c number buffer left (cardsReturned answer)
+      → Call c (Hourly number buffer) (carded (record { returned = cardsReturned answer; buffer = left })) c
   pub names : (c : Clock) (r : TableNames) → namesFrom (r .bytes) 0 (r .count) ≡ namesIn (view c) → Call c Names (named (namesFrom (r .bytes) 0 (r .count))) c
   -- with the clock lent: c is what is behind the reference
   pub held-new : (c c′ : Clock) → NewPost c′ → New c′
@@ -91,5 +98,7 @@ pub record Controls : Type 2 where
       → Call c (Bookings minutes hs) (wrote (record { returned = outcomeOf answer; heights = hs′ })) c
   pub held-bookings : (c : Clock) (minutes : List ℕ) (hs hs′ : List ℤ) (r : Verdict) → BookingsPost c minutes hs hs′ (verdictReturned r) → Plain r
       → Call c (Bookings minutes hs) (wrote (record { returned = verdictReturned r; heights = hs′ })) c
+  pub held-hourly : (c : Clock) (number : ℕ) (buffer left : List ℕ) (r : HeldCards) → HourlyPost c number buffer left (cardsTold r) → PlainCards r
+      → Call c (Hourly number buffer) (carded (record { returned = cardsTold r; buffer = left })) c
   pub held-names : (c : Clock) (r : TableNames) → namesFrom (r .bytes) 0 (r .count) ≡ namesIn (view c) → Call c Names (named (namesFrom (r .bytes) 0 (r .count))) c
   pub each-kind : (c : Clock) → NewPost c → Calls c eachKind eachRefused c

@@ -1,4 +1,4 @@
--- 01, "Heights and turns", demand 3, and 02, No. 1 and 3: what the documents say of a list of calls. Over the calls alone, with all that is lent to them:
+-- 01, "Heights and turns", demand 3, and 02, No. 1, 3 and 4: what the documents say of a list of calls. Over the calls alone, with all that is lent to them:
 -- no clock, and nothing that a program keeps.
 -- Assumes nothing.
 use Prim.{Unit}
@@ -21,10 +21,12 @@ use Rattle.calls.specs.Calls.{cardsReturns, stationReturns, dateGives, dateRetu
 use Rattle.calls.specs.declared.annual.Sheet.{Sheet}
 use Rattle.calls.specs.Year.{yearAsked, YearGiven, yearGives}
 use Rattle.calls.specs.Bookings.{bookingsGives}
+use Rattle.hourly.specs.Month.{CardsGiven}
+use Rattle.calls.specs.Hourly.{hourlyGives}
 
 -- "The calls are a card file, a station, a date, a height, a series and turns", each with all that is lent to it; "A call that a change request
--- adds to the clock joins the list": 02's year and its bookings, "a list of minutes, in any order and with repeats"; and, though it is no call of the
--- papers and gives nothing of the tide, the clock's handing out of names
+-- adds to the clock joins the list": 02's year, its bookings, "a list of minutes, in any order and with repeats", and its hourly cards under a station
+-- number; and, though it is no call of the papers and gives nothing of the tide, the clock's handing out of names
 pub data Request : Type 0 where
   Cards : List ℕ → Request
   Station : ℤ → List Record → Request
@@ -34,6 +36,7 @@ pub data Request : Type 0 where
   Turns : ℕ → ℕ → List ℕ → List ℤ → Request
   Year : Sheet → List ℤ → List ℕ → List ℤ → Request
   Bookings : List ℕ → List ℤ → Request
+  Hourly : ℕ → List ℕ → Request
   Names : Request
 
 -- what a call gives: what it returns, and its lent buffers as it leaves them
@@ -43,6 +46,7 @@ pub data Gave : Type 0 where
   wrote : SeriesGiven → Gave
   found : TurnsGiven → Gave
   filled : YearGiven → Gave
+  carded : CardsGiven → Gave
   named : List (List ℕ) → Gave
 
 -- a date as it is lent
@@ -97,6 +101,7 @@ after l (Turns first end minutes heights) = l
 after l (Year sheet series minutes heights) = l
 -- "a call that a request adds leaves table, station and month as they were"
 after l (Bookings minutes heights) = l
+after l (Hourly number buffer) = l
 after l Names = l
 
 -- what the document gives for a call, from what was last accepted before it
@@ -109,6 +114,7 @@ gives l (Series start step heights) = wrote (seriesGives (workedOut l) start ste
 gives l (Turns first end minutes heights) = found (turnsGives (workedOut l) first end minutes heights)
 gives l (Year sheet series minutes heights) = filled (yearGives (workedOut l) sheet series minutes heights)
 gives l (Bookings minutes heights) = wrote (bookingsGives (workedOut l) minutes heights)
+gives l (Hourly number buffer) = carded (hourlyGives (workedOut l) number buffer)
 gives l Names = named (namesIn (workedOut l))
 
 -- what it gives for each call of a list, the first one first
@@ -157,42 +163,32 @@ sheetPoints sheet y =
 abbrev pub bookingsPoints : {A : Type 0} → List ℕ → Outcome A → List ℤ → List Point
 bookingsPoints minutes returned heights = onAccepted returned (λ _. pointsOf minutes heights) []
 
+-- what was given, by its kind: a height, heights that were written, turns, a year's sheet, or nothing that is a height of the exact sum: hourly cards
+-- say centimetres (`OfHourly` in `Claim`)
+abbrev pub pointsBy : (Outcome ℤ → List Point) → (SeriesGiven → List Point) → (TurnsGiven → List Point) → (YearGiven → List Point) → Gave → List Point
+pointsBy height heights turns sheet (told r) = []
+pointsBy height heights turns sheet (predicted r) = height r
+pointsBy height heights turns sheet (wrote s) = heights s
+pointsBy height heights turns sheet (found t) = turns t
+pointsBy height heights turns sheet (filled y) = sheet y
+pointsBy height heights turns sheet (carded c) = []
+pointsBy height heights turns sheet (named names) = []
+
+abbrev no : {A : Type 0} → A → List Point
+no given = []
+
 -- "The claim covers each height that a call in the list gives"
 abbrev pub points : Request → Gave → List Point
-points (Cards file) g = []
-points (Station latitude records) g = []
-points (Date year month) g = []
-points Names g = []
-points (Height minute) (told r) = []
-points (Height minute) (predicted r) = heightPoints minute r
-points (Height minute) (wrote s) = []
-points (Height minute) (found t) = []
-points (Height minute) (filled y) = []
-points (Height minute) (named names) = []
-points (Series start step heights) (told r) = []
-points (Series start step heights) (predicted r) = []
-points (Series start step heights) (wrote s) = seriesPoints start step (s .returned) (s .heights)
-points (Series start step heights) (found t) = []
-points (Series start step heights) (filled y) = []
-points (Series start step heights) (named names) = []
-points (Turns first end minutes heights) (told r) = []
-points (Turns first end minutes heights) (predicted r) = []
-points (Turns first end minutes heights) (wrote s) = []
-points (Turns first end minutes heights) (found t) = turnsPoints (t .returned) (t .minutes) (t .heights)
-points (Turns first end minutes heights) (filled y) = []
-points (Turns first end minutes heights) (named names) = []
-points (Year sheet series minutes heights) (told r) = []
-points (Year sheet series minutes heights) (predicted r) = []
-points (Year sheet series minutes heights) (wrote s) = []
-points (Year sheet series minutes heights) (found t) = []
-points (Year sheet series minutes heights) (filled y) = sheetPoints sheet y
-points (Year sheet series minutes heights) (named names) = []
-points (Bookings minutes heights) (told r) = []
-points (Bookings minutes heights) (predicted r) = []
-points (Bookings minutes heights) (wrote s) = bookingsPoints minutes (s .returned) (s .heights)
-points (Bookings minutes heights) (found t) = []
-points (Bookings minutes heights) (filled y) = []
-points (Bookings minutes heights) (named names) = []
+points (Cards file) = no
+points (Station latitude records) = no
+points (Date year month) = no
+points (Height minute) = pointsBy (heightPoints minute) no no no
+points (Series start step heights) = pointsBy no (λ s. seriesPoints start step (s .returned) (s .heights)) no no
+points (Turns first end minutes heights) = pointsBy no no (λ t. turnsPoints (t .returned) (t .minutes) (t .heights)) no
+points (Year sheet series minutes heights) = pointsBy no no no (sheetPoints sheet)
+points (Bookings minutes heights) = pointsBy no (λ s. bookingsPoints minutes (s .returned) (s .heights)) no no
+points (Hourly number buffer) = no
+points Names = no
 
 -- V, P and Q of the station's constituents, worked out from what was last accepted
 abbrev pub constituentsThere : Maybe Dated → List Constituent
@@ -224,6 +220,7 @@ monthsFor l (Series start step heights) = preparedMonth (workedOut l .month)
 monthsFor l (Turns first end minutes heights) = preparedMonth (workedOut l .month)
 monthsFor l (Year sheet series minutes heights) = lastYear l (sheet .year)
 monthsFor l (Bookings minutes heights) = preparedMonth (workedOut l .month)
+monthsFor l (Hourly number buffer) = preparedMonth (workedOut l .month)
 monthsFor l Names = preparedMonth (workedOut l .month)
 
 -- each point near the exact sum of the month that owns its minute

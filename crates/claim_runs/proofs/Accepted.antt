@@ -1,11 +1,16 @@
 -- A list with each kind of call in it is accepted (specs/Accepted.antt): by computing, from the bytes of the card file on. Each value on the
 -- way, as the table and the month, is written out once. Assumes nothing.
-use Prim.Native.Nat.{ℕ, suc}
+use Prim.{Unit}
+use Prim.Native.Nat.{ℕ, zero, suc, _+_, _-_, _*_, _≤_}
+use native.Mathlib.Nat.{sub-zero}
+use native.Mathlib.Omega.{arith}
 use mathlib.Core.Logic.{∥∥₁-map}
-use mathlib.Core.Path.{_≡_, refl, subst}
+use mathlib.Core.Path.{_≡_, refl, ap, ap₂, fun-ext, subst, _∙_}
 use mathlib.Core.Bool.{false}
-use mathlib.Core.List.{List, [], _∷_}
-use lib.IntN.{pos}
+use mathlib.Core.List.{List, [], _∷_, _++_}
+use lib.Dec.{ltb}
+use lib.IntN.{ℤ, pos, _+ℤ_, _-ℤ_, zero-*ℤ}
+use lib.ListN.{length, drop, length-replicate}
 use mir.Val.{Val}
 use Rattle.limits.specs.Limits.{mostMinutes}
 use Rattle.cosine.specs.Fraction.{factorial, arc, unit, term, added, taken, whole, base}
@@ -46,6 +51,8 @@ use Rattle.heights.specs.Angle.{angle}
 use Rattle.heights.specs.Share.{share}
 use Rattle.heights.specs.Height.{sumOfShares, heightAt, heightOver}
 use Rattle.heights.specs.Series.{seriesFrom}
+use Rattle.hourly.specs.Writing.{decimal, entryWritten, writtenBy, cardsWritten}
+use Rattle.hourly.specs.Month.{cardsFrom, cardsOf, anyOutside, heightsAsked, bytesOf, CardsGiven, intoBuffer}
 use Rattle.turns.specs.Slope.{fall, fallsAt, slopeAt, slopeOver}
 use Rattle.turns.specs.Sense.{rising, differ}
 use Rattle.turns.specs.Search.{turnsFrom}
@@ -54,15 +61,16 @@ use Rattle.turns.specs.Strides.{amplitudeOf, stationStride}
 use Rattle.turns.specs.Written as written
 use Rattle.calls.specs.State.{Maybe, none, some}
 use Rattle.calls.specs.Names.{namesIn}
-use Rattle.refusals.specs.Outcome.{accepted}
+use Rattle.refusals.specs.Outcome.{Outcome, accepted, refuseIf, _>>_}
 use Rattle.calls.specs.Calls.{cardsReturns, stationReturns, dateGives, dateReturns, heightReturns, seriesHeights, seriesGives, turnsGives}
 use Rattle.calls.specs.Year.{sheetAsked, yearGives}
 use Rattle.calls.specs.Bookings.{minutesFrom, bookingsHeights, bookingsGives}
+use Rattle.calls.specs.Hourly.{hourlyBytes, hourlyGives}
 use Rattle.clock.proofs.Clock.Laws as ClockLaws
 use Rattle.claim.specs.Zeroed.{zeroed, zeroOf}
 use Rattle.claim.proofs.Zeros.{zeros-are-zeroed}
 use Rattle.claim.specs.Document.{Last, workedOut, gives, after, givesAll}
-use Rattle.claim_runs.specs.Accepted.{z0, frequencyLine, fiveLine, mainLine, cardLines, ended, smallFile, z0-records, year-sheet, threeMinutes, threePlaces, acceptedCalls, AcceptedByTheDocument, AcceptedFrom, AcceptedByTheMachine}
+use Rattle.claim_runs.specs.Accepted.{z0, frequencyLine, fiveLine, mainLine, cardLines, ended, smallFile, z0-records, year-sheet, threeMinutes, threePlaces, stationNumber, stars, julyCards, acceptedCalls, AcceptedByTheDocument, AcceptedFrom, AcceptedByTheMachine}
 use Rattle.claim_runs.specs.Values.{clockAt, zeroMemory}
 use Rattle.claim_runs.specs.Runs.{Started, GiveAll}
 use Rattle.claim_runs.proofs.EachKind.{all-reached, new-run, held-new-run}
@@ -141,17 +149,22 @@ year-is = refl
 
 -- ---- its heights and turns
 
-height-is : heightAt z0-month 0 ≡ pos 100
-unfolding heightAt sumOfShares share angle fixedCosine fixedBase entry base added taken whole term factorial arc unit
-height-is = refl
+-- Z0 has angle 0 at every minute, and so one height
+angle-is : (minute : ℕ) → angle 0 0 0 minute ≡ 0
+unfolding angle
+angle-is minute = rw (zero-*ℤ (pos minute -ℤ pos 21_600))
 
-noon-is : heightAt z0-month 720 ≡ pos 100
-unfolding heightAt sumOfShares share angle fixedCosine fixedBase entry base added taken whole term factorial arc unit
-noon-is = refl
+share-is : share (pos 409_600) (pos 0) 0 ≡ pos 409_600
+unfolding share fixedCosine fixedBase entry base added taken whole term factorial arc unit
+share-is = refl
+
+height-is : (minute : ℕ) → heightAt z0-month minute ≡ pos 100
+unfolding heightAt sumOfShares
+height-is minute = rw (angle-is minute, share-is)
 
 over-is : heightOver z0-year 0 ≡ pos 100
 unfolding ownerOf
-over-is = height-is
+over-is = height-is 0
 
 stride-is : stationStride table z0-station ≡ 180
 unfolding stationStride strideOf amplitudeOf placeFrom same
@@ -166,6 +179,36 @@ turns-are more = refl
 year-turns-are : (more : ℕ) → turnsFrom (slopeOver z0-year) 180 360 (suc (suc (suc more))) 0 ≡ []
 unfolding turnsFrom differ rising slopeAt fallsAt fall angle fixedCosine fixedBase entry base added taken whole term factorial arc unit ownerOf
 year-turns-are more = refl
+
+-- ---- its hourly cards
+
+abbrev level : ℕ → ℤ
+level minute = pos 100
+
+-- one centimetre is not outside a card's range
+level-asked : (place day left : ℕ) → heightsAsked place (cardsFrom level stationNumber 1976 7 day left) ≡ accepted tt
+unfolding heightsAsked cardsFrom anyOutside seriesFrom
+level-asked place day zero = refl
+level-asked place day (suc left) = level-asked (place + 1 + 1) (day + 1) left
+
+july-length : length julyCards ≡ 4_278
+unfolding julyCards cardsWritten writtenBy entryWritten decimal cardsFrom seriesFrom monthDays isFourth
+july-length = refl
+
+july-bytes : bytesOf (cardsOf level stationNumber 1976 7) 4_300 ≡ accepted julyCards
+unfolding julyCards
+july-bytes =
+    ap₂ (λ (asked : Outcome Unit) (n : ℕ). asked >> refuseIf (ltb 4_300 n) 34 0 (accepted julyCards)) (level-asked 1 1 (monthDays 1976 7)) july-length
+
+stars-length : (n : ℕ) → length (stars n) ≡ n
+unfolding stars
+stars-length n = length-replicate n 42
+
+stars-beyond : (n k : ℕ) → n ≤ k → drop n (stars k) ≡ stars (k - n)
+unfolding stars
+stars-beyond zero k h = rw (sub-zero k)
+stars-beyond (suc n) zero h = absurd (omega arith)
+stars-beyond (suc n) (suc k) h = let e : k - n ≡ suc k - suc n = omega arith in stars-beyond n k (omega arith) ∙ ap stars e
 
 -- ---- what was last accepted, and what follows from it
 
@@ -211,11 +254,11 @@ date-accepted = rw (table-worked (some z0-station), month-is)
 
 height-given : heightReturns (workedOut afterDate) 0 ≡ accepted (pos 100)
 unfolding heightReturns
-height-given = rw (month-worked, height-is)
+height-given = rw (month-worked, height-is 0)
 
 one-given : seriesGives (workedOut afterDate) 0 1 (pos 0 ∷ []) ≡ record { returned = accepted tt; heights = pos 100 ∷ [] }
 unfolding seriesHeights seriesGives seriesFrom
-one-given = rw (month-worked, height-is)
+one-given = rw (month-worked, height-is 0)
 
 series-given : seriesGives (workedOut afterDate) 0 1 [] ≡ record { returned = accepted tt; heights = [] }
 unfolding seriesHeights seriesGives seriesFrom
@@ -235,7 +278,23 @@ one-of-a-year = rw (month-worked, year-is, over-is, stride-is, year-turns-are 35
 
 bookings-given : bookingsGives (workedOut afterDate) threeMinutes threePlaces ≡ record { returned = accepted tt; heights = pos 100 ∷ pos 100 ∷ pos 100 ∷ [] }
 unfolding bookingsHeights bookingsGives minutesFrom
-bookings-given = rw (month-worked, height-is, noon-is)
+bookings-given = rw (month-worked, height-is 0, height-is 720)
+
+cards-are : hourlyBytes (workedOut afterDate) stationNumber 4_300 ≡ accepted julyCards
+unfolding hourlyBytes
+cards-are = rw month-worked (ap (λ (height : ℕ → ℤ). bytesOf (cardsOf height stationNumber 1976 7) 4_300) (fun-ext height-is) ∙ july-bytes)
+
+-- so many bytes are taken, and the rest is as it was
+abbrev taking : ℕ → List ℕ → CardsGiven
+taking n rest = record { returned = accepted n; buffer = julyCards ++ rest }
+
+hourly-given : hourlyGives (workedOut afterDate) stationNumber (stars 4_300) ≡ record { returned = accepted 4_278; buffer = julyCards ++ stars 22 }
+unfolding hourlyGives
+hourly-given =
+    let within : 4_278 ≤ 4_300 = omega arith in
+    ap (λ (o : Outcome (List ℕ)). intoBuffer o (stars 4_300)) (ap (hourlyBytes (workedOut afterDate) stationNumber) (stars-length 4_300) ∙ cards-are)
+    ∙ ap (λ (n : ℕ). taking n (drop n (stars 4_300))) july-length
+    ∙ ap (taking 4_278) (stars-beyond 4_278 4_300 within)
 
 names-given : namesIn (workedOut afterDate) ≡ z0 ∷ []
 names-given = rw month-worked
@@ -243,7 +302,7 @@ names-given = rw month-worked
 pub accepted-by-the-document : AcceptedByTheDocument
 unfolding givesAll gives after
 accepted-by-the-document =
-    rw (cards-accepted, none-accepted, station-accepted (some none-station), station-accepted none, date-accepted, height-given, series-given, one-given, turns-given, year-given, one-of-a-year, bookings-given, names-given)
+    rw (cards-accepted, none-accepted, station-accepted (some none-station), station-accepted none, date-accepted, height-given, series-given, one-given, turns-given, year-given, one-of-a-year, bookings-given, hourly-given, names-given)
 
 -- the machine's runs of these calls give what the document gives
 accepted-from : (vc : Val) → Started vc → AcceptedFrom vc

@@ -36,21 +36,21 @@ use Rattle.cuvalimodo_c.proofs.cuvalimodo_new as heldNew
 use Rattle.cuvalimodo_c.proofs.cuvalimodo_new.Symbol as heldNewCode
 use Rattle.cuvalimodo_c.proofs.cuvalimodo_new.Met as heldNewMet
 use Rattle.claim.specs.Zeroed.{zeroed}
-use Rattle.claim.specs.Document.{Request, Cards, Station, Date, Series, Turns, Year, Bookings, Gave, told, predicted, wrote, found, filled, named, Last, nothing, after, gives, givesAll, lastAfter}
+use Rattle.claim.specs.Document.{Request, Cards, Station, Date, Series, Turns, Year, Bookings, Hourly, Gave, told, predicted, wrote, found, filled, carded, named, Last, nothing, after, gives, givesAll, lastAfter}
 use Rattle.claim.specs.Calls as call
 use Rattle.claim.specs.Calls.{Call}
 use Rattle.claim.proofs.Points.{near-calls}
 use Rattle.claim.proofs.Decided.{gave-once}
 use Rattle.claim.proofs.Claim.{Agrees, new-agrees, call-agrees}
 use Rattle.claim_runs.specs.Handed.{Assertion, _∗_, ⟦_⟧₀, _⊨_, Handed, value, sees, changes, Lie, At, Written, lieAfter, Ran, Leaves}
-use Rattle.claim_runs.specs.Values.{clockIn, answerIn, turnsIn, verdictIn, turningsIn, clockAt}
-use Rattle.claim_runs.specs.Runs.{Run, loads, stations, placed, dates, heights, serieses, searches, years, bookings, hands, heldLoads, heldStations, heldDates, lentHeights, heldHeights, heldSerieses, heldSearches, heldYears, lentBookings, heldBookings, heldHands, Gives, Started, returned, left, zeros, Runs, done, _then_, GiveAll}
+use Rattle.claim_runs.specs.Values.{clockIn, answerIn, turnsIn, cardsIn, verdictIn, turningsIn, heldCardsIn, clockAt}
+use Rattle.claim_runs.specs.Runs.{Run, loads, stations, placed, dates, heights, serieses, searches, years, bookings, hourlies, hands, heldLoads, heldStations, heldDates, lentHeights, heldHeights, heldSerieses, heldSearches, heldYears, lentBookings, heldBookings, heldHourlies, heldHands, Gives, Started, returned, left, zeros, Runs, done, _then_, GiveAll}
 use Rattle.claim_runs.specs.OnMachine.{OfAnyRuns, Returns, EveryCallEnds, AlwaysEnds}
 use Rattle.claim_runs.proofs.Handing.{Came, comes, every-comes}
-use Rattle.claim_runs.proofs.Parameters.{clock-makes, clock-lawful, Callable, new-takes, load-call, station-call, placing-call, date-call, height-call, series-call, turns-call, year-call, bookings-call, names-call, clock-means, held-new-takes, held-load-call, held-station-call, held-date-call, lent-height-call, held-height-call, held-series-call, held-turns-call, held-year-call, lent-bookings-call, held-bookings-call, held-names-call}
-use Rattle.claim_runs.proofs.Loads.{zeros-load, in-front, behind, value-loads, heights-left, heights-left-behind, turns-left, sheet-left}
+use Rattle.claim_runs.proofs.Parameters.{clock-makes, clock-lawful, Callable, new-takes, load-call, station-call, placing-call, date-call, height-call, series-call, turns-call, year-call, bookings-call, hourly-call, names-call, clock-means, held-new-takes, held-load-call, held-station-call, held-date-call, lent-height-call, held-height-call, held-series-call, held-turns-call, held-year-call, lent-bookings-call, held-bookings-call, held-hourly-call, held-names-call}
+use Rattle.claim_runs.proofs.Loads.{zeros-load, in-front, behind, value-loads, heights-left, heights-left-behind, bytes-left, turns-left, sheet-left}
 use Rattle.claim_runs.proofs.Laid.{laid}
-use Rattle.claim_runs.proofs.Values.{answer-reads, height-reads, turns-reads, names-read, after-reads, clock-is, verdict-reads, reading-reads, turnings-read}
+use Rattle.claim_runs.proofs.Values.{answer-reads, height-reads, turns-reads, cards-read, names-read, after-reads, clock-is, verdict-reads, reading-reads, turnings-read, held-cards-read}
 
 -- a clock with the machine's value vc, whose state is what is worked out from l
 pub record Holds (vc : Val) (l : Last) : Type 0 where
@@ -103,19 +103,26 @@ module _ {vc : Val} (l : Last) (h : Holds vc l) where
       ∥∥₁-map (leaves is-clock k) (λ a.
       subst (λ (v : Val). (Leaves x (v, ws) × (gives l q ≡ told (verdictIn (x .value)))) × Holds v (after l q)) e ((lies, a .0 ∙ ap told (sym (verdict-reads r (x .value) is))), a .1)))
 
-  -- heights that are written are read off the memory at the end
-  left-wrote : {q : Request} {hs′ zs : List ℤ} {said : Outcome Unit} (Left : List ℤ → Type 1) (r : Outcome Unit) → r ≡ said → Left hs′ → Call (h .clock) q (wrote (record { returned = said; heights = hs′ })) (h .clock)
-      → ∥ (hs′ ≡ zs) ∥₁ → ∥ ((Left zs × (gives l q ≡ wrote (record { returned = r; heights = zs }))) × Holds vc (after l q)) ∥₁
-  left-wrote {q = q} {hs′ = hs′} Left r is lies k e =
+  -- what is written to one buffer is read off the memory at the end
+  left-written : {X Y : Type 0} (given : Outcome Y → List X → Gave) {q : Request} {xs′ zs : List X} {said : Outcome Y} (Left : List X → Type 1) (r : Outcome Y) → r ≡ said → Left xs′
+      → Call (h .clock) q (given said xs′) (h .clock) → ∥ (xs′ ≡ zs) ∥₁ → ∥ ((Left zs × (gives l q ≡ given r zs)) × Holds vc (after l q)) ∥₁
+  left-written {X} {Y} given {q = q} {xs′ = xs′} Left r is lies k e =
       ∥∥₁-elim e ∥∥₁-prop (λ there.
       ∥∥₁-map (left-same k) (λ a. (
-        subst (λ (ys : List ℤ). Left ys × (gives l q ≡ wrote (record { returned = r; heights = ys }))) there (lies, a .0 ∙ ap (λ (o : Outcome Unit). wrote (record { returned = o; heights = hs′ })) (sym is)),
+        subst (λ (ys : List X). Left ys × (gives l q ≡ given r ys)) there (lies, a .0 ∙ ap (λ (o : Outcome Y). given o xs′) (sym is)),
         a .1,
       )))
 
+  -- .. heights, and hourly cards
+  abbrev heights-given : Outcome Unit → List ℤ → Gave
+  heights-given r hs = wrote (record { returned = r; heights = hs })
+
+  abbrev cards-given : Outcome ℕ → List ℕ → Gave
+  cards-given r bytes = carded (record { returned = r; buffer = bytes })
+
   -- a run gives what the document gives, and leaves a clock that holds what is worked out after it
   run-gives : {vc′ : Val} {q : Request} (x : Run vc q vc′) → ∥ (Gives x (gives l q) × Holds vc′ (after l q)) ∥₁
-  unfolding Gives load-call station-call placing-call date-call height-call series-call turns-call year-call bookings-call names-call held-load-call held-station-call held-date-call lent-height-call held-height-call held-series-call held-turns-call held-year-call lent-bookings-call held-bookings-call held-names-call
+  unfolding Gives load-call station-call placing-call date-call height-call series-call turns-call year-call bookings-call hourly-call names-call held-load-call held-station-call held-date-call lent-height-call held-height-call held-series-call held-turns-call held-year-call lent-bookings-call held-bookings-call held-hourly-call held-names-call
   run-gives (loads {file = file} {q = q} {b = b} {o = o} x) =
       ∥∥₁-elim (ran (load-call (h .clock) vc file q b o) (on-value x)) ∥∥₁-prop (λ k.
       ∥∥₁-map (left-anew (k .result) (k .is) (call.loads (k .once))) (λ a. ((k .leaves, a .0 ∙ ap told (sym (after-reads (k .result) (x .value) (k .is)))), a .1)))
@@ -133,7 +140,7 @@ module _ {vc : Val} (l : Last) (h : Holds vc l) where
       ∥∥₁-map (left-same (call.heights (k .once))) (λ a. ((k .leaves, a .0 ∙ ap predicted (sym (height-reads (k .result) (x .value) (k .is)))), a .1)))
   run-gives (serieses {start = start} {step = step} {vs = vs} {vt = vt} {hs = hs} {b = b} {o = o} x) =
       ∥∥₁-elim (ran (series-call (h .clock) vc start step vs vt hs b o) (on-value x)) ∥∥₁-prop (λ k.
-      left-wrote {q = Series start step hs} (λ zs. Leaves x (zs, tt)) (answerIn (x .value)) (answer-reads (k .result) (x .value) (k .is)) (k .leaves) (call.serieses (k .once))
+      left-written heights-given {q = Series start step hs} (λ zs. Leaves x (zs, tt)) (answerIn (x .value)) (answer-reads (k .result) (x .value) (k .is)) (k .leaves) (call.serieses (k .once))
       (heights-left (x .left) hs _ b o (x .rest) (k .as-many .0) (k .leaves)))
   run-gives (searches {first = first} {last = last} {vf = vf} {vl = vl} {ms = ms} {b = b} {o = o} {hs = hs} {b₁ = b₁} {o₁ = o₁} x) =
       ∥∥₁-elim (ran (turns-call (h .clock) vc first last vf vl ms b o hs b₁ o₁) (on-value x)) ∥∥₁-prop (λ k.
@@ -159,8 +166,12 @@ module _ {vc : Val} (l : Last) (h : Holds vc l) where
       ))))
   run-gives (bookings {minutes = minutes} {q = q} {b = b} {o = o} {hs = hs} {b₁ = b₁} {o₁ = o₁} x) =
       ∥∥₁-elim (ran (bookings-call (h .clock) vc minutes q b o hs b₁ o₁) (on-value x)) ∥∥₁-prop (λ k.
-      left-wrote {q = Bookings minutes hs} (λ zs. Leaves x (zs, tt)) (answerIn (x .value)) (answer-reads (k .result) (x .value) (k .is)) (k .leaves) (call.bookings (k .once))
+      left-written heights-given {q = Bookings minutes hs} (λ zs. Leaves x (zs, tt)) (answerIn (x .value)) (answer-reads (k .result) (x .value) (k .is)) (k .leaves) (call.bookings (k .once))
       (heights-left-behind (x .left) (Lie u32 q minutes b o) hs _ b₁ o₁ (x .rest) (k .as-many .0) (k .leaves)))
+  run-gives (hourlies {number = number} {vn = vn} {cards = cards} {b = b} {o = o} x) =
+      ∥∥₁-elim (ran (hourly-call (h .clock) vc number vn cards b o) (on-value x)) ∥∥₁-prop (λ k.
+      left-written cards-given {q = Hourly number cards} (λ zs. Leaves x (zs, tt)) (cardsIn (x .value)) (cards-read (k .result) (x .value) (k .is)) (k .leaves) (call.hourlies (k .once))
+      (bytes-left (x .left) cards _ b o (x .rest) (k .as-many .0) (k .leaves)))
   run-gives (hands x) =
       ∥∥₁-elim (ran (names-call (h .clock) vc) (on-value x)) ∥∥₁-prop (λ k.
       ∥∥₁-map (left-same (call.hands (k .once))) (λ a. ((k .leaves, a .0 ∙ ap named (sym (names-read (k .result) (x .value) (k .is)))), a .1)))
@@ -179,7 +190,7 @@ module _ {vc : Val} (l : Last) (h : Holds vc l) where
       ∥∥₁-map (left-same (call.heldHeights (k .once))) (λ a. ((k .leaves, a .0 ∙ ap predicted (sym (reading-reads (k .result) (x .value) (k .is)))), a .1)))
   run-gives (heldSerieses {s = s} {b = b} {o = o} {start = start} {step = step} {vs = vs} {vt = vt} {hs = hs} {b₁ = b₁} {o₁ = o₁} x) =
       ∥∥₁-elim (ran (held-series-call (h .clock) vc (h .is) s b o start step vs vt hs b₁ o₁) x) ∥∥₁-prop (λ k.
-      left-wrote {q = Series start step hs} (λ zs. Leaves x (zs, tt)) (verdictIn (x .value)) (verdict-reads (k .result) (x .value) (k .is)) (k .leaves) (call.heldSerieses (k .once))
+      left-written heights-given {q = Series start step hs} (λ zs. Leaves x (zs, tt)) (verdictIn (x .value)) (verdict-reads (k .result) (x .value) (k .is)) (k .leaves) (call.heldSerieses (k .once))
       (heights-left (x .left) hs _ b₁ o₁ (⟦ At ClockType.the-row s vc b o ⟧₀ ∗ x .rest) (k .as-many .0) (beside-clock x (k .last .1 .1 .1 .0, tt) (k .leaves))))
   run-gives (heldSearches {s = s} {b = b} {o = o} {first = first} {last = last} {vf = vf} {vl = vl} {ms = ms} {b₁ = b₁} {o₁ = o₁} {hs = hs} {b₂ = b₂} {o₂ = o₂} x) =
       ∥∥₁-elim (ran (held-turns-call (h .clock) vc (h .is) s b o first last vf vl ms b₁ o₁ hs b₂ o₂) x) ∥∥₁-prop (λ k.
@@ -205,12 +216,16 @@ module _ {vc : Val} (l : Last) (h : Holds vc l) where
       ))))
   run-gives (lentBookings {s = s} {b = b} {o = o} {minutes = minutes} {q = q} {b₁ = b₁} {o₁ = o₁} {hs = hs} {b₂ = b₂} {o₂ = o₂} x) =
       ∥∥₁-elim (ran (lent-bookings-call (h .clock) vc (h .is) s b o minutes q b₁ o₁ hs b₂ o₂) x) ∥∥₁-prop (λ k.
-      left-wrote {q = Bookings minutes hs} (λ zs. Leaves x (zs, tt)) (answerIn (x .value)) (answer-reads (k .result) (x .value) (k .is)) (k .leaves) (call.lentBookings (k .once))
+      left-written heights-given {q = Bookings minutes hs} (λ zs. Leaves x (zs, tt)) (answerIn (x .value)) (answer-reads (k .result) (x .value) (k .is)) (k .leaves) (call.lentBookings (k .once))
       (heights-left-behind (x .left) (Lie u32 q minutes b₁ o₁) hs _ b₂ o₂ (⟦ At ClockType.the-row s vc b o ⟧₀ ∗ x .rest) (k .as-many .0) (beside-clock x (k .last .1 .1 .0, tt) (k .leaves))))
   run-gives (heldBookings {s = s} {b = b} {o = o} {minutes = minutes} {q = q} {b₁ = b₁} {o₁ = o₁} {hs = hs} {b₂ = b₂} {o₂ = o₂} x) =
       ∥∥₁-elim (ran (held-bookings-call (h .clock) vc (h .is) s b o minutes q b₁ o₁ hs b₂ o₂) x) ∥∥₁-prop (λ k.
-      left-wrote {q = Bookings minutes hs} (λ zs. Leaves x (zs, tt)) (verdictIn (x .value)) (verdict-reads (k .result) (x .value) (k .is)) (k .leaves) (call.heldBookings (k .once))
+      left-written heights-given {q = Bookings minutes hs} (λ zs. Leaves x (zs, tt)) (verdictIn (x .value)) (verdict-reads (k .result) (x .value) (k .is)) (k .leaves) (call.heldBookings (k .once))
       (heights-left-behind (x .left) (Lie u32 q minutes b₁ o₁) hs _ b₂ o₂ (⟦ At ClockType.the-row s vc b o ⟧₀ ∗ x .rest) (k .as-many .0) (beside-clock x (k .last .1 .1 .0, tt) (k .leaves))))
+  run-gives (heldHourlies {s = s} {b = b} {o = o} {number = number} {vn = vn} {cards = cards} {b₁ = b₁} {o₁ = o₁} x) =
+      ∥∥₁-elim (ran (held-hourly-call (h .clock) vc (h .is) s b o number vn cards b₁ o₁) x) ∥∥₁-prop (λ k.
+      left-written cards-given {q = Hourly number cards} (λ zs. Leaves x (zs, tt)) (heldCardsIn (x .value)) (held-cards-read (k .result) (x .value) (k .is)) (k .leaves) (call.heldHourlies (k .once))
+      (bytes-left (x .left) cards _ b₁ o₁ (⟦ At ClockType.the-row s vc b o ⟧₀ ∗ x .rest) (k .as-many .0) (beside-clock x (k .last .1 .1 .0, tt) (k .leaves))))
   run-gives (heldHands {s = s} {b = b} {o = o} x) =
       ∥∥₁-elim (ran (held-names-call (h .clock) vc (h .is) s b o) x) ∥∥₁-prop (λ k.
       ∥∥₁-map (left-same (call.heldHands (k .once))) (λ a. ((k .leaves, a .0 ∙ ap named (sym (names-read (k .result) (x .value) (k .is)))), a .1)))
@@ -234,6 +249,7 @@ module _ {vc : Val} (l : Last) (h : Holds vc l) where
         searches = λ first last vf vl ms b o hs b₁ o₁. ends-on (turns-call (h .clock) vc first last vf vl ms b o hs b₁ o₁);
         years = λ sheet vs ss b o ms b₁ o₁ hs b₂ o₂. ends-on (year-call (h .clock) vc sheet vs ss b o ms b₁ o₁ hs b₂ o₂);
         bookings = λ minutes q b o hs b₁ o₁. ends-on (bookings-call (h .clock) vc minutes q b o hs b₁ o₁);
+        hourlies = λ number vn cards b o. ends-on (hourly-call (h .clock) vc number vn cards b o);
         hands = ends-on (names-call (h .clock) vc);
         laid = laid ClockType.the-row (clock-means (h .clock) vc (h .is)) clock-lawful;
         heldLoads = λ b o file q b₁ o₁. ends-lent (held-load-call (h .clock) vc (h .is) b o file q b₁ o₁);
@@ -246,6 +262,7 @@ module _ {vc : Val} (l : Last) (h : Holds vc l) where
         heldYears = λ s b o sheet vy vs vt vf vl ss b₁ o₁ ms b₂ o₂ hs b₃ o₃. ends-lent (held-year-call (h .clock) vc (h .is) s b o sheet vy vs vt vf vl ss b₁ o₁ ms b₂ o₂ hs b₃ o₃);
         lentBookings = λ s b o minutes q b₁ o₁ hs b₂ o₂. ends-lent (lent-bookings-call (h .clock) vc (h .is) s b o minutes q b₁ o₁ hs b₂ o₂);
         heldBookings = λ s b o minutes q b₁ o₁ hs b₂ o₂. ends-lent (held-bookings-call (h .clock) vc (h .is) s b o minutes q b₁ o₁ hs b₂ o₂);
+        heldHourlies = λ s b o number vn cards b₁ o₁. ends-lent (held-hourly-call (h .clock) vc (h .is) s b o number vn cards b₁ o₁);
         heldHands = λ s b o. ends-lent (held-names-call (h .clock) vc (h .is) s b o);
       }
 
@@ -272,6 +289,7 @@ gives-once (serieses x) g = ×-prop (lies-once (x .left) _) (gave-once g _)
 gives-once (searches x) g = ×-prop (lies-once (x .left) _) (gave-once g _)
 gives-once (years x) g = ×-prop (lies-once (x .left) _) (gave-once g _)
 gives-once (bookings x) g = ×-prop (lies-once (x .left) _) (gave-once g _)
+gives-once (hourlies x) g = ×-prop (lies-once (x .left) _) (gave-once g _)
 gives-once (hands x) g = ×-prop (lies-once (x .left) _) (gave-once g _)
 gives-once (heldLoads x) g = ×-prop (lies-once (x .left) _) (gave-once g _)
 gives-once (heldStations x) g = ×-prop (lies-once (x .left) _) (gave-once g _)
@@ -283,6 +301,7 @@ gives-once (heldSearches x) g = ×-prop (lies-once (x .left) _) (gave-once g _)
 gives-once (heldYears x) g = ×-prop (lies-once (x .left) _) (gave-once g _)
 gives-once (lentBookings x) g = ×-prop (lies-once (x .left) _) (gave-once g _)
 gives-once (heldBookings x) g = ×-prop (lies-once (x .left) _) (gave-once g _)
+gives-once (heldHourlies x) g = ×-prop (lies-once (x .left) _) (gave-once g _)
 gives-once (heldHands x) g = ×-prop (lies-once (x .left) _) (gave-once g _)
 
 all-once : {vc vc′ : Val} {qs : List Request} (xs : Runs vc qs vc′) (gs : List Gave) → IsProp (GiveAll xs gs)

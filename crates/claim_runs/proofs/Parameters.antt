@@ -62,6 +62,9 @@ use Rattle.clock.proofs.bookings.Met as bookingMet
 use Rattle.clock.proofs.bookings_lent as lentBooking
 use Rattle.clock.proofs.bookings_lent.Symbol as lentBookingCode
 use Rattle.clock.proofs.bookings_lent.Met as lentBookingMet
+use Rattle.clock.proofs.hourly as hourly
+use Rattle.clock.proofs.hourly.Symbol as hourlyCode
+use Rattle.clock.proofs.hourly.Met as hourlyMet
 use Rattle.clock.proofs.names as names
 use Rattle.clock.proofs.names.Symbol as namesCode
 use Rattle.clock.proofs.names.Met as namesMet
@@ -90,6 +93,9 @@ use Rattle.cuvalimodo_c.proofs.cuvalimodo_year.Met as heldYearMet
 use Rattle.cuvalimodo_c.proofs.cuvalimodo_bookings as heldBooking
 use Rattle.cuvalimodo_c.proofs.cuvalimodo_bookings.Symbol as heldBookingCode
 use Rattle.cuvalimodo_c.proofs.cuvalimodo_bookings.Met as heldBookingMet
+use Rattle.cuvalimodo_c.proofs.cuvalimodo_hourly as heldHourly
+use Rattle.cuvalimodo_c.proofs.cuvalimodo_hourly.Symbol as heldHourlyCode
+use Rattle.cuvalimodo_c.proofs.cuvalimodo_hourly.Met as heldHourlyMet
 use Rattle.cuvalimodo_c.proofs.cuvalimodo_names as heldNames
 use Rattle.cuvalimodo_c.proofs.cuvalimodo_names.Symbol as heldNamesCode
 use Rattle.cuvalimodo_c.proofs.cuvalimodo_names.Met as heldNamesMet
@@ -257,6 +263,18 @@ module _ (c : Clock) (vc : Val) where
         takes = record { enters = λ ns. ((lifetimes all ns, wholes all, tt, denotes 0 all tt ns, valuesOf 0 all ns), (λ w. tt), refl, refl, refl); writes = λ ns ws. ((ws .1 .1 .0, tt), refl) };
       }
 
+  unfoldable pub hourly-call : (number : ℕ) (vn : Val) (cards : List ℕ) (b o : ℕ) → Callable c hourlyCode.routine (clock ∷ value u32 number vn ∷ writes u8 cards b o ∷ [])
+  hourly-call number vn cards b o =
+      let all : List Handed = clock ∷ value u32 number vn ∷ writes u8 cards b o ∷ [] in
+      record {
+        ended = hourly.ended;
+        clauses = λ M. hourly.clauses;
+        met = λ M. hourlyMet.met;
+        meant = tt;
+        makes = (clock-makes, (u32-makes, tt));
+        takes = record { enters = λ ns. ((lifetimes all ns, wholes all, tt, denotes 0 all tt ns, valuesOf 0 all ns), (λ w. tt), refl, refl, refl); writes = λ ns ws. ((ws .1 .1 .0, tt), refl) };
+      }
+
   unfoldable pub names-call : Callable c namesCode.routine (clock ∷ [])
   names-call =
       let all : List Handed = clock ∷ [] in
@@ -397,6 +415,18 @@ module _ (c : Clock) (vc : Val) (is : Is ClockType.the-row c (vc ∷ [])) where
         met = λ M. heldBookingMet.met;
         meant = (clock-means, tt);
         makes = (clock-makes, tt);
+        takes = record { enters = λ ns. ((lifetimes all ns, wholes all, tt, denotes 0 all (clock-means, tt) ns, valuesOf 0 all ns), (λ w. tt), refl, refl, refl); writes = λ ns ws. ((ws .1 .1 .0, tt), refl) };
+      }
+
+  unfoldable pub held-hourly-call : (s : Share) (b o number : ℕ) (vn : Val) (cards : List ℕ) (b₁ o₁ : ℕ) → Callable c heldHourlyCode.routine (sees ClockType.the-row s vc b o ∷ value u32 number vn ∷ writes u8 cards b₁ o₁ ∷ [])
+  held-hourly-call s b o number vn cards b₁ o₁ =
+      let all : List Handed = sees ClockType.the-row s vc b o ∷ value u32 number vn ∷ writes u8 cards b₁ o₁ ∷ [] in
+      record {
+        ended = heldHourly.ended;
+        clauses = λ M. heldHourly.clauses;
+        met = λ M. heldHourlyMet.met;
+        meant = (clock-means, tt);
+        makes = (clock-makes, (u32-makes, tt));
         takes = record { enters = λ ns. ((lifetimes all ns, wholes all, tt, denotes 0 all (clock-means, tt) ns, valuesOf 0 all ns), (λ w. tt), refl, refl, refl); writes = λ ns ws. ((ws .1 .1 .0, tt), refl) };
       }
 

@@ -20,6 +20,11 @@ use Rattle.refusals.specs.declared.Refusal.the-variants.{BadLine, Malformed, Ou
 use Rattle.refusals.proofs.Answer as AnswerType
 use Rattle.refusals.proofs.Answer.Laws as AnswerLaws
 use Rattle.refusals.proofs.Refusal.Laws as RefusalLaws
+use Rattle.hourly.specs.declared.CardsAnswer.{CardsAnswer}
+use Rattle.hourly.specs.declared.CardsAnswer.the-variants as cards
+use Rattle.hourly.specs.Answers.{cardsReturned}
+use Rattle.hourly.proofs.CardsAnswer as CardsAnswerType
+use Rattle.hourly.proofs.CardsAnswer.Laws as CardsAnswerLaws
 use Rattle.clock.specs.declared.After.{After}
 use Rattle.clock.specs.declared.HeightAnswer.{HeightAnswer}
 use Rattle.clock.specs.declared.HeightAnswer.the-variants as height
@@ -42,13 +47,16 @@ use Rattle.cuvalimodo_c.specs.Answers.{returnedBy}
 use Rattle.cuvalimodo_c.specs.declared.answers.Verdict.{Verdict}
 use Rattle.cuvalimodo_c.specs.declared.answers.Reading.{Reading}
 use Rattle.cuvalimodo_c.specs.declared.answers.Turnings.{Turnings}
+use Rattle.cuvalimodo_c.specs.declared.answers.Cards.{Cards}
+use Rattle.cuvalimodo_c.proofs.answers.Cards as CardsType
+use Rattle.cuvalimodo_c.proofs.answers.Cards.Laws as CardsLaws
 use Rattle.cuvalimodo_c.proofs.answers.Verdict as VerdictType
 use Rattle.cuvalimodo_c.proofs.answers.Verdict.Laws as VerdictLaws
 use Rattle.cuvalimodo_c.proofs.answers.Reading as ReadingType
 use Rattle.cuvalimodo_c.proofs.answers.Reading.Laws as ReadingLaws
 use Rattle.cuvalimodo_c.proofs.answers.Turnings as TurningsType
 use Rattle.cuvalimodo_c.proofs.answers.Turnings.Laws as TurningsLaws
-use Rattle.claim_runs.specs.Values.{partIn, numberIn, refusalNumbers, answerIn, heightIn, turnsIn, numbersIn, tableNamesIn, answerPart, clockIn, verdictIn, readingIn, turningsIn}
+use Rattle.claim_runs.specs.Values.{partIn, numberIn, refusalNumbers, answerIn, heightIn, turnsIn, cardsIn, numbersIn, tableNamesIn, answerPart, clockIn, verdictIn, readingIn, turningsIn, heldCardsIn}
 
 -- the first of the machine's values
 abbrev pub first : List Val → Val
@@ -96,6 +104,13 @@ turns-lowered (turns.Refused r place) = ap (λ (n : ℕ). refused n place) (refu
 pub turns-reads : (r : TurnsAnswer) (v : Val) → Is TurnsAnswerType.the-row r (v ∷ []) → turnsIn v ≡ turnsReturned r
 turns-reads r v is = ap (λ (vs : List Val). turnsIn (first vs)) (TurnsAnswerLaws.lowers .val-is r (v ∷ []) is) ∙ turns-lowered r
 
+cards-lowered : (r : CardsAnswer) → cardsIn (CardsAnswerLaws.lowered r) ≡ cardsReturned r
+cards-lowered (cards.Bytes count) = refl
+cards-lowered (cards.Refused r place) = ap (λ (n : ℕ). refused n place) (refusal-reads r)
+
+pub cards-read : (r : CardsAnswer) (v : Val) → Is CardsAnswerType.the-row r (v ∷ []) → cardsIn v ≡ cardsReturned r
+cards-read r v is = ap (λ (vs : List Val). cardsIn (first vs)) (CardsAnswerLaws.lowers .val-is r (v ∷ []) is) ∙ cards-lowered r
+
 pub after-reads : (r : After) (v : Val) → Is AfterType.the-row r (v ∷ []) → answerIn (answerPart v) ≡ outcomeOf (r .answer)
 after-reads r v is = ap (λ (vs : List Val). answerIn (answerPart (first vs))) (AfterLaws.lowers .val-is r (v ∷ []) is) ∙ answer-lowered (r .answer)
 
@@ -135,3 +150,6 @@ reading-reads r v is =
 pub turnings-read : (r : Turnings) (v : Val) → Is TurningsType.the-row r (v ∷ []) → turningsIn v ≡ answers.turningsReturned r
 turnings-read r v is =
     ap (λ (vs : List Val). turningsIn (first vs)) (TurningsLaws.lowers .val-is r (v ∷ []) is) ∙ said-lowered (r .number) (r .place) (record { count = r .count; high = r .high })
+
+pub held-cards-read : (r : Cards) (v : Val) → Is CardsType.the-row r (v ∷ []) → heldCardsIn v ≡ answers.cardsTold r
+held-cards-read r v is = ap (λ (vs : List Val). heldCardsIn (first vs)) (CardsLaws.lowers .val-is r (v ∷ []) is) ∙ said-lowered (r .number) (r .place) (r .bytes)

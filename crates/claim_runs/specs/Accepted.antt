@@ -10,6 +10,9 @@ use mir.Val.{Val}
 use prog.Routine.{Routine}
 use Rattle.refusals.specs.Outcome.{accepted}
 use Rattle.station.specs.declared.records.Record.{Record}
+use Rattle.hourly.specs.Format.{narrow}
+use Rattle.hourly.specs.Writing.{cardsWritten}
+use Rattle.hourly.specs.Month.{cardsOf}
 use Rattle.calls.specs.declared.annual.Sheet.{Sheet}
 use Rattle.clock.proofs.Clock as ClockType
 use Rattle.clock.proofs.new.Symbol as newCode
@@ -24,6 +27,7 @@ use Rattle.clock.proofs.turns.Symbol as turnsCode
 use Rattle.clock.proofs.year.Symbol as yearCode
 use Rattle.clock.proofs.bookings.Symbol as bookingCode
 use Rattle.clock.proofs.bookings_lent.Symbol as lentBookingCode
+use Rattle.clock.proofs.hourly.Symbol as hourlyCode
 use Rattle.clock.proofs.names.Symbol as namesCode
 use Rattle.cuvalimodo_c.proofs.cuvalimodo_new.Symbol as heldNewCode
 use Rattle.cuvalimodo_c.proofs.cuvalimodo_load_cards.Symbol as heldLoadCode
@@ -34,8 +38,9 @@ use Rattle.cuvalimodo_c.proofs.cuvalimodo_series.Symbol as heldSeriesCode
 use Rattle.cuvalimodo_c.proofs.cuvalimodo_turns.Symbol as heldTurnsCode
 use Rattle.cuvalimodo_c.proofs.cuvalimodo_year.Symbol as heldYearCode
 use Rattle.cuvalimodo_c.proofs.cuvalimodo_bookings.Symbol as heldBookingCode
+use Rattle.cuvalimodo_c.proofs.cuvalimodo_hourly.Symbol as heldHourlyCode
 use Rattle.cuvalimodo_c.proofs.cuvalimodo_names.Symbol as heldNamesCode
-use Rattle.claim.specs.Document.{Request, Cards, Station, Date, Height, Series, Turns, Year, Bookings, Names, Gave, told, predicted, wrote, found, filled, named, nothing, givesAll}
+use Rattle.claim.specs.Document.{Request, Cards, Station, Date, Height, Series, Turns, Year, Bookings, Hourly, Names, Gave, told, predicted, wrote, found, filled, carded, named, nothing, givesAll}
 use Rattle.claim_runs.specs.Handed.{changes, Ran}
 use Rattle.claim_runs.specs.Values.{clockAt, zeroMemory}
 use Rattle.claim_runs.specs.Runs.{Started, Runs, GiveAll, routinesOf}
@@ -100,6 +105,17 @@ threeMinutes = 720 ∷ 0 ∷ 720 ∷ []
 abbrev pub threePlaces : List ℤ
 threePlaces = pos 0 ∷ pos 0 ∷ pos 0 ∷ []
 
+-- a station number, and a buffer of bytes `*`, 22 more than July's 62 cards of 69 bytes take; and what then lies there: Z0 is level, so that each height is
+-- its amplitude, and the bytes beyond the cards are as they were
+abbrev pub stationNumber : ℕ
+stationNumber = 6_485
+
+unfoldable pub stars : ℕ → List ℕ
+stars n = replicate n 42
+
+unfoldable pub julyCards : List ℕ
+julyCards = cardsWritten narrow (cardsOf (λ minute. pos 100) stationNumber 1976 7)
+
 -- Z0, 100 tenths of a millimetre high, on the equator, in July 1976: by value, with a station that has no records before the other; and then
 -- over a clock that is lent, with a place for one height
 abbrev pub acceptedCalls : List Request
@@ -113,6 +129,7 @@ acceptedCalls =
     ∷ Turns 0 360 [] []
     ∷ Year year-sheet [] [] []
     ∷ Bookings threeMinutes threePlaces
+    ∷ Hourly stationNumber (stars 4_300)
     ∷ Names
     ∷ Cards smallFile
     ∷ Station (pos 0) z0-records
@@ -124,6 +141,7 @@ acceptedCalls =
     ∷ Year year-sheet (pos 0 ∷ []) [] []
     ∷ Bookings threeMinutes threePlaces
     ∷ Bookings threeMinutes threePlaces
+    ∷ Hourly stationNumber (stars 4_300)
     ∷ Names
     ∷ []
 
@@ -139,6 +157,7 @@ acceptedRoutines =
     ∷ turnsCode.routine
     ∷ yearCode.routine
     ∷ bookingCode.routine
+    ∷ hourlyCode.routine
     ∷ namesCode.routine
     ∷ heldLoadCode.routine
     ∷ heldStationCode.routine
@@ -150,6 +169,7 @@ acceptedRoutines =
     ∷ heldYearCode.routine
     ∷ lentBookingCode.routine
     ∷ heldBookingCode.routine
+    ∷ heldHourlyCode.routine
     ∷ heldNamesCode.routine
     ∷ []
 
@@ -165,6 +185,7 @@ allAccepted =
     ∷ found (record { returned = accepted (record { count = 0; high = false }); minutes = []; heights = [] })
     ∷ filled (record { returned = accepted (record { count = 0; high = false }); series = []; minutes = []; heights = [] })
     ∷ wrote (record { returned = accepted tt; heights = pos 100 ∷ pos 100 ∷ pos 100 ∷ [] })
+    ∷ carded (record { returned = accepted 4_278; buffer = julyCards ++ stars 22 })
     ∷ named (z0 ∷ [])
     ∷ told (accepted tt)
     ∷ told (accepted tt)
@@ -176,6 +197,7 @@ allAccepted =
     ∷ filled (record { returned = accepted (record { count = 0; high = false }); series = pos 100 ∷ []; minutes = []; heights = [] })
     ∷ wrote (record { returned = accepted tt; heights = pos 100 ∷ pos 100 ∷ pos 100 ∷ [] })
     ∷ wrote (record { returned = accepted tt; heights = pos 100 ∷ pos 100 ∷ pos 100 ∷ [] })
+    ∷ carded (record { returned = accepted 4_278; buffer = julyCards ++ stars 22 })
     ∷ named (z0 ∷ [])
     ∷ []
 

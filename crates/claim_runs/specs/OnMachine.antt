@@ -30,6 +30,7 @@ use Rattle.clock.proofs.turns.Symbol as turnsCode
 use Rattle.clock.proofs.year.Symbol as yearCode
 use Rattle.clock.proofs.bookings.Symbol as bookingCode
 use Rattle.clock.proofs.bookings_lent.Symbol as lentBookingCode
+use Rattle.clock.proofs.hourly.Symbol as hourlyCode
 use Rattle.clock.proofs.names.Symbol as namesCode
 use Rattle.cuvalimodo_c.proofs.cuvalimodo_new.Symbol as heldNewCode
 use Rattle.cuvalimodo_c.proofs.cuvalimodo_load_cards.Symbol as heldLoadCode
@@ -40,6 +41,7 @@ use Rattle.cuvalimodo_c.proofs.cuvalimodo_series.Symbol as heldSeriesCode
 use Rattle.cuvalimodo_c.proofs.cuvalimodo_turns.Symbol as heldTurnsCode
 use Rattle.cuvalimodo_c.proofs.cuvalimodo_year.Symbol as heldYearCode
 use Rattle.cuvalimodo_c.proofs.cuvalimodo_bookings.Symbol as heldBookingCode
+use Rattle.cuvalimodo_c.proofs.cuvalimodo_hourly.Symbol as heldHourlyCode
 use Rattle.cuvalimodo_c.proofs.cuvalimodo_names.Symbol as heldNamesCode
 use Rattle.claim.specs.Document.{Request, nothing, givesAll, EachNear}
 use Rattle.claim_runs.specs.Handed.{Assertion, _∗_, ⟦_⟧₀, _⊨_, Handed, value, reads, writes, sees, changes, passed, Fit, At, lie}
@@ -76,6 +78,7 @@ pub record EveryCallEnds (vc : Val) : Type 2 where
   pub years : (sheet : Sheet) (vs : Val) (ss : List ℤ) (b o : ℕ) (ms : List ℕ) (b₁ o₁ : ℕ) (hs : List ℤ) (b₂ o₂ : ℕ)
       → Returns yearCode.routine (vc ∷ []) (value SheetType.the-row sheet vs ∷ writes i64 ss b o ∷ writes u32 ms b₁ o₁ ∷ writes i64 hs b₂ o₂ ∷ [])
   pub bookings : (minutes : List ℕ) (q : Share) (b o : ℕ) (hs : List ℤ) (b₁ o₁ : ℕ) → Returns bookingCode.routine (vc ∷ []) (reads u32 q minutes b o ∷ writes i64 hs b₁ o₁ ∷ [])
+  pub hourlies : (number : ℕ) (vn : Val) (cards : List ℕ) (b o : ℕ) → Returns hourlyCode.routine (vc ∷ []) (value u32 number vn ∷ writes u8 cards b o ∷ [])
   pub hands : Returns namesCode.routine (vc ∷ []) []
   pub laid : (σ : Memory) (F : Assertion) → σ ⊨ F → ∥ ((b : ℕ) × (σ′ : Memory) × (σ′ ⊨ ⟦ At ClockType.the-row fullShare vc b 0 ⟧₀ ∗ F)) ∥₁
   pub heldLoads : (b o : ℕ) (file : List ℕ) (q : Share) (b₁ o₁ : ℕ) → Returns heldLoadCode.routine [] (changes ClockType.the-row vc b o ∷ reads u8 q file b₁ o₁ ∷ [])
@@ -94,6 +97,8 @@ pub record EveryCallEnds (vc : Val) : Type 2 where
       → Returns lentBookingCode.routine [] (sees ClockType.the-row s vc b o ∷ reads u32 q minutes b₁ o₁ ∷ writes i64 hs b₂ o₂ ∷ [])
   pub heldBookings : (s : Share) (b o : ℕ) (minutes : List ℕ) (q : Share) (b₁ o₁ : ℕ) (hs : List ℤ) (b₂ o₂ : ℕ)
       → Returns heldBookingCode.routine [] (sees ClockType.the-row s vc b o ∷ reads u32 q minutes b₁ o₁ ∷ writes i64 hs b₂ o₂ ∷ [])
+  pub heldHourlies : (s : Share) (b o number : ℕ) (vn : Val) (cards : List ℕ) (b₁ o₁ : ℕ)
+      → Returns heldHourlyCode.routine [] (sees ClockType.the-row s vc b o ∷ value u32 number vn ∷ writes u8 cards b₁ o₁ ∷ [])
   pub heldHands : (s : Share) (b o : ℕ) → Returns heldNamesCode.routine [] (sees ClockType.the-row s vc b o ∷ [])
 
 -- `new` returns, and the other `new` on whichever clock it is lent; and after any list of runs each routine returns, on the value of the clock

@@ -32,6 +32,7 @@ use Rattle.clock.proofs.turns.Symbol as turnsCode
 use Rattle.clock.proofs.year.Symbol as yearCode
 use Rattle.clock.proofs.bookings.Symbol as bookingCode
 use Rattle.clock.proofs.bookings_lent.Symbol as lentBookingCode
+use Rattle.clock.proofs.hourly.Symbol as hourlyCode
 use Rattle.clock.proofs.names.Symbol as namesCode
 use Rattle.cuvalimodo_c.proofs.cuvalimodo_new.Symbol as heldNewCode
 use Rattle.cuvalimodo_c.proofs.cuvalimodo_load_cards.Symbol as heldLoadCode
@@ -42,10 +43,11 @@ use Rattle.cuvalimodo_c.proofs.cuvalimodo_series.Symbol as heldSeriesCode
 use Rattle.cuvalimodo_c.proofs.cuvalimodo_turns.Symbol as heldTurnsCode
 use Rattle.cuvalimodo_c.proofs.cuvalimodo_year.Symbol as heldYearCode
 use Rattle.cuvalimodo_c.proofs.cuvalimodo_bookings.Symbol as heldBookingCode
+use Rattle.cuvalimodo_c.proofs.cuvalimodo_hourly.Symbol as heldHourlyCode
 use Rattle.cuvalimodo_c.proofs.cuvalimodo_names.Symbol as heldNamesCode
-use Rattle.claim.specs.Document.{Request, Cards, Station, Date, Height, Series, Turns, Year, Bookings, Names, Gave, told, predicted, wrote, found, filled, named}
+use Rattle.claim.specs.Document.{Request, Cards, Station, Date, Height, Series, Turns, Year, Bookings, Hourly, Names, Gave, told, predicted, wrote, found, filled, carded, named}
 use Rattle.claim_runs.specs.Handed.{value, reads, writes, sees, changes, Ran, Leaves}
-use Rattle.claim_runs.specs.Values.{answerIn, heightIn, turnsIn, tableNamesIn, minutesAt, heightsAt, answerPart, clockIn, verdictIn, readingIn, turningsIn, clockAt, zeroMemory}
+use Rattle.claim_runs.specs.Values.{answerIn, heightIn, turnsIn, cardsIn, tableNamesIn, bytesAt, minutesAt, heightsAt, answerPart, clockIn, verdictIn, readingIn, turningsIn, heldCardsIn, clockAt, zeroMemory}
 
 -- "The first gets a clock with no table, station or month": a clock's value that a run of `new` returned, from any memory; that a run of the
 -- other `new`, which is lent a clock, whichever it is, left in its place; or that is loaded from memory of nothing but zeros
@@ -84,6 +86,9 @@ pub data Run : Val → Request → Val → Type 2 where
   bookings : {vc : Val} {minutes : List ℕ} {q : Share} {b o : ℕ} {hs : List ℤ} {b₁ o₁ : ℕ}
       → Ran bookingCode.routine (vc ∷ []) (reads u32 q minutes b o ∷ writes i64 hs b₁ o₁ ∷ [])
       → Run vc (Bookings minutes hs) vc
+  hourlies : {vc : Val} {number : ℕ} {vn : Val} {cards : List ℕ} {b o : ℕ}
+      → Ran hourlyCode.routine (vc ∷ []) (value u32 number vn ∷ writes u8 cards b o ∷ [])
+      → Run vc (Hourly number cards) vc
   hands : {vc : Val} → Ran namesCode.routine (vc ∷ []) [] → Run vc Names vc
   -- the clock lies in memory and is lent: what lies there at the end is the clock that the call leaves
   heldLoads : {vc : Val} {b o : ℕ} {file : List ℕ} {q : Share} {b₁ o₁ : ℕ}
@@ -116,6 +121,9 @@ pub data Run : Val → Request → Val → Type 2 where
   heldBookings : {vc : Val} {s : Share} {b o : ℕ} {minutes : List ℕ} {q : Share} {b₁ o₁ : ℕ} {hs : List ℤ} {b₂ o₂ : ℕ}
       → Ran heldBookingCode.routine [] (sees ClockType.the-row s vc b o ∷ reads u32 q minutes b₁ o₁ ∷ writes i64 hs b₂ o₂ ∷ [])
       → Run vc (Bookings minutes hs) vc
+  heldHourlies : {vc : Val} {s : Share} {b o : ℕ} {number : ℕ} {vn : Val} {cards : List ℕ} {b₁ o₁ : ℕ}
+      → Ran heldHourlyCode.routine [] (sees ClockType.the-row s vc b o ∷ value u32 number vn ∷ writes u8 cards b₁ o₁ ∷ [])
+      → Run vc (Hourly number cards) vc
   heldHands : {vc : Val} {s : Share} {b o : ℕ} → Ran heldNamesCode.routine [] (sees ClockType.the-row s vc b o ∷ []) → Run vc Names vc
 
 -- What a run gave is g: g is read off the value that it returned and, where it wrote to a buffer, off the memory at its end; and the buffers
@@ -141,6 +149,9 @@ Gives (years {ss = ss} {b = b} {o = o} {ms = ms} {b₁ = b₁} {o₁ = o₁} {hs
 Gives (bookings {hs = hs} {b₁ = b₁} {o₁ = o₁} x) g =
     let hs′ : List ℤ = heightsAt (x .left) b₁ o₁ (length hs) in
     Leaves x (hs′, tt) × (g ≡ wrote (record { returned = answerIn (x .value); heights = hs′ }))
+Gives (hourlies {cards = cards} {b = b} {o = o} x) g =
+    let cards′ : List ℕ = bytesAt (x .left) b o (length cards) in
+    Leaves x (cards′, tt) × (g ≡ carded (record { returned = cardsIn (x .value); buffer = cards′ }))
 Gives (hands x) g = Leaves x tt × (g ≡ named (tableNamesIn (x .value)))
 Gives (heldLoads {b = b} {o = o} x) g = Leaves x (clockAt (x .left) b o, tt) × (g ≡ told (verdictIn (x .value)))
 Gives (heldStations {b = b} {o = o} x) g = Leaves x (clockAt (x .left) b o, tt) × (g ≡ told (verdictIn (x .value)))
@@ -165,6 +176,9 @@ Gives (lentBookings {hs = hs} {b₂ = b₂} {o₂ = o₂} x) g =
 Gives (heldBookings {hs = hs} {b₂ = b₂} {o₂ = o₂} x) g =
     let hs′ : List ℤ = heightsAt (x .left) b₂ o₂ (length hs) in
     Leaves x (hs′, tt) × (g ≡ wrote (record { returned = verdictIn (x .value); heights = hs′ }))
+Gives (heldHourlies {cards = cards} {b₁ = b₁} {o₁ = o₁} x) g =
+    let cards′ : List ℕ = bytesAt (x .left) b₁ o₁ (length cards) in
+    Leaves x (cards′, tt) × (g ≡ carded (record { returned = heldCardsIn (x .value); buffer = cards′ }))
 Gives (heldHands x) g = Leaves x tt × (g ≡ named (tableNamesIn (x .value)))
 
 -- the routine that was run
@@ -178,6 +192,7 @@ routineOf (serieses x) = seriesCode.routine
 routineOf (searches x) = turnsCode.routine
 routineOf (years x) = yearCode.routine
 routineOf (bookings x) = bookingCode.routine
+routineOf (hourlies x) = hourlyCode.routine
 routineOf (hands x) = namesCode.routine
 routineOf (heldLoads x) = heldLoadCode.routine
 routineOf (heldStations x) = heldStationCode.routine
@@ -189,6 +204,7 @@ routineOf (heldSearches x) = heldTurnsCode.routine
 routineOf (heldYears x) = heldYearCode.routine
 routineOf (lentBookings x) = lentBookingCode.routine
 routineOf (heldBookings x) = heldBookingCode.routine
+routineOf (heldHourlies x) = heldHourlyCode.routine
 routineOf (heldHands x) = heldNamesCode.routine
 
 -- "Each later one gets the clock as the one before it returned or left it." What is done to the memory between two calls is the caller's.

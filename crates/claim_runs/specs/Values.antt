@@ -11,7 +11,7 @@ use lib.IntN.{ℤ}
 use lib.ListN.{getD, replicate}
 use mir.Fields.{getV}
 use mir.Mem.{byte}
-use mir.Syntax.{Width, w32, w64, tyInt}
+use mir.Syntax.{Width, w8, w32, w64, tyInt}
 use mir.Val.{Val, vunit, vbool, vint, vfloat, vptr, vstruct, Vals, vnil, vcons, asInt, asBool, toZ, bytes}
 use prog.Memory.{Memory, align, size, loadM}
 use denote.Memory.{rawAll, lone}
@@ -54,6 +54,10 @@ heightIn v = byTag v (accepted (toZ w64 (numberIn (partIn 1 v)))) (refusedIn v)
 abbrev pub turnsIn : Val → Outcome TurnsFound
 turnsIn v = byTag v (accepted (record { count = numberIn (partIn 1 v); high = asBool false (partIn 2 v) (λ t. t) })) (refusedIn v)
 
+-- "return how many bytes they take"
+abbrev pub cardsIn : Val → Outcome ℕ
+cardsIn v = byTag v (accepted (numberIn (partIn 1 v))) (refusedIn v)
+
 -- the numbers of an array
 unfoldable pub numbersIn : Vals → List ℕ
 numbersIn vnil = []
@@ -86,6 +90,9 @@ readingIn v = saidIn v (toZ w64 (numberIn (partIn 2 v)))
 abbrev pub turningsIn : Val → Outcome TurnsFound
 turningsIn v = saidIn v (record { count = numberIn (partIn 2 v); high = asBool false (partIn 3 v) (λ t. t) })
 
+abbrev pub heldCardsIn : Val → Outcome ℕ
+heldCardsIn v = saidIn v (numberIn (partIn 2 v))
+
 -- ---- the clock that a call leaves
 
 -- what a call that gives the clock back returns: its answer, then the clock
@@ -108,6 +115,9 @@ numberAt σ w b o = loadedIn (loadM σ (tyInt w) b o)
 unfoldable pub elementsAt : {X : Type 0} → (ℕ → X) → Width → Memory → ℕ → ℕ → ℕ → List X
 elementsAt read w σ b o zero = []
 elementsAt read w σ b o (suc n) = read (numberAt σ w b o) ∷ elementsAt read w σ b (o + bytes w) n
+
+abbrev pub bytesAt : Memory → ℕ → ℕ → ℕ → List ℕ
+bytesAt = elementsAt (λ (n : ℕ). n) w8
 
 abbrev pub minutesAt : Memory → ℕ → ℕ → ℕ → List ℕ
 minutesAt = elementsAt (λ (n : ℕ). n) w32

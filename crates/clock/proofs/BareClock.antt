@@ -1,6 +1,5 @@
 -- A clock with a table or none, and nothing else, is sound where its table's frequencies are in range. Assumes nothing.
-use mathlib.Core.Bool.{Bool, true≢false}
-use mathlib.Core.Path.{sym, _∙_}
+use mathlib.Core.Bool.{Bool}
 use native.Mathlib.Omega.{arith}
 use Rattle.table.specs.declared.Table.{Table}
 use Rattle.month_prepared.specs.inner.Rows.{InRange}
@@ -16,5 +15,4 @@ bare-sound tabled table r within p =
       count = omega (arith, p .count);
       last = omega (arith, p .last);
       month = λ k h. absurd (omega (arith, p .count, h));
-      date = λ dated. absurd (true≢false (sym dated ∙ p .undated));
     }

@@ -1,7 +1,6 @@
 -- A prepared month's two cases, ready and refused by 11, and a date's, from what the preparation promises. Assumes nothing.
 use mathlib.Core.Path.{_≡_, refl, sym, ap, _∙_}
 use Prim.Native.Nat.{ℕ, zero, suc, _+_, _<_, min}
-use mathlib.Core.Bool.{true}
 use mathlib.Core.List.{List}
 use native.Mathlib.Omega.{arith}
 use native.Mathlib.Nat.{zero-add, add-zero}
@@ -18,7 +17,7 @@ use Rattle.station.specs.inner.Station.{stationOf}
 use Rattle.month_prepared.specs.Prepared.{Constituent}
 use Rattle.month_prepared.specs.declared.Month.{Month}
 use Rattle.month_prepared.specs.inner.View.{constituentsAfter, constituentsOf}
-use Rattle.calendar.specs.Calendar.{inRange, monthMinutes}
+use Rattle.calendar.specs.Calendar.{monthMinutes}
 use Rattle.calendar.proofs.Months.{minutes-short}
 use Rattle.month.specs.Month.{monthOf}
 use Rattle.month.specs.inner.View.{answeredWith, preparedOf}
@@ -50,7 +49,7 @@ ready-by : (answer : Preparation) (m : Month) → answered (answeredWith answer 
 ready-by preparation.Ready m e = refl
 ready-by (preparation.TooLarge place) m e = not-both e
 
-module _ (c : Clock) (year month : ℕ) (p : Prepared) (answer : Answer) (sound : Sound c) (inside : inRange year month ≡ true)
+module _ (c : Clock) (year month : ℕ) (p : Prepared) (answer : Answer) (sound : Sound c)
     (prepares : preparedOf p ≡ monthOf (tableOf (c .table)) (stationOf (c .station)) year month) (says : outcomeOf answer ≡ answered (preparedOf p)) where
   pub month-ready : answer ≡ Accepted → PreparedPost c year month Accepted (withMonth c year month (monthMinutes year month) (p .month))
   unfolding view
@@ -65,7 +64,6 @@ module _ (c : Clock) (year month : ℕ) (p : Prepared) (answer : Answer) (sound 
           count = omega arith;
           last = minutes-short year month;
           month = λ k h. rw (frequency-at (m .arguments) (m .lags) (m .frequencies) (m .ps) (m .qs) 0 (min (m .count) mostRecords) k none h, zero-add k) at (prepared-in-range _ _ year month _ none refl (frequencies-within (c .table) (sound .table)) ready k);
-          date = λ _. inside;
         };
         returns = rw ready;
         leaves = rw ready;

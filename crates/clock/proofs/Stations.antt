@@ -1,6 +1,5 @@
 -- A station's two cases, accepted and refused, from what the check of its records promises. Assumes nothing.
 use Prim.{Unit}
-use mathlib.Core.Bool.{true≢false}
 use mathlib.Core.Path.{_≡_, sym, ap, _∙_}
 use Prim.Native.Nat.{ℕ}
 use mathlib.Core.List.{List}
@@ -30,7 +29,7 @@ module _ (c : Clock) (latitude : ℤ) (n : ℕ) (rows : Rows) (made : Made c) (t
   taken-accepted e =
       let law = station-accepted (tableOf (c .table)) (c .stationed) (stationOf (c .station)) (c .dated) (monthIn c) latitude (recordsOf rows n) (c .tabled) (sym (says .says) ∙ ap outcomeOf e) in
       record {
-        made = λ tabled. let sound = made tabled in record { cosines = sound .cosines; table = sound .table; count = sound .count; last = sound .last; month = sound .month; date = λ dated. absurd (true≢false (sym dated)) };
+        made = λ tabled. let sound = made tabled in record { cosines = sound .cosines; table = sound .table; count = sound .count; last = sound .last; month = sound .month };
         returns = law .0;
         leaves = rw (says .keeps (ap outcomeOf e)) (law .1);
       }

@@ -6,7 +6,6 @@ use mathlib.Core.List.{List}
 use mathlib.Core.Path.{_≡_}
 use Rattle.limits.specs.Limits.{mostMinutes, mostRecords}
 use Rattle.cosine.specs.Fixed.{IsTable}
-use Rattle.calendar.specs.Calendar.{inRange}
 use Rattle.table.specs.inner.View.{tableOf}
 use Rattle.station.specs.inner.Station.{stationOf}
 use Rattle.month_prepared.specs.Prepared.{Constituent}
@@ -27,14 +26,13 @@ monthIn c = record { year = c .year; month = c .month; prepared = record { last 
 unfoldable pub view : Clock → State
 view c = stateOf (c .tabled) (tableOf (c .table)) (c .stationed) (stationOf (c .station)) (c .dated) (monthIn c)
 
--- What a clock with a table keeps: its table of cosines is the table, and its numbers are in their ranges; so is the date of a month that is there.
+-- What a clock with a table keeps: its table of cosines is the table, and its numbers are in their ranges.
 pub record Sound (c : Clock) : Type 0 where
   pub cosines : IsTable (c .cosines)
   pub table : InRange (c .table .frequencies) (c .table .speeds)
   pub count : c .count ≤ mostRecords
   pub last : c .last ≤ mostMinutes
   pub month : InRange (c .count) (c .frequencies)
-  pub date : c .dated ≡ true → inRange (c .year) (c .month) ≡ true
 
 -- A clock that a clock call made. Of one without a table nothing is asked: memory that is all zeros is such a clock.
 abbrev pub Made : Clock → Type 0

@@ -1,16 +1,14 @@
-// A month's hourly cards, from what a clock keeps and a date that is in range.
+// A month's hourly cards, from its constituents and its date.
 ghost use mathlib.Core.Path.{_≡_};
-ghost use mathlib.Core.Bool.{true};
 ghost use Prim.Native.Nat.{_/_, _≤_};
 ghost use lib.ListN.{length};
 ghost use Rattle.limits.specs.Limits.{mostMinutes, mostRecords};
 ghost use Rattle.cosine.specs.Fixed.{IsTable};
-ghost use Rattle.calendar.specs.Calendar.{inRange};
 ghost use Rattle.month_prepared.specs.inner.View.{constituentsFrom};
 ghost use Rattle.month_prepared.specs.inner.Rows.{IsRow};
 ghost use Rattle.heights.specs.Height.{heightAt};
 ghost use Rattle.hourly.specs.Answers.{cardsReturned};
-ghost use Rattle.hourly.specs.Month.{cardsOf, bytesOf, intoBuffer, mostStationNumber};
+ghost use Rattle.hourly.specs.Month.{cardsOf, bytesOf, intoBuffer};
 use cosine::ENTRIES;
 use hourly::CardsAnswer;
 use limits::MINUTES;
@@ -41,7 +39,6 @@ pub fn cards<'a>(
     out: &mut [u8],
 ) -> CardsAnswer
     requires { ⌜ IsTable (now cosines) × ((count ≤ mostRecords) × IsRow (now arguments) (now ps) (now qs)) ⌝ }
-    requires { ⌜ (inRange year month ≡ true) × (number ≤ mostStationNumber) ⌝ }
     ensures { λ r. ⌜ record { returned = cardsReturned r; buffer = now (out .exit) } ≡ intoBuffer (bytesOf (cardsOf (heightAt (constituentsFrom (now (arguments .entry)) (now (lags .entry)) (now (frequencies .entry)) (now (ps .entry)) (now (qs .entry)) count)) number year month) (length (now (out .entry)))) (now (out .entry)) ⌝ }
 {
     let end = 24 * calendar::month_days(year, month) as usize;

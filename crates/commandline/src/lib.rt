@@ -5,7 +5,7 @@
 ghost use mathlib.Core.Path.{_≡_};
 ghost use Prim.Native.Nat.{_+_};
 ghost use lib.ListN.{length};
-ghost use Rattle.commandline.specs.Days.{DayAsked};
+ghost use Rattle.commandline.specs.Days.{DayAsked, hourlyAsked};
 ghost use Rattle.commandline.specs.Words.{defaultByte, wordAt};
 use crate::times::Time;
 use crate::times::time_of;
@@ -29,6 +29,7 @@ pub enum Asked {
     YearTable(u32),
     YearDrawing(u32),
     Bookings(u32, u32, usize),
+    Hourly(u32, u32, u32),
     Wrong(Wrong, usize),
 }
 
@@ -90,6 +91,7 @@ enum Command {
     Series,
     Svg,
     Bookings,
+    Hourly,
     Refusals,
     NoCommand,
 }
@@ -342,6 +344,9 @@ fn other_command(word: &[u8]) -> Command {
     if texts::same(word, b"bookings") {
         return Command::Bookings;
     }
+    if texts::same(word, b"hourly") {
+        return Command::Hourly;
+    }
     if texts::same(word, b"refusals") {
         return Command::Refusals;
     }
@@ -349,7 +354,7 @@ fn other_command(word: &[u8]) -> Command {
 }
 
 // year YEAR; month YEAR MONTH; day YEAR MONTH DAY [HH:MM]; heights YEAR MONTH [STEP]; series YEAR MONTH DAY HH:MM STEP COUNT;
-// svg YEAR [MONTH [DAY]]; bookings YEAR MONTH FILE; refusals
+// svg YEAR [MONTH [DAY]]; bookings YEAR MONTH FILE; hourly YEAR MONTH STATION; refusals
 fn form_of(command: Command) -> Form {
     match command {
         Command::Year => Form {
@@ -393,6 +398,12 @@ fn form_of(command: Command) -> Form {
             most: 4,
             time: 0,
             file: 3,
+        },
+        Command::Hourly => Form {
+            least: 4,
+            most: 4,
+            time: 0,
+            file: 0,
         },
         Command::Refusals => Form {
             least: 1,
@@ -504,6 +515,14 @@ fn heights_of(plain: usize, v: [u32; 8]) -> Asked
     Asked::Heights(v[1], v[2], v[3])
 }
 
+// The hourly cards of a month, under the harbour office's number of the station.
+fn hourly_of(v: [u32; 8]) -> Asked
+    ensures { λ r. ⌜ r ≡ hourlyAsked v ⌝ }
+    ensures { λ r. ⌜ DayAsked r ⌝ }
+{
+    Asked::Hourly(v[1], v[2], v[3])
+}
+
 // What a command asks with words that fit its form, its own beginning at `start` and its fourth, a day or a file's name, at `fourth`.
 fn with_numbers(command: Command, plain: usize, start: usize, fourth: usize, v: [u32; 8]) -> Asked
     ensures { λ r. ⌜ DayAsked r ⌝ }
@@ -516,6 +535,7 @@ fn with_numbers(command: Command, plain: usize, start: usize, fourth: usize, v: 
         Command::Series => series_of(fourth, v),
         Command::Svg => drawing_of(plain, fourth, v),
         Command::Bookings => Asked::Bookings(v[1], v[2], fourth),
+        Command::Hourly => hourly_of(v),
         Command::Refusals => Asked::Refusals,
         Command::NoCommand => Asked::Wrong(Wrong::NoCommand, start),
     }

@@ -19,6 +19,12 @@ fn commands() {
         b"  cuvalimodo bookings YEAR MONTH FILE        FILE's lines DD HH:MM NAME, with their heights",
     );
     line(
+        b"  cuvalimodo hourly YEAR MONTH STATION       hourly cards, heights in the unit's hundredths",
+    );
+    line(
+        b"                                             (STATION is the harbour office's, 0 to 99999)",
+    );
+    line(
         b"  cuvalimodo heights YEAR MONTH [STEP]       CSV: the whole month, STEP minutes apart (60)",
     );
     line(b"  cuvalimodo series YEAR MONTH DAY HH:MM STEP COUNT");

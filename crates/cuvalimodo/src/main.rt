@@ -1,4 +1,4 @@
-// The tide clock of a berth on the command line: the year's, the month's and the day's high and low waters, a file's bookings, heights for other programs, drawings.
+// The tide clock of a berth on the command line: the year's, the month's and the day's high and low waters, a file's bookings, hourly cards, heights for other programs, drawings.
 //
 // It reads the files, asks the clock, and writes. Every refusal is the library's, and is said in one line on standard error.
 mod help; // one screen
@@ -157,6 +157,7 @@ fn asked_date(asked: Asked) -> Date {
         Asked::YearTable(year) => date_of(year, 0, 0),
         Asked::YearDrawing(year) => date_of(year, 0, 0),
         Asked::Bookings(year, month, _) => date_of(year, month, 0),
+        Asked::Hourly(year, month, _) => date_of(year, month, 0),
         Asked::Help => date_of(0, 0, 0),
         Asked::Refusals => date_of(0, 0, 0),
         Asked::Wrong(_, _) => date_of(0, 0, 0),
@@ -208,6 +209,7 @@ fn show(clock: Clock, face: Face, date: Date, words: &[u8], asked: Asked)
         Asked::MonthDrawing(_, _) => drawing::month(clock, face, date),
         Asked::DayDrawing(_, _, _) => drawing::day(clock, face, date),
         Asked::Bookings(_, _, at) => show_bookings(clock, face, date, words, at),
+        Asked::Hourly(_, _, station) => views::hourly(clock, date, station),
         _ => {}
     }
 }

@@ -14,9 +14,13 @@ pub data Item : Type 0 where
 abbrev pub heightsACard : ℕ
 heightsACard = 12
 
--- "(I1,1X,I5,7X,3I2,12A4)", with heights of a width
+-- "(I1,1X,I5,7X,3I2,": what stands before the heights
+abbrev pub headingFormat : List Item
+headingFormat = I 1 ∷ X 1 ∷ I 5 ∷ X 7 ∷ I 2 ∷ I 2 ∷ I 2 ∷ []
+
+-- "12A4)", with heights of a width
 abbrev pub cardFormat : ℕ → List Item
-cardFormat width = I 1 ∷ X 1 ∷ I 5 ∷ X 7 ∷ I 2 ∷ I 2 ∷ I 2 ∷ replicate heightsACard (A width)
+cardFormat width = headingFormat ++ replicate heightsACard (A width)
 
 -- "12A4"
 abbrev pub narrow : ℕ

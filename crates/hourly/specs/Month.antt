@@ -12,7 +12,7 @@ use lib.Signed.{leZ}
 use Rattle.angles.specs.Floor.{floorDiv}
 use Rattle.calendar.specs.Calendar.{inRange, monthDays}
 use Rattle.heights.specs.Series.{seriesOf}
-use Rattle.refusals.specs.Outcome.{Outcome, accepted, refused, refuseIf, onAccepted, _>>_, _>>=_}
+use Rattle.refusals.specs.Outcome.{Outcome, accepted, refuseIf, onAccepted, _>>_, _>>=_}
 use Rattle.hourly.specs.Card.{Entry, value, gap, HourlyCard}
 use Rattle.hourly.specs.Format.{heightsACard, narrow}
 use Rattle.hourly.specs.Writing.{cardsWritten}

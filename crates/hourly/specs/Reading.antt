@@ -4,7 +4,7 @@
 use Prim.Native.Nat.{ℕ, _+_}
 use mathlib.Core.Bool.{cond, not, _||_}
 use mathlib.Core.List.{List, [], _∷_}
-use lib.IntN.{ℤ, pos, negsuc}
+use lib.IntN.{pos, negsuc}
 use lib.ListN.{getD, drop, replicate}
 use Rattle.refusals.specs.Outcome.{Outcome, accepted, refused, refuseIf, _>>=_}
 use Rattle.columns.specs.Bytes.{blank, every}

@@ -1,11 +1,10 @@
 // The manual's hourly cards, (I1,1X,I5,7X,3I2,12A4): a month's heights at its full hours, in centimetres, two cards a day.
 ghost use mathlib.Core.Path.{_≡_};
-ghost use mathlib.Core.Bool.{true};
-ghost use Prim.Native.Nat.{_*_, _≤_};
+ghost use Prim.Native.Nat.{_*_};
 ghost use lib.ListN.{length};
-ghost use Rattle.calendar.specs.Calendar.{inRange, monthDays};
+ghost use Rattle.calendar.specs.Calendar.{monthDays};
 ghost use Rattle.hourly.specs.Answers.{cardsReturned};
-ghost use Rattle.hourly.specs.Month.{bytesOf, intoBuffer, mostStationNumber};
+ghost use Rattle.hourly.specs.Month.{bytesOf, intoBuffer};
 ghost use Rattle.hourly.specs.inner.Hours.{cardsIn};
 use centimetres::HEIGHTS;
 use refusals::Answer;
@@ -24,6 +23,9 @@ pub const NARROW: usize = 4;
 
 pub const CARD: usize = HEADING + HEIGHTS * NARROW + 1;
 
+// The bytes of the longest month's cards, two a day.
+pub const LONGEST: usize = 2 * 31 * CARD;
+
 // How many bytes the cards take; or a refusal.
 pub enum CardsAnswer {
     Bytes(usize),
@@ -38,7 +40,7 @@ pub fn write_cards(
     month: u32,
     out: &mut [u8],
 ) -> CardsAnswer
-    requires { ⌜ (length (now hours) ≡ 24 * monthDays year month) × ((inRange year month ≡ true) × (station ≤ mostStationNumber)) ⌝ }
+    requires { ⌜ length (now hours) ≡ 24 * monthDays year month ⌝ }
     ensures { λ r. ⌜ record { returned = cardsReturned r; buffer = now (out .exit) } ≡ intoBuffer (bytesOf (cardsIn (now (hours .entry)) station year month) (length (now (out .entry)))) (now (out .entry)) ⌝ }
 {
     let answer = centimetres::heights_answer(hours);

@@ -1,5 +1,5 @@
--- What a refusal of minutes, 01's 9, is about. By the definitions that the calls go by. Assumes nothing.
-use Prim.Native.Nat.{ℕ}
+-- What a refusal of minutes, 01's 9, is about, by the definitions that the calls go by; and what the place of a card, 02's 33, is. Assumes nothing.
+use Prim.Native.Nat.{ℕ, _+_, _-_, _/_, _%_}
 use mathlib.Core.Bool.{Bool, _&&_, cond}
 use lib.Dec.{eqb, ltb}
 use Rattle.calendar.specs.Calendar.{monthDays, monthMinutes}
@@ -21,3 +21,11 @@ lacksDay refusal year month day = ofMinutes refusal && ltb (monthDays year month
 unfoldable pub seriesMatter : Refusal → ℕ → ℕ → ℕ → ℕ → ℕ → Reason
 seriesMatter refusal year month start step places =
     cond (ofMinutes refusal) (seriesReason (monthMinutes year month) start step places) Within
+
+-- 33, "with the first such card as the place, from 1": the day of the card at a place, two cards a day
+abbrev pub cardDay : ℕ → ℕ
+cardDay place = (place + 1) / 2
+
+-- and its number, 1 where the place is odd
+abbrev pub cardNumber : ℕ → ℕ
+cardNumber place = 2 - place % 2

@@ -2,7 +2,7 @@
 mod pieces; // pieces of a line
 mod phrases; // which words say what
 mod textlines; // a line of a text
-pub mod matters; // what a refusal of minutes is about
+pub mod matters; // what a refusal is about: of minutes, or of a card
 
 use card::faults::Fault;
 use commandline::Wrong;
@@ -160,6 +160,41 @@ pub fn refused_booking<'a>(
     say(b" is outside ");
     say_month(year, month);
     say_refusal(refusal);
+}
+
+// Says which hours the cards of a number have.
+fn say_hours(number: usize) {
+    if number == 1 {
+        say(b"01:00 to 12:00");
+        return;
+    }
+    say(b"13:00 to 24:00")
+}
+
+// card N of DAY MONTH, its hours: words, in hundredths of the unit (refusal n), for the card at a place of a month's hourly cards.
+fn refused_card(year: u32, month: u32, place: usize, refusal: Refusal) {
+    let number = matters::card_number(place);
+    say(b"card ");
+    say_number(number as u64);
+    say(b" of ");
+    say_number(matters::card_day(place) as u64);
+    say(b" ");
+    say_month(year, month);
+    say(b", ");
+    say_hours(number);
+    say(b": ");
+    pieces::write_general(STDERR_FILENO, refusal);
+    say(b", in hundredths of the unit");
+    say_refusal(refusal);
+}
+
+// What the clock refuses of a month's hourly cards: the card at a place, or their station number.
+pub fn refused_hourly(year: u32, month: u32, station: u32, place: usize, refusal: Refusal) {
+    if 0 < place {
+        refused_card(year, month, place, refusal);
+        return;
+    }
+    refused_number(b"station", station as u64, refusal)
 }
 
 // FILE: it is too large.

@@ -1,6 +1,6 @@
-// What a refusal of minutes is about: a day that its month lacks, or which question of 9 turns a series down.
+// What a refusal is about: a day that its month lacks, which question of 9 turns a series down, or which day's card has no room for a height.
 ghost use mathlib.Core.Path.{_≡_};
-ghost use Rattle.messages.specs.Matters.{ofMinutes, lacksDay, seriesMatter};
+ghost use Rattle.messages.specs.Matters.{ofMinutes, lacksDay, seriesMatter, cardDay, cardNumber};
 use calls::reasons;
 use calls::reasons::Reason;
 use refusals::Refusal;
@@ -39,4 +39,18 @@ pub fn series_matter(
         );
     }
     Reason::Within
+}
+
+// The day of the card at a place of a month's hourly cards, counted from 1.
+pub fn card_day(place: usize) -> usize
+    ensures { λ r. ⌜ r ≡ cardDay place ⌝ }
+{
+    place / 2 + place % 2
+}
+
+// The number of that card, 1 or 2.
+pub fn card_number(place: usize) -> usize
+    ensures { λ r. ⌜ r ≡ cardNumber place ⌝ }
+{
+    2 - place % 2
 }

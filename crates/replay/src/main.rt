@@ -1,16 +1,20 @@
-// Plays a script of calls to a clock that starts with no table, and writes a line for each call.
+// Plays a script of calls to a clock that starts with no table, and writes a line for each call, hourly cards behind theirs.
 //
-// It takes a card file of 262,143 bytes and 65,536 places in each lent buffer. What asks for more ends the run as a line that is not of the form does.
+// It takes a card file of 262,143 bytes and 65,536 places in each lent buffer. What asks for more ends the run as a line that is not of the form does; but hourly cards may ask for any buffer.
 ghost use mathlib.Core.Path.{_≡_};
 ghost use Prim.Native.Nat.{_≤_};
 ghost use lib.ListN.{length};
 ghost use Rattle.clock.specs.View.{Made};
+ghost use Rattle.hourly.specs.Answers.{cardsReturned};
+ghost use Rattle.refusals.specs.Outcome.{onAccepted};
 ghost use Rattle.transcript.specs.inner.Posts.{Lent};
 use calls::annual::Sheet;
 use clock::After;
 use clock::Clock;
 use clock::HeightAnswer;
 use clock::TurnsAnswer;
+use hourly::CardsAnswer;
+use hourly::LONGEST;
 use script::YearLine;
 use station::records::Rows;
 use transcript::answers;
@@ -38,17 +42,25 @@ fn left(clock: Clock, at: usize) -> Step
     }
 }
 
+// The run ends with this clock, at this place on the page.
+fn ended(clock: Clock, at: usize) -> Step
+    requires { ⌜ Made clock ⌝ }
+    ensures { λ r. ⌜ (r .clock ≡ clock) × Made (r .clock) ⌝ }
+{
+    Step {
+        clock,
+        at,
+        more: false,
+    }
+}
+
 // The run ends at an input line.
 fn stop(clock: Clock, page: &mut [u8], at: usize, line: u64) -> Step
     requires { ⌜ Made clock ⌝ }
     ensures { λ r. ⌜ (r .clock ≡ clock) × Made (r .clock) ⌝ }
 {
     let next = answers::put_script(page, at, line);
-    Step {
-        clock,
-        at: next,
-        more: false,
-    }
+    ended(clock, next)
 }
 
 // The line of a call that sets something, and the clock as the call leaves it.
@@ -241,6 +253,40 @@ fn year_call(
     )
 }
 
+// The hourly cards in the lent bytes, or the refusal.
+fn put_cards(page: &mut [u8], at: usize, answer: CardsAnswer, cards: &[u8]) -> usize
+    requires { ⌜ onAccepted (cardsReturned answer) (λ count. count) 0 ≤ length (now cards) ⌝ }
+{
+    match answer {
+        CardsAnswer::Bytes(count) => answers::put_hourly(page, at, &cards[..count]),
+        CardsAnswer::Refused(refusal, place) => answers::put_refused(page, at, refusal, place),
+    }
+}
+
+// The answer of hourly cards, which are written into the bytes that are lent.
+fn cards_into(clock: Clock, number: u32, cards: &mut [u8], page: &mut [u8], at: usize) -> usize
+    requires { ⌜ Made clock ⌝ }
+{
+    let answer = clock::hourly(clock, number, cards);
+    put_cards(page, at, answer, cards)
+}
+
+// The bytes for hourly cards.
+fn card_places() -> [u8; LONGEST]
+    ensures { λ r. ⌜ 4278 ≡ length r ⌝ }
+{
+    [0; LONGEST]
+}
+
+// The answer of hourly cards, in as many bytes as their line asks. To ask more than the longest month's cards take makes no difference.
+fn hourly_call(clock: Clock, number: u32, bytes: u32, page: &mut [u8], at: usize) -> usize
+    requires { ⌜ Made clock ⌝ }
+{
+    let mut cards = card_places();
+    let n = output::on_page(LONGEST, bytes as usize);
+    cards_into(clock, number, &mut cards[..n], page, at)
+}
+
 // The answer to a call. At the end of the input the run ends with no word.
 fn answer_call(
     heard: Heard,
@@ -301,12 +347,11 @@ fn answer_call(
                 bookings_call(clock, &minutes[..n], &mut heights[..h], page, at),
             );
         }
+        Asked::Hourly(number, bytes) => {
+            return left(clock, hourly_call(clock, number, bytes, page, at));
+        }
         Asked::End => {
-            return Step {
-                clock,
-                at,
-                more: false,
-            };
+            return ended(clock, at);
         }
         Asked::Stop => {
             return stop(clock, page, at, heard.line);

@@ -5,9 +5,9 @@ use mathlib.Core.Bool.{Bool, false, cond}
 use lib.Dec.{eqb}
 use lib.IntN.{ℤ, pos, negℤ}
 use Rattle.columns.specs.Names.{same}
-use Rattle.script.specs.Words.{words, largest, reading, onward, lastNumber, given}
+use Rattle.script.specs.Words.{words, largest, reading, onward, lastNumber, given, lastTwo, givenTwo}
 use Rattle.script.specs.declared.Call.{Call}
-use Rattle.script.specs.declared.Call.the-variants.{Cards, Station, Date, Height, Series, Turns, Year, Bookings, Bad}
+use Rattle.script.specs.declared.Call.the-variants.{Cards, Station, Date, Height, Series, Turns, Year, Bookings, Hourly, Bad}
 use Rattle.script.specs.declared.Number.{Number}
 use Rattle.script.specs.declared.Entry.{Entry}
 use Rattle.script.specs.declared.Entry.the-variants.{Record, Bad as NoRecord}
@@ -42,7 +42,7 @@ stationOf ws =
 
 -- "date YEAR MONTH"
 unfoldable pub dateOf : List (List ℕ) → Call
-dateOf ws = onward Bad (reading largest ws) (λ year ws. given Bad (lastNumber ws) (λ month. Date year month))
+dateOf ws = givenTwo Bad (lastTwo ws) (λ year month. Date year month)
 
 -- "height MINUTE"
 unfoldable pub heightOf : List (List ℕ) → Call
@@ -82,7 +82,11 @@ yearOf ws =
 
 -- "bookings COUNT HEIGHTS"
 unfoldable pub bookingsOf : List (List ℕ) → Call
-bookingsOf ws = onward Bad (reading largest ws) (λ count ws. given Bad (lastNumber ws) (λ heights. Bookings count heights))
+bookingsOf ws = givenTwo Bad (lastTwo ws) (λ count heights. Bookings count heights)
+
+-- "hourly STATION BYTES"
+unfoldable pub hourlyOf : List (List ℕ) → Call
+hourlyOf ws = givenTwo Bad (lastTwo ws) (λ station bytes. Hourly station bytes)
 
 -- the words of the calls, letter by letter
 abbrev pub cardsWord : List ℕ
@@ -109,6 +113,9 @@ yearWord = 121 ∷ 101 ∷ 97 ∷ 114 ∷ []
 abbrev pub bookingsWord : List ℕ
 bookingsWord = 98 ∷ 111 ∷ 111 ∷ 107 ∷ 105 ∷ 110 ∷ 103 ∷ 115 ∷ []
 
+abbrev pub hourlyWord : List ℕ
+hourlyWord = 104 ∷ 111 ∷ 117 ∷ 114 ∷ 108 ∷ 121 ∷ []
+
 -- "Each call is a line: a word, then decimal numbers"
 unfoldable pub callOfWords : List (List ℕ) → Call
 callOfWords [] = Bad
@@ -120,7 +127,8 @@ callOfWords (w ∷ ws) =
     (cond (same w seriesWord) (seriesOf ws)
     (cond (same w turnsWord) (turnsOf ws)
     (cond (same w yearWord) (yearOf ws)
-    (cond (same w bookingsWord) (bookingsOf ws) Bad)))))))
+    (cond (same w bookingsWord) (bookingsOf ws)
+    (cond (same w hourlyWord) (hourlyOf ws) Bad))))))))
 
 abbrev pub callOf : List ℕ → Call
 callOf line = callOfWords (words line)

@@ -6,6 +6,8 @@ use lib.Dec.{leb, eqb}
 use Rattle.columns.specs.Lines.{inFront}
 use Rattle.script.specs.declared.Number.{Number}
 use Rattle.script.specs.declared.Number.the-variants.{Value, NoNumber}
+use Rattle.script.specs.declared.words.Two.{Two}
+use Rattle.script.specs.declared.words.Two.the-variants.{Numbers, NoNumbers}
 
 -- ---- words
 
@@ -68,3 +70,12 @@ lastNumber ws = onward NoNumber (reading largest ws) (λ n ws. ended ws n)
 abbrev pub given : {A : Type 0} → A → Number → (ℕ → A) → A
 given bad (Value n) f = f n
 given bad NoNumber f = bad
+
+-- the last two numbers, with no word behind them
+unfoldable pub lastTwo : List (List ℕ) → Two
+lastTwo ws = onward NoNumbers (reading largest ws) (λ first ws. given NoNumbers (lastNumber ws) (λ second. Numbers first second))
+
+-- goes on with the last two numbers
+abbrev pub givenTwo : {A : Type 0} → A → Two → (ℕ → ℕ → A) → A
+givenTwo bad (Numbers first second) f = f first second
+givenTwo bad NoNumbers f = bad

@@ -5,15 +5,17 @@ ghost use Prim.Native.Nat.{_+_, _-_, _≤_, _^_};
 ghost use lib.ListN.{length};
 ghost use lib.IntN.{pos, negℤ};
 ghost use Rattle.columns.specs.Names.{same};
-ghost use Rattle.script.specs.Script.{callOf, callOfWords, recordOf, hasMinus, stationAt, stationOf, cardsOf, dateOf, heightOf, seriesOf, turnsOf, yearOf, bookingsOf, minuteOf};
+ghost use Rattle.script.specs.Script.{callOf, callOfWords, recordOf, hasMinus, stationAt, stationOf, cardsOf, dateOf, heightOf, seriesOf, turnsOf, yearOf, bookingsOf, hourlyOf, minuteOf};
 ghost use Rattle.script.specs.inner.Left.{wordsFrom, withSearch};
 
 mod words; // words and decimal numbers
 
 use crate::words::Field;
 use crate::words::LARGEST;
+use crate::words::Two;
 use crate::words::field_at;
 use crate::words::last_at;
+use crate::words::two_at;
 use crate::words::word_end;
 
 // year YEAR START STEP COUNT FIRST LAST MINUTES HEIGHTS
@@ -38,6 +40,7 @@ pub enum Call {
     Turns(u32, u32, u32, u32),
     Year(YearLine),
     Bookings(u32, u32),
+    Hourly(u32, u32),
     Bad,
 }
 
@@ -72,12 +75,8 @@ fn cards_at(line: &[u8], at: usize) -> Call
 fn date_at(line: &[u8], at: usize) -> Call
     ensures { λ r. ⌜ r ≡ dateOf (wordsFrom (now (line .entry)) at) ⌝ }
 {
-    let first = field_at(line, at, LARGEST);
-    let Field::Read(year, next) = first else {
-        return Call::Bad;
-    };
-    let last = last_at(line, next);
-    let Number::Value(month) = last else {
+    let two = two_at(line, at);
+    let Two::Numbers(year, month) = two else {
         return Call::Bad;
     };
     Call::Date(year, month)
@@ -182,15 +181,22 @@ fn year_at(line: &[u8], at: usize) -> Call
 fn bookings_at(line: &[u8], at: usize) -> Call
     ensures { λ r. ⌜ r ≡ bookingsOf (wordsFrom (now (line .entry)) at) ⌝ }
 {
-    let first = field_at(line, at, LARGEST);
-    let Field::Read(count, next) = first else {
-        return Call::Bad;
-    };
-    let last = last_at(line, next);
-    let Number::Value(heights) = last else {
+    let two = two_at(line, at);
+    let Two::Numbers(count, heights) = two else {
         return Call::Bad;
     };
     Call::Bookings(count, heights)
+}
+
+// hourly STATION BYTES
+fn hourly_at(line: &[u8], at: usize) -> Call
+    ensures { λ r. ⌜ r ≡ hourlyOf (wordsFrom (now (line .entry)) at) ⌝ }
+{
+    let two = two_at(line, at);
+    let Two::Numbers(station, bytes) = two else {
+        return Call::Bad;
+    };
+    Call::Hourly(station, bytes)
 }
 
 // A latitude without a minus.
@@ -284,6 +290,9 @@ fn call_at(word: &[u8], line: &[u8], at: usize) -> Call
     }
     if is_word(word, b"bookings") {
         return bookings_at(line, at);
+    }
+    if is_word(word, b"hourly") {
+        return hourly_at(line, at);
     }
     Call::Bad
 }

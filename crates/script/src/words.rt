@@ -2,7 +2,7 @@
 ghost use mathlib.Core.Path.{_≡_};
 ghost use Prim.Native.Nat.{_+_, _-_, _≤_};
 ghost use lib.ListN.{length, drop};
-ghost use Rattle.script.specs.Words.{number, reading, lastNumber};
+ghost use Rattle.script.specs.Words.{number, reading, lastNumber, lastTwo};
 ghost use Rattle.script.specs.inner.Left.{wordsFrom, wordLength, readingAt};
 use crate::Number;
 
@@ -10,6 +10,12 @@ use crate::Number;
 pub enum Field {
     Read(u32, usize),
     NoField,
+}
+
+// Two words that are numbers, or are not.
+pub enum Two {
+    Numbers(u32, u32),
+    NoNumbers,
 }
 
 // The largest number of 32 bits.
@@ -94,4 +100,19 @@ pub fn last_at(line: &[u8], at: usize) -> Number
         return Number::NoNumber;
     }
     Number::Value(value)
+}
+
+// The two numbers that stand at a byte of a line, with nothing behind them.
+pub fn two_at(line: &[u8], at: usize) -> Two
+    ensures { λ r. ⌜ r ≡ lastTwo (wordsFrom (now (line .entry)) at) ⌝ }
+{
+    let field = field_at(line, at, LARGEST);
+    let Field::Read(first, next) = field else {
+        return Two::NoNumbers;
+    };
+    let last = last_at(line, next);
+    let Number::Value(second) = last else {
+        return Two::NoNumbers;
+    };
+    Two::Numbers(first, second)
 }

@@ -160,3 +160,13 @@ pub fn put_year(page: &mut [u8], at: usize, heights: &[i64]) -> usize
     let end = put_each(page, count, heights);
     output::put(page, end, 32)
 }
+
+// hourly N, and behind its LF the N bytes of the cards
+pub fn put_hourly(page: &mut [u8], at: usize, cards: &[u8]) -> usize
+    ensures { λ r. ⌜ r ≤ length (now (page .entry)) ⌝ }
+{
+    let word = output::put_bytes(page, at, b"hourly ");
+    let count = output::put_number(page, word, cards.len() as u64);
+    let end = output::put(page, count, 10);
+    output::put_bytes(page, end, cards)
+}

@@ -17,7 +17,8 @@ use station::records::put;
 use std::num::wrapping_add_u64;
 
 // What a call asks. A card file stands in the buffer from the first place to the second; a station has a latitude and so many records; a series,
-// a search and a year's sheet end with how many places they are lent; bookings have so many minutes, which stand in the lent places, and so many places for heights.
+// a search and a year's sheet end with how many places they are lent; bookings have so many minutes, which stand in the lent places, and so many places for heights;
+// hourly cards have a station number and so many bytes.
 // Stop: the input is not of the form.
 pub enum Asked {
     Cards(usize, usize),
@@ -28,6 +29,7 @@ pub enum Asked {
     Turns(u32, u32, usize, usize),
     Year(YearLine),
     Bookings(usize, usize),
+    Hourly(u32, u32),
     End,
     Stop,
 }
@@ -419,6 +421,9 @@ fn hear(buffer: &mut [u8], told: CallLine, minutes: &mut [u32], heights: usize) 
         }
         Call::Bookings(count, h) => {
             return hear_bookings(buffer, told, minutes, heights, count, h);
+        }
+        Call::Hourly(station, bytes) => {
+            return heard_line(Asked::Hourly(station, bytes), line, told.window);
         }
         Call::Bad => {
             return heard_line(Asked::Stop, line, told.window);

@@ -1,9 +1,11 @@
-// The sheets of the month that a clock has prepared, and of a file's bookings in it, written on standard output, or the clock's refusal, said; and those of a year.
+// The sheets of the month that a clock has prepared, those of a file's bookings in it, and its hourly cards, written on standard output, or the clock's refusal, said; and the sheets of a year.
 mod booked; // a file's bookings
+mod carded; // hourly cards
 mod tabulated; // heights for other programs
 mod yearly; // the year's sheet, and its turns for other programs
 
 pub use booked::bookings;
+pub use carded::hourly;
 pub use tabulated::heights;
 pub use tabulated::series;
 pub use yearly::year;

@@ -13,7 +13,7 @@ no-station-requires c κs = search needs
 
 returns : tie.Need-returns
 unfolding view
-returns c = record { cosines = c .before .cosines .ensures; flag = refl; same = refl; undated = refl; count = refl; last = refl; there = refl }
+returns c = record { cosines = c .before .cosines .ensures; flag = refl; same = refl; count = refl; last = refl; there = refl }
 
 pub bare-spec : {M : Type 1} → statement M
 bare-spec = tie.close (tie.spec cosines-requires no-station-requires returns)

@@ -4,7 +4,7 @@ use mathlib.Core.Path.{sym, ap, _∙_}
 use Rattle.refusals.specs.Outcome.{outcomeOf}
 use Rattle.table.specs.inner.View.{tableOf}
 use Rattle.station.specs.inner.Station.{stationOf}
-use Rattle.calls.proofs.Carded.{cards-refused, cards-given, hourly-within}
+use Rattle.calls.proofs.Carded.{cards-refused, cards-given, hourly-tabled}
 use Rattle.clock.specs.View.{view, monthIn}
 use Rattle.clock.proofs.OneMonth.{lent-row}
 use Rattle.clock.proofs.hourly.Statement.{statement}
@@ -20,9 +20,9 @@ cards-requires : tie.Need-cards-requires
 cards-requires c κs =
     let s = c .before .before .before .before .before .before .before .before .before .before .before .before .before .before .before in
     let k = s .args .t1 in
-    let w = hourly-within (k .tabled) (k .stationed) (k .dated) (s .args .number) (sym (c .before .before .before .before .before .before .before .before .before .before .before .before .before .hourly-answer .ensures) ∙ ap outcomeOf (c .before .before .before .before .before .before .before .before .before .before .before .enum-told .given .1)) in
-    let sound = s .pre (w .0) in
-    ((sound .cosines, (sound .count, lent-row k (s .good .0))), (sound .date (w .1 .0), w .1 .1))
+    let tabled = hourly-tabled (k .tabled) (k .stationed) (k .dated) (s .args .number) (sym (c .before .before .before .before .before .before .before .before .before .before .before .before .before .hourly-answer .ensures) ∙ ap outcomeOf (c .before .before .before .before .before .before .before .before .before .before .before .enum-told .given .1)) in
+    let sound = s .pre tabled in
+    (sound .cosines, (sound .count, lent-row k (s .good .0)))
 
 same-length : tie.Need-same-length
 same-length c = search needs

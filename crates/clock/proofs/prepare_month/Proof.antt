@@ -28,7 +28,7 @@ returns c =
     let worked = c .before .before .before .before .prepare in
     let answer = c .before .before .before .month-answer in
     rw (c .with-month .ensures, c .before .before .before .before .before .before .before .before .before .month-minutes .ensures)
-    (month-ready (s .args .t1) (s .args .year) (s .args .month) (worked .result) (answer .result) (s .pre .0) (s .pre .1) (worked .ensures) (answer .ensures) (c .before .enum-told .given .1))
+    (month-ready (s .args .t1) (s .args .year) (s .args .month) (worked .result) (answer .result) (s .pre .0) (worked .ensures) (answer .ensures) (c .before .enum-told .given .1))
 
 enum-told-2 : tie.Need-enum-told-2
 enum-told-2 c = search needs
@@ -39,7 +39,7 @@ returns-2 c =
     let worked = c .before .before .before .prepare in
     let answer = c .before .before .month-answer in
     let g = c .enum-told2 .given in
-    month-refused (s .args .t1) (s .args .year) (s .args .month) (worked .result) (answer .result) (s .pre .0) (s .pre .1) (worked .ensures) (answer .ensures) (g .0 .0) (g .0 .1 .0) (g .1)
+    month-refused (s .args .t1) (s .args .year) (s .args .month) (worked .result) (answer .result) (s .pre .0) (worked .ensures) (answer .ensures) (g .0 .0) (g .0 .1 .0) (g .1)
 
 pub prepare-month-spec : {M : Type 1} → statement M
 prepare-month-spec = tie.close (tie.spec month-minutes-requires cast-last prepare-requires month-answer-requires enum-told with-month-requires returns enum-told-2 returns-2)

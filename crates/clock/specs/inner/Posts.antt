@@ -2,7 +2,7 @@
 -- Assumes nothing.
 use Prim.{Unit}
 use Prim.Native.Nat.{ℕ, _≤_}
-use mathlib.Core.Bool.{Bool, true, false}
+use mathlib.Core.Bool.{Bool, true}
 use mathlib.Core.List.{List}
 use mathlib.Core.Path.{_≡_}
 use lib.IntN.{ℤ}
@@ -37,7 +37,6 @@ pub record BarePost (tabled : Bool) (table : declared.Table) (r : Clock) : Type 
   pub cosines : IsTable (r .cosines)
   pub flag : r .tabled ≡ tabled
   pub same : r .table ≡ table
-  pub undated : r .dated ≡ false
   pub count : r .count ≡ 0
   pub last : r .last ≡ 0
   pub there : view r ≡ tabledOnly tabled (tableOf table)

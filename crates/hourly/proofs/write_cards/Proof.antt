@@ -29,7 +29,7 @@ asked : (c : tie.After-heights-answer) → outcomeOf (c .heights-answer .result)
 asked c =
     let p = c .before .before in
     let a = p .args in
-    c .heights-answer .ensures .asked (a .station) (a .year) (a .month) (2 * monthDays (a .year) (a .month)) (omega (arith, p .pre .0))
+    c .heights-answer .ensures .asked (a .station) (a .year) (a .month) (2 * monthDays (a .year) (a .month)) (omega (arith, p .pre))
 
 -- where it is accepted
 module _ (c : tie.After-enum-told) where
@@ -46,7 +46,7 @@ module _ (c : tie.After-enum-told) where
   bytes-length =
       let a = start .args in
       let n = 2 * monthDays (a .year) (a .month) in
-      omega (arith, cards-length narrow (a .hours .now) (a .station) (a .year) (a .month) all-fitting n 0 (omega (arith, start .pre .0)), start .pre .0)
+      omega (arith, cards-length narrow (a .hours .now) (a .station) (a .year) (a .month) all-fitting n 0 (omega (arith, start .pre)), start .pre)
 
 heights-answer-requires : tie.Need-heights-answer-requires
 heights-answer-requires c κs = search needs
@@ -83,7 +83,7 @@ returns-3 : tie.Need-returns-3
 returns-3 c =
     let t = c .before .before .before .before .before in
     let a = start t .args in
-    let n : length (a .hours .now) / 12 ≡ 2 * monthDays (a .year) (a .month) = omega (arith, start t .pre .0) in
+    let n : length (a .hours .now) / 12 ≡ 2 * monthDays (a .year) (a .month) = omega (arith, start t .pre) in
     let stored : c .before .before .put-cards .last .0 ≡ sets (a .out .now) 0 (cardsWritten narrow (cardsAt (start t))) = rw n at (c .before .before .put-cards .ensures) in
     rw (← bytes-length t) (cards-given (cardsAt (start t)) (a .out .now) (sym (all-accepted t)) (omega (arith, bytes-length t, c .before .before .before .before .if1 .left)) _ stored)
 

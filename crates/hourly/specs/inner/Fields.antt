@@ -9,7 +9,7 @@ use lib.ListN.{length, getD, take, drop, replicate}
 use Prim.{Unit}
 use Rattle.refusals.specs.Outcome.{Outcome, accepted}
 use Rattle.hourly.specs.Card.{Entry, value, twoDigits}
-use Rattle.hourly.specs.Format.{I, X, A, heightsACard}
+use Rattle.hourly.specs.Format.{A, headingFormat, heightsACard}
 use Rattle.hourly.specs.Month.{centimetres, outside, heightsAsked}
 use Rattle.hourly.specs.Writing.{textOf, writtenBy}
 use Rattle.hourly.specs.inner.Hours.{cardsAfter}
@@ -35,7 +35,7 @@ headingLength = 20
 
 abbrev pub headingWritten : ℕ → ℕ → ℕ → ℕ → List ℕ
 headingWritten station year month i =
-    writtenBy (I 1 ∷ X 1 ∷ I 5 ∷ X 7 ∷ I 2 ∷ I 2 ∷ I 2 ∷ [])
+    writtenBy headingFormat
     (value (pos (i % 2 + 1))
     ∷ value (pos station)
     ∷ value (pos (i / 2 + 1))

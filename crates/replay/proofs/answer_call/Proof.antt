@@ -185,11 +185,29 @@ same-length-16 c = search needs
 returns-8 : tie.Need-returns-8
 returns-8 c = search needs
 
-enum-told : tie.Need-enum-told
-enum-told c = search needs
+enum-known-asked-9 : tie.Need-enum-known-asked-9
+enum-known-asked-9 c = search needs
+
+hourly-call-requires : tie.Need-hourly-call-requires
+hourly-call-requires c κs = search needs
+
+left-requires-6 : tie.Need-left-requires-6
+left-requires-6 c κs = search needs
+
+same-length-17 : tie.Need-same-length-17
+same-length-17 c = search needs
 
 returns-9 : tie.Need-returns-9
 returns-9 c = search needs
+
+enum-told : tie.Need-enum-told
+enum-told c = search needs
+
+ended-requires : tie.Need-ended-requires
+ended-requires c κs = search needs
+
+returns-10 : tie.Need-returns-10
+returns-10 c = search needs
 
 enum-told-2 : tie.Need-enum-told-2
 enum-told-2 c = search needs
@@ -197,11 +215,11 @@ enum-told-2 c = search needs
 stop-requires : tie.Need-stop-requires
 stop-requires c κs = search needs
 
-same-length-17 : tie.Need-same-length-17
-same-length-17 c = search needs
+same-length-18 : tie.Need-same-length-18
+same-length-18 c = search needs
 
-returns-10 : tie.Need-returns-10
-returns-10 c = search needs
+returns-11 : tie.Need-returns-11
+returns-11 c = search needs
 
 pub answer-call-spec : {M : Type 1} → statement M
 answer-call-spec =
@@ -265,9 +283,15 @@ answer-call-spec =
     same-length-15
     same-length-16
     returns-8
-    enum-told
+    enum-known-asked-9
+    hourly-call-requires
+    left-requires-6
+    same-length-17
     returns-9
+    enum-told
+    ended-requires
+    returns-10
     enum-told-2
     stop-requires
-    same-length-17
-    returns-10)
+    same-length-18
+    returns-11)

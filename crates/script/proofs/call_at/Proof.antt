@@ -3,7 +3,7 @@ use borrow.Author.Needs.{needs}
 use mathlib.Core.Path.{_≡_, sym, _∙_}
 use mathlib.Core.Bool.{true}
 use Rattle.columns.specs.Names.{same}
-use Rattle.script.specs.Script.{callOfWords, turnsWord, yearWord, bookingsWord}
+use Rattle.script.specs.Script.{callOfWords, turnsWord, yearWord, bookingsWord, hourlyWord}
 use Rattle.script.proofs.call_at.Statement.{statement}
 use Rattle.script.proofs.call_at.Tie as tie
 
@@ -117,9 +117,24 @@ returns-8 c =
     let bookings : same _ bookingsWord ≡ true = sym (c .before .before .is-word8 .ensures) ∙ c .before .if8 .taken in
     rw (← c .before .before .before .before .before .before .before .before .before .before .before .before .before .before .before .before .before .before .before .before .before .before .before .is-word .ensures, c .before .before .before .before .before .before .before .before .before .before .before .before .before .before .before .before .before .before .before .before .before .before .if1 .left, ← c .before .before .before .before .before .before .before .before .before .before .before .before .before .before .before .before .before .before .before .before .is-word2 .ensures, c .before .before .before .before .before .before .before .before .before .before .before .before .before .before .before .before .before .before .before .if2 .left, ← c .before .before .before .before .before .before .before .before .before .before .before .before .before .before .before .before .before .is-word3 .ensures, c .before .before .before .before .before .before .before .before .before .before .before .before .before .before .before .before .if3 .left, ← c .before .before .before .before .before .before .before .before .before .before .before .before .before .before .is-word4 .ensures, c .before .before .before .before .before .before .before .before .before .before .before .before .before .if4 .left, ← c .before .before .before .before .before .before .before .before .before .before .before .is-word5 .ensures, c .before .before .before .before .before .before .before .before .before .before .if5 .left, ← c .before .before .before .before .before .before .before .before .is-word6 .ensures, c .before .before .before .before .before .before .before .if6 .left, ← c .before .before .before .before .before .is-word7 .ensures, c .before .before .before .before .if7 .left, bookings) (c .bookings-at .ensures)
 
+slice-aggregate-is-word-9 : tie.Need-slice-aggregate-is-word-9
+slice-aggregate-is-word-9 c = search needs
+
+is-word-requires-9 : tie.Need-is-word-requires-9
+is-word-requires-9 c κs = search needs
+
+hourly-at-requires : tie.Need-hourly-at-requires
+hourly-at-requires c κs = search needs
+
 returns-9 : tie.Need-returns-9
 unfolding callOfWords
-returns-9 c = rw (← c .before .before .before .before .before .before .before .before .before .before .before .before .before .before .before .before .before .before .before .before .before .before .is-word .ensures, c .before .before .before .before .before .before .before .before .before .before .before .before .before .before .before .before .before .before .before .before .before .if1 .left, ← c .before .before .before .before .before .before .before .before .before .before .before .before .before .before .before .before .before .before .before .is-word2 .ensures, c .before .before .before .before .before .before .before .before .before .before .before .before .before .before .before .before .before .before .if2 .left, ← c .before .before .before .before .before .before .before .before .before .before .before .before .before .before .before .before .is-word3 .ensures, c .before .before .before .before .before .before .before .before .before .before .before .before .before .before .before .if3 .left, ← c .before .before .before .before .before .before .before .before .before .before .before .before .before .is-word4 .ensures, c .before .before .before .before .before .before .before .before .before .before .before .before .if4 .left, ← c .before .before .before .before .before .before .before .before .before .before .is-word5 .ensures, c .before .before .before .before .before .before .before .before .before .if5 .left, ← c .before .before .before .before .before .before .before .is-word6 .ensures, c .before .before .before .before .before .before .if6 .left, ← c .before .before .before .before .is-word7 .ensures, c .before .before .before .if7 .left, ← c .before .is-word8 .ensures, c .if8 .left)
+returns-9 c =
+    let hourly : same _ hourlyWord ≡ true = sym (c .before .before .is-word9 .ensures) ∙ c .before .if9 .taken in
+    rw (← c .before .before .before .before .before .before .before .before .before .before .before .before .before .before .before .before .before .before .before .before .before .before .before .before .before .before .is-word .ensures, c .before .before .before .before .before .before .before .before .before .before .before .before .before .before .before .before .before .before .before .before .before .before .before .before .before .if1 .left, ← c .before .before .before .before .before .before .before .before .before .before .before .before .before .before .before .before .before .before .before .before .before .before .before .is-word2 .ensures, c .before .before .before .before .before .before .before .before .before .before .before .before .before .before .before .before .before .before .before .before .before .before .if2 .left, ← c .before .before .before .before .before .before .before .before .before .before .before .before .before .before .before .before .before .before .before .before .is-word3 .ensures, c .before .before .before .before .before .before .before .before .before .before .before .before .before .before .before .before .before .before .before .if3 .left, ← c .before .before .before .before .before .before .before .before .before .before .before .before .before .before .before .before .before .is-word4 .ensures, c .before .before .before .before .before .before .before .before .before .before .before .before .before .before .before .before .if4 .left, ← c .before .before .before .before .before .before .before .before .before .before .before .before .before .before .is-word5 .ensures, c .before .before .before .before .before .before .before .before .before .before .before .before .before .if5 .left, ← c .before .before .before .before .before .before .before .before .before .before .before .is-word6 .ensures, c .before .before .before .before .before .before .before .before .before .before .if6 .left, ← c .before .before .before .before .before .before .before .before .is-word7 .ensures, c .before .before .before .before .before .before .before .if7 .left, ← c .before .before .before .before .before .is-word8 .ensures, c .before .before .before .before .if8 .left, hourly) (c .hourly-at .ensures)
+
+returns-10 : tie.Need-returns-10
+unfolding callOfWords
+returns-10 c = rw (← c .before .before .before .before .before .before .before .before .before .before .before .before .before .before .before .before .before .before .before .before .before .before .before .before .before .is-word .ensures, c .before .before .before .before .before .before .before .before .before .before .before .before .before .before .before .before .before .before .before .before .before .before .before .before .if1 .left, ← c .before .before .before .before .before .before .before .before .before .before .before .before .before .before .before .before .before .before .before .before .before .before .is-word2 .ensures, c .before .before .before .before .before .before .before .before .before .before .before .before .before .before .before .before .before .before .before .before .before .if2 .left, ← c .before .before .before .before .before .before .before .before .before .before .before .before .before .before .before .before .before .before .before .is-word3 .ensures, c .before .before .before .before .before .before .before .before .before .before .before .before .before .before .before .before .before .before .if3 .left, ← c .before .before .before .before .before .before .before .before .before .before .before .before .before .before .before .before .is-word4 .ensures, c .before .before .before .before .before .before .before .before .before .before .before .before .before .before .before .if4 .left, ← c .before .before .before .before .before .before .before .before .before .before .before .before .before .is-word5 .ensures, c .before .before .before .before .before .before .before .before .before .before .before .before .if5 .left, ← c .before .before .before .before .before .before .before .before .before .before .is-word6 .ensures, c .before .before .before .before .before .before .before .before .before .if6 .left, ← c .before .before .before .before .before .before .before .is-word7 .ensures, c .before .before .before .before .before .before .if7 .left, ← c .before .before .before .before .is-word8 .ensures, c .before .before .before .if8 .left, ← c .before .is-word9 .ensures, c .if9 .left)
 
 pub call-at-spec : {M : Type 1} → statement M
 call-at-spec =
@@ -157,4 +172,8 @@ call-at-spec =
     is-word-requires-8
     bookings-at-requires
     returns-8
-    returns-9)
+    slice-aggregate-is-word-9
+    is-word-requires-9
+    hourly-at-requires
+    returns-9
+    returns-10)

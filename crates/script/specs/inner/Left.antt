@@ -6,7 +6,7 @@ use lib.Dec.{eqb}
 use Rattle.script.specs.declared.words.Field.{Field}
 use Rattle.script.specs.declared.words.Field.the-variants.{Read, NoField}
 use Rattle.script.specs.declared.Call.{Call}
-use Rattle.script.specs.declared.Call.the-variants.{Cards, Station, Date, Height, Series, Turns, Year, Bookings, Bad}
+use Rattle.script.specs.declared.Call.the-variants.{Cards, Station, Date, Height, Series, Turns, Year, Bookings, Hourly, Bad}
 use Rattle.script.specs.Words.{words, Reading, read, unread}
 
 -- the words from byte k on; none past the line's end
@@ -36,4 +36,5 @@ withSearch (Turns first last minutes heights) year start step count =
     Year (record { year = year; start = start; step = step; count = count; first = first; last = last; minutes = minutes; heights = heights })
 withSearch (Year line) year start step count = Bad
 withSearch (Bookings places heights) year start step count = Bad
+withSearch (Hourly station bytes) year start step count = Bad
 withSearch Bad year start step count = Bad

@@ -4,7 +4,7 @@ use Prim.Native.Nat.{ℕ, _≤_}
 use native.Mathlib.Omega.{arith}
 use Rattle.transcript.specs.declared.input.Window.{Window}
 use Rattle.transcript.specs.declared.reading.Asked.{Asked}
-use Rattle.transcript.specs.declared.reading.Asked.the-variants.{Cards, Station, Date, Height, Series, Turns, Year, Bookings, End, Stop}
+use Rattle.transcript.specs.declared.reading.Asked.the-variants.{Cards, Station, Date, Height, Series, Turns, Year, Bookings, Hourly, End, Stop}
 use Rattle.transcript.specs.declared.reading.Heard.{Heard}
 use Rattle.transcript.specs.inner.Window.{Within}
 use Rattle.transcript.specs.inner.Posts.{Fits, Lent, HeardPost}
@@ -21,6 +21,7 @@ fits-more n m h k p q i j l (Series start step count) f = omega arith
 fits-more n m h k p q i j l (Turns first last minutes heights) f = (omega arith, omega arith)
 fits-more n m h k p q i j l (Year line) f = (omega arith, omega arith, omega arith)
 fits-more n m h k p q i j l (Bookings count heights) f = (omega arith, omega arith)
+fits-more n m h k p q i j l (Hourly station bytes) f = tt
 fits-more n m h k p q i j l End f = tt
 fits-more n m h k p q i j l Stop f = tt
 

@@ -16,7 +16,7 @@ use Rattle.transcript.specs.declared.reading.Minutes.{Minutes}
 use Rattle.script.specs.declared.Number.{Number}
 use Rattle.script.specs.declared.Number.the-variants.{Value, NoNumber}
 use Rattle.transcript.specs.declared.reading.Asked.{Asked}
-use Rattle.transcript.specs.declared.reading.Asked.the-variants.{Cards, Station, Date, Height, Series, Turns, Year, Bookings, End, Stop}
+use Rattle.transcript.specs.declared.reading.Asked.the-variants.{Cards, Station, Date, Height, Series, Turns, Year, Bookings, Hourly, End, Stop}
 use Rattle.transcript.specs.declared.reading.Heard.{Heard}
 
 -- the card file stands in the buffer of n bytes; one that came whole has the bytes asked for, and LF (10) behind them
@@ -55,6 +55,7 @@ Fits n m h (Series start step count) = count ≤ h
 Fits n m h (Turns first last minutes heights) = (minutes ≤ m) × (heights ≤ h)
 Fits n m h (Year line) = (line .count ≤ h) × (line .minutes ≤ m) × (line .heights ≤ h)
 Fits n m h (Bookings count heights) = (count ≤ m) × (heights ≤ h)
+Fits n m h (Hourly station bytes) = Unit {0}
 Fits n m h End = Unit {0}
 Fits n m h Stop = Unit {0}
 

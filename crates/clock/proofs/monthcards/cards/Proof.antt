@@ -2,7 +2,7 @@
 use borrow.Author.Needs.{needs}
 use native.Mathlib.Omega.{arith}
 use Prim.Native.Nat.{ℕ, _*_, _≤_}
-use mathlib.Core.Path.{_≡_, sym, ap, _∙_}
+use mathlib.Core.Path.{sym, ap, _∙_}
 use mathlib.Core.List.{List}
 use lib.IntN.{ℤ}
 use lib.ListN.{length}
@@ -55,9 +55,8 @@ slice-aggregate-write-cards c = sym (hours-count _ _ _ _ _ _ (within (c .before 
 
 write-cards-requires : tie.Need-write-cards-requires
 write-cards-requires c κs =
-    let a = c .before .before .before .before .before .before .before .before .before in
     let days = c .before .before .before .before .before .before .month-days .ensures in
-    (hours-count _ _ _ _ _ _ (within (c .before .before .before .before .before)) (c .before .before .before .series .ensures) ∙ ap (λ (d : ℕ). 24 * d) days, a .pre .1)
+    hours-count _ _ _ _ _ _ (within (c .before .before .before .before .before)) (c .before .before .before .series .ensures) ∙ ap (λ (d : ℕ). 24 * d) days
 
 same-length : tie.Need-same-length
 same-length c = search needs

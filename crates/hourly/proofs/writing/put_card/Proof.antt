@@ -28,7 +28,7 @@ add-result c = search needs
 same-length : tie.Need-same-length
 same-length c =
     let heights = c .before .before .put-heights in
-    length-set (heights .last .0) (heights .result) 10 ∙ (heights .kept .0 ∙ c .before .before .before .before .before .before .put-heading .kept .0)
+    length-set (heights .last .0) (heights .result) _ ∙ (heights .kept .0 ∙ c .before .before .before .before .before .before .put-heading .kept .0)
 
 returns : tie.Need-returns
 returns c =

@@ -73,7 +73,7 @@ put-natural-requires c κs = search needs
 same-length : tie.Need-same-length
 same-length c =
     let blanks = c .before .before .before .before .before .before .put-blanks in
-    c .before .before .put-decimal .kept .0 ∙ (length-set (blanks .last .0) _ 45 ∙ blanks .kept .0)
+    c .before .before .put-decimal .kept .0 ∙ (length-set (blanks .last .0) _ _ ∙ blanks .kept .0)
 
 returns : tie.Need-returns
 returns c =

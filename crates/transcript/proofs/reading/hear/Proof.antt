@@ -100,14 +100,23 @@ same-length-4 c = search needs
 returns-8 : tie.Need-returns-8
 returns-8 c = c .before .before .before .before .hear-bookings .ensures
 
-enum-told : tie.Need-enum-told
-enum-told c = search needs
+enum-known-call-9 : tie.Need-enum-known-call-9
+enum-known-call-9 c = search needs
 
 heard-line-requires-6 : tie.Need-heard-line-requires-6
 heard-line-requires-6 c κs = search needs
 
 returns-9 : tie.Need-returns-9
 returns-9 c = heard-said _ _ _ (c .heard-line6 .ensures) (search needs) (record { fits = tt })
+
+enum-told : tie.Need-enum-told
+enum-told c = search needs
+
+heard-line-requires-7 : tie.Need-heard-line-requires-7
+heard-line-requires-7 c κs = search needs
+
+returns-10 : tie.Need-returns-10
+returns-10 c = heard-said _ _ _ (c .heard-line7 .ensures) (search needs) (record { fits = tt })
 
 pub hear-spec : {M : Type 1} → statement M
 hear-spec =
@@ -145,6 +154,9 @@ hear-spec =
     same-length-3
     same-length-4
     returns-8
-    enum-told
+    enum-known-call-9
     heard-line-requires-6
-    returns-9)
+    returns-9
+    enum-told
+    heard-line-requires-7
+    returns-10)
