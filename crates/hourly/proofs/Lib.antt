@@ -1,10 +1,10 @@
 pub mod Lengths
+pub mod Hours
+pub mod Given
 pub mod Runs
 pub mod Decimal
 pub mod Widths
 pub mod Formats
 pub mod Cards
-pub mod Back
 pub mod Nearest
-pub mod Hours
-pub mod Given
+pub mod Back
