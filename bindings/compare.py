@@ -24,6 +24,7 @@ from decks import STILLS, still_file  # noqa: E402
 from generate import cards_call  # noqa: E402
 from hours import AMPLITUDE, HIGHEST, LOWEST  # noqa: E402
 from replay_example import CARDS, LAST, station  # noqa: E402
+from replayed import parted  # noqa: E402
 
 SEED, COUNT = 1, 200
 LARGEST = 4_294_967_295
@@ -221,7 +222,7 @@ def compare(name, command, paths, played):
         print("%s ended with status %d after %d scripts: %s" % (name, run.returncode, len(written), run.stderr.decode()[-1000:]))
         return False
     print("%s: %d generated scripts and %d others, %d answers, %d scripts differ from the second code"
-          % (name, COUNT, len(played) - COUNT, sum(len(list(compare_many.parted(got))) for got in written), differing))
+          % (name, COUNT, len(played) - COUNT, sum(len(list(parted(got))) for got in written), differing))
     return differing == 0
 
 

@@ -12,7 +12,7 @@
 
 #include "cuvalimodo.h"
 
-enum { GUARD = 64, PAINT = 0xa5, LAST_FIELD = 4 };
+enum { GUARD = 64, PAINT = 0xa5, LAST_FIELD = 4, MOST_CARDS = 100000 };
 
 static void end(int status, const char *what)
 {
@@ -350,10 +350,11 @@ static bool year(struct script *s, const int64_t *n)
     return true;
 }
 
+/* No cards take MOST_CARDS bytes, so no more are lent. */
 static bool hourly(struct script *s, const int64_t *n)
 {
     (void)s;
-    struct lent lent = lend((size_t)n[1], 1);
+    struct lent lent = lend(n[1] < MOST_CARDS ? (size_t)n[1] : MOST_CARDS, 1);
     copy(lent);
     cuvalimodo_cards said = cuvalimodo_hourly(held(), (uint32_t)n[0], lent.at, lent.size);
     clock_stands(false);

@@ -19,6 +19,7 @@ from replay import Script, play, read_call, write  # noqa: E402
 
 GUARD = 8
 PAINT = 0x5A
+MOST_CARDS = 100_000
 
 
 class Lent:
@@ -132,7 +133,8 @@ class Guarded:
         return list(series.numbers), list(zip(minutes.numbers[:found], heights.numbers[:found])), high
 
     def hourly(self, number, places):
-        cards = Lent(ctypes.c_uint8, places)
+        # No cards take MOST_CARDS bytes, so no more are lent.
+        cards = Lent(ctypes.c_uint8, min(places, MOST_CARDS))
         size = 0
         try:
             size = self.call(self.clock.hourly_into, cards.numbers, number)

@@ -10,6 +10,7 @@ use std::io::{self, Read, Write};
 
 const GUARD: usize = 8;
 const PAINT: u64 = 0xa5a5_a5a5_a5a5_a5a5;
+const MOST_CARDS: usize = 100_000;
 
 /// A buffer between guards.
 struct Lent<T> {
@@ -221,8 +222,9 @@ fn year(held: &Held, sheet: Sheet, count: usize, minute_places: usize, height_pl
     Ok(format!("year {count}{} {turns}", spaced(series)))
 }
 
+/// No cards take `MOST_CARDS` bytes, so no more are lent.
 fn hourly(held: &Held, number: u32, size: usize) -> Result<String, Refusal> {
-    let mut lent = Lent::new(&vec![PAINT as u8; size], PAINT as u8);
+    let mut lent = Lent::new(&vec![PAINT as u8; size.min(MOST_CARDS)], PAINT as u8);
     let said = held.read(|clock| clock.hourly(number, lent.numbers()));
     let cards = lent.stands(said.unwrap_or(0));
     let lines: String = cards.iter().map(|&byte| char::from(byte)).collect();
