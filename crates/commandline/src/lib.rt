@@ -353,70 +353,30 @@ fn other_command(word: &[u8]) -> Command {
     Command::NoCommand
 }
 
+// So many words, and which of them is a time, or a file's name; 0 where none is.
+fn words_of(least: usize, most: usize, time: usize, file: usize) -> Form {
+    Form {
+        least,
+        most,
+        time,
+        file,
+    }
+}
+
 // year YEAR; month YEAR MONTH; day YEAR MONTH DAY [HH:MM]; heights YEAR MONTH [STEP]; series YEAR MONTH DAY HH:MM STEP COUNT;
 // svg YEAR [MONTH [DAY]]; bookings YEAR MONTH FILE; hourly YEAR MONTH STATION; refusals
 fn form_of(command: Command) -> Form {
     match command {
-        Command::Year => Form {
-            least: 2,
-            most: 2,
-            time: 0,
-            file: 0,
-        },
-        Command::Month => Form {
-            least: 3,
-            most: 3,
-            time: 0,
-            file: 0,
-        },
-        Command::Day => Form {
-            least: 4,
-            most: 5,
-            time: 4,
-            file: 0,
-        },
-        Command::Heights => Form {
-            least: 3,
-            most: 4,
-            time: 0,
-            file: 0,
-        },
-        Command::Series => Form {
-            least: 7,
-            most: 7,
-            time: 4,
-            file: 0,
-        },
-        Command::Svg => Form {
-            least: 2,
-            most: 4,
-            time: 0,
-            file: 0,
-        },
-        Command::Bookings => Form {
-            least: 4,
-            most: 4,
-            time: 0,
-            file: 3,
-        },
-        Command::Hourly => Form {
-            least: 4,
-            most: 4,
-            time: 0,
-            file: 0,
-        },
-        Command::Refusals => Form {
-            least: 1,
-            most: 1,
-            time: 0,
-            file: 0,
-        },
-        Command::NoCommand => Form {
-            least: 0,
-            most: 8,
-            time: 0,
-            file: 0,
-        },
+        Command::Year => words_of(2, 2, 0, 0),
+        Command::Month => words_of(3, 3, 0, 0),
+        Command::Day => words_of(4, 5, 4, 0),
+        Command::Heights => words_of(3, 4, 0, 0),
+        Command::Series => words_of(7, 7, 4, 0),
+        Command::Svg => words_of(2, 4, 0, 0),
+        Command::Bookings => words_of(4, 4, 0, 3),
+        Command::Hourly => words_of(4, 4, 0, 0),
+        Command::Refusals => words_of(1, 1, 0, 0),
+        Command::NoCommand => words_of(0, 8, 0, 0),
     }
 }
 
