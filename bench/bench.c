@@ -16,16 +16,16 @@ static char *read_file(const char *name, size_t *length) {
     return text;
 }
 
-// 01's table: the whole number nearest 2^30 times the nine terms of the series, at i × 192,480,468,750 ticks of T.
+// The table: the whole number nearest 2^30 times the nine terms of the series, at i steps of a turn of 788,400,000,000,000 ticks.
 static void make_cosines(void) {
-    for (int i = 0; i <= 1024; i++) {
-        __float128 angle = 2 * (314159265358979.0Q / 100000000000000.0Q) * (i * 192480468750.0Q / 788400000000000.0Q);
+    for (int i = 0; i <= STEPS; i++) {
+        __float128 angle = 2 * (314159265358979.0Q / 100000000000000.0Q) * ((__float128)i * STEP / 788400000000000.0Q);
         __float128 term = 1, sum = 0;
         for (int n = 0; n <= 16; n += 2) {
             sum += term;
             term = -term * angle * angle / ((n + 1) * (n + 2));
         }
-        cosines[i] = i == 1024 ? 0 : (uint32_t)(sum * 1073741824.0Q + 0.5Q);
+        cosines[i] = i == STEPS ? 0 : (uint32_t)(sum * 1073741824.0Q + 0.5Q);
     }
 }
 

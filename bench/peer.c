@@ -6,9 +6,8 @@
 #define CENTICYCLE 7884000000000ll
 #define CENTIDEGREE 21900000000ull
 #define ARC_MINUTE 36500000000ull
-#define STEP 192480468750ull
 
-uint32_t cosines[1025];
+uint32_t cosines[STEPS + 1];
 
 static const struct outcome accepted = {0, 0};
 
@@ -21,8 +20,8 @@ struct wave {
 // The cosine and the sine, by one division into quadrant, entry and remainder.
 static inline struct wave wave(uint64_t ticks) {
     uint64_t k = ticks / STEP, r = ticks % STEP;
-    unsigned i = k & 1023, q = k >> 10 & 3;
-    uint64_t c = cosines[i], d = cosines[i + 1], e = cosines[1023 - i], f = cosines[1024 - i];
+    unsigned i = k % STEPS, q = k / STEPS & 3;
+    uint64_t c = cosines[i], d = cosines[i + 1], e = cosines[STEPS - 1 - i], f = cosines[STEPS - i];
     int64_t near = (int64_t)(c - (c - d) * r / STEP);
     int64_t far = (int64_t)(e - (e - f) * (STEP - r) / STEP);
     int64_t even = q & 1 ? far : near, odd = q & 1 ? near : far;

@@ -75,7 +75,9 @@ struct outcome peer_turns(const struct month *month, const struct table *table, 
                           uint32_t *minutes, size_t minute_places, int64_t *heights, size_t height_places, size_t *count, bool *high);
 struct outcome peer_hourly(const struct month *month, unsigned year, unsigned number, uint32_t station, uint8_t *cards, size_t length, size_t *bytes);
 
-// The lent table of cosines, filled once from the bench.
-extern uint32_t cosines[1025];
+// The lent table of cosines, filled once from the bench: at each of the steps of a quarter turn, and at its end.
+#define STEPS 2048
+#define STEP 96240234375ull
+extern uint32_t cosines[STEPS + 1];
 
 #endif

@@ -10,7 +10,7 @@ import pathlib
 import sys
 from math import factorial
 
-STEPS = 1024  # in a quarter turn
+STEPS = 2048  # in a quarter turn
 
 TURN = 788_400_000_000_000
 QUARTER = TURN // 4
@@ -39,10 +39,10 @@ def text():
         "// The cosine table, written by tools/make_cosines.py: entry i is the whole number nearest 2^30 times the cosine at i × STEP ticks.",
         "pub const STEP: u64 = %s;" % format(STEP, "_"),
         "",
-        "// Steps in a quarter turn.",
-        "pub const STEPS: u64 = %s;" % format(STEPS, "_"),
-        "",
         "pub const ENTRIES: usize = %s;" % format(STEPS + 1, "_"),
+        "",
+        "// Steps in a quarter turn.",
+        "pub const STEPS: u64 = ENTRIES as u64 - 1;",
         "",
         "pub const COSINES: [u32; ENTRIES] = [",
     ]

@@ -73,7 +73,7 @@ enum cuvalimodo_refusal {
 };
 
 /* A clock: a table of constituents, a station and a month, each there or not. What is inside is the library's own. */
-#define CUVALIMODO_CLOCK_SIZE 16832
+#define CUVALIMODO_CLOCK_SIZE 20928
 typedef struct cuvalimodo_clock {
     alignas(8) unsigned char inside[CUVALIMODO_CLOCK_SIZE];
 } cuvalimodo_clock;

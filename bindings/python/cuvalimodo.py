@@ -29,7 +29,7 @@ from typing import TYPE_CHECKING, Iterable, NamedTuple, SupportsIndex, Tuple
 if TYPE_CHECKING:
     from _typeshed import ReadableBuffer, WriteableBuffer
 
-CLOCK_SIZE = 16832
+CLOCK_SIZE = 20928
 HOURLY_SIZE = 4278  # the hourly cards of 31 days
 NAME_SIZE = 5
 

@@ -6,7 +6,7 @@
 //! nothing outside this module can write to one.
 
 /// How many bytes a clock has.
-pub const CLOCK_SIZE: usize = 16832;
+pub const CLOCK_SIZE: usize = 20928;
 
 /// How many bytes the hourly cards of 31 days take.
 pub const HOURLY_SIZE: usize = 4278;

@@ -64,10 +64,10 @@ infix 5 _against_
 -- The list, for every amplitude A, and heights and advances at every minute.
 unfoldable pub starred : ℕ → ℕ → List Case
 starred A minute =
-    -- "C(0) = 1,073,741,824; C(512) = 759,250,125; C(1024) = 0."
+    -- "C(0) = 1,073,741,824", and by 02, No. 5, "the table cases of 01 move to entries 0, 1,024 and 2,048 with the same numbers"
     (C 0 gives pos 1_073_741_824)
-    ∷ (C 512 gives pos 759_250_125)
-    ∷ (C 1_024 gives pos 0)
+    ∷ (C 1_024 gives pos 759_250_125)
+    ∷ (C 2_048 gives pos 0)
     -- "With 002's cards at 00:00 on 1 January 1976, in cycles: M2 0.0686206548, K1 0.0271900329, O1 0.0414306219."
     ∷ (argument1976 (pos 2 ∷ pos 0 ∷ pos 0 ∷ pos 0 ∷ pos 0 ∷ pos 0 ∷ []) (pos 0) gives cycles 686_206_548)
     ∷ (argument1976 (pos 1 ∷ pos 1 ∷ pos 0 ∷ pos 0 ∷ pos 0 ∷ pos 0 ∷ []) (negℤ (pos 75)) gives cycles 271_900_329)

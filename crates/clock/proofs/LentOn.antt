@@ -20,6 +20,7 @@ use denote.Steps.{looks, shuts}
 use denote.Struct.Laws as LL
 use borrow.Struct.Share.{Parts}
 use Rattle.limits.specs.Limits.{mostRecords}
+use Rattle.cosine.specs.Fixed.{entries}
 use Rattle.clock.specs.declared.Clock.{Clock}
 use Rattle.clock.proofs.Lent.{argumentsAt, lagsAt, frequenciesAt, psAt, qsAt, lends-part, cosines-part, arguments-part, lags-part, frequencies-part, ps-part, qs-part}
 use Rattle.clock.proofs.Clock as T
@@ -51,7 +52,7 @@ part x d y γ = record { ptr = (x .ptr .0, x .ptr .1 + d); name = γ; now = y }
 
 -- the call's parameters: their types, what they are and their machine values
 abbrev lentTypes : Lft → List RattleType → List RattleType
-lentTypes κ ts = ShrRef (named 0) κ (Array u32 1_025) ∷ ShrRef (named 0) κ (Array u64 mostRecords) ∷ ShrRef (named 0) κ (Array u16 mostRecords) ∷ ShrRef (named 0) κ (Array u64 mostRecords) ∷ ShrRef (named 0) κ (Array i32 mostRecords) ∷ ShrRef (named 0) κ (Array i32 mostRecords)
+lentTypes κ ts = ShrRef (named 0) κ (Array u32 entries) ∷ ShrRef (named 0) κ (Array u64 mostRecords) ∷ ShrRef (named 0) κ (Array u16 mostRecords) ∷ ShrRef (named 0) κ (Array u64 mostRecords) ∷ ShrRef (named 0) κ (Array i32 mostRecords) ∷ ShrRef (named 0) κ (Array i32 mostRecords)
     ∷ bool ∷ bool ∷ bool ∷ u64 ∷ usize ∷ ts
 
 module _ (κ : Lft) (x : RefT Clock) (ts : List RattleType) where
@@ -81,7 +82,7 @@ module _ {M : Type 1} (𝓤 : URA M) (H : Heap 𝓤) (A : Atoms 𝓤) (W : Given
     E = (τ, l₀) ∷ (refTy, l₁) ∷ Es
 
     abbrev eleven : List (Ty × Val × ℕ)
-    eleven = (arrayTy w32 1_025, ptrTo x 0, i₀) ∷ (arrayTy w64 mostRecords, ptrTo x argumentsAt, i₁) ∷ (arrayTy w16 mostRecords, ptrTo x lagsAt, i₂) ∷ (arrayTy w64 mostRecords, ptrTo x frequenciesAt, i₃) ∷ (arrayTy w32 mostRecords, ptrTo x psAt, i₄) ∷ (arrayTy w32 mostRecords, ptrTo x qsAt, i₅)
+    eleven = (arrayTy w32 entries, ptrTo x 0, i₀) ∷ (arrayTy w64 mostRecords, ptrTo x argumentsAt, i₁) ∷ (arrayTy w16 mostRecords, ptrTo x lagsAt, i₂) ∷ (arrayTy w64 mostRecords, ptrTo x frequenciesAt, i₃) ∷ (arrayTy w32 mostRecords, ptrTo x psAt, i₄) ∷ (arrayTy w32 mostRecords, ptrTo x qsAt, i₅)
         ∷ (tyBool, vbool (x .now .tabled), i₆) ∷ (tyBool, vbool (x .now .stationed), i₇) ∷ (tyBool, vbool (x .now .dated), i₈) ∷ (tyInt w64, vint w64 (x .now .last), i₉) ∷ (tyInt w64, vint w64 (x .now .count), i₁₀) ∷ []
 
     abbrev Tokens : Item 𝓤
@@ -120,7 +121,7 @@ module _ {M : Type 1} (𝓤 : URA M) (H : Heap 𝓤) (A : Atoms 𝓤) (W : Given
     lent-on at next =
         fsplit3 ! $ drop ! $ drop ! $ move ! (2 ∷ []) $ use1 W (‵ (flft κ q) ⊛ raw (toks 𝓤 A n κs qs)) (id⊢ 𝓤 _) $ split ! $ move ! (2 ∷ 0 ∷ []) $
         -- [the fractured borrow; the token; the other tokens; what the other parameters own; the eleven locals; _1; Δ]
-        lending (Array u32 1_025) 0 (λ c. c .cosines) (cosines-part 𝓤 H A W) (λ γ₀. lending (Array u64 mostRecords) argumentsAt (λ c. c .arguments) (arguments-part 𝓤 H A W) (λ γ₁. lending (Array u16 mostRecords) lagsAt (λ c. c .lags) (lags-part 𝓤 H A W) (λ γ₂.
+        lending (Array u32 entries) 0 (λ c. c .cosines) (cosines-part 𝓤 H A W) (λ γ₀. lending (Array u64 mostRecords) argumentsAt (λ c. c .arguments) (arguments-part 𝓤 H A W) (λ γ₁. lending (Array u16 mostRecords) lagsAt (λ c. c .lags) (lags-part 𝓤 H A W) (λ γ₂.
         lending (Array u64 mostRecords) frequenciesAt (λ c. c .frequencies) (frequencies-part 𝓤 H A W) (λ γ₃. lending (Array i32 mostRecords) psAt (λ c. c .ps) (ps-part 𝓤 H A W) (λ γ₄. lending (Array i32 mostRecords) qsAt (λ c. c .qs) (qs-part 𝓤 H A W) (λ γ₅.
         -- [the fractured borrow; the token; qs; ps; frequencies; lags; arguments; cosines; the other tokens; what the other parameters own; the eleven locals; _1; Δ]
         assigns ! (addr ! (from ! (hop ! (look ! 21 refl) (fld ! refl (stop !))))) (found (at .0) (stop !)) (init ! 10 refl (tt, tt)) $

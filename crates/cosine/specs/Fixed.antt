@@ -14,15 +14,16 @@ use Rattle.cosine.specs.Fraction.{quarter, whole, base, around, cosine, 
 abbrev pub one : ℕ
 one = 2 ^ 30
 
--- "The table has 1,025 entries, .. at i × 192,480,468,750 ticks." "It is within 1,024 .." A finer table changes these three, and src/constants.rt.
+-- 02, No. 5: "Divide the quarter turn into 2,048 parts of 96,240,234,375 ticks, 2,049 entries under the same nearest rule. The fixed cosine
+-- is then promised within 256". Another table changes these three, and src/constants.rt.
 abbrev pub entries : ℕ
-entries = 1_025
+entries = 2_049
 
 abbrev pub step : ℕ
-step = 192_480_468_750
+step = 96_240_234_375
 
 abbrev pub bound : ℕ
-bound = 1_024
+bound = 256
 
 -- the whole number nearest m / n: floor(m / n + 1/2)
 abbrev pub nearest : ℤ → ℕ → ℤ
@@ -51,7 +52,7 @@ fixedCosine t = around (fixedBase step) t
 abbrev pub fixedSine : ℕ → ℤ
 fixedSine t = fixedCosine (t + 3 * quarter)
 
--- "It is within 1,024 of 2^30 times the fraction": |f - 2^30 × c / whole| ≤ e, both sides times `whole`
+-- "It is within .. of 2^30 times the fraction": |f - 2^30 × c / whole| ≤ e, both sides times `whole`
 abbrev pub Within : ℕ → ℤ → ℤ → Type 0
 Within e f c = natAbs (f *ℤ pos whole -ℤ pos one *ℤ c) ≤ e * whole
 

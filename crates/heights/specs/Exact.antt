@@ -22,12 +22,12 @@ unfoldable pub sizes : List Constituent → ℕ
 sizes [] = 0
 sizes (c ∷ cs) = natAbs (c .p) + natAbs (c .q) + sizes cs
 
--- "Demand 3's third part is the sum of the sizes of all P and Q, over 2^32."
+-- 02, No. 5: "the third part of the allowed distance falls to the sum of the weights' sizes over 2^34."
 abbrev pub scale : ℕ
-scale = 2 ^ 32
+scale = 2 ^ 34
 
--- The height lies within 1/2 + n/4,096 + sizes/2^32 of the exact sum, n the number of constituents. "Fractions .. are compared as whole
--- numbers, both sides multiplied by the denominators": here by 2^32 × whole.
+-- The height lies within 1/2 + n/4,096 + sizes/2^34 of the exact sum, n the number of constituents. "Fractions .. are compared as whole
+-- numbers, both sides multiplied by the denominators": here by 2^34 × whole.
 abbrev pub Near : List Constituent → ℕ → ℤ → Type 0
 Near cs minute height =
     natAbs (pos (scale * whole) *ℤ height -ℤ pos (scale / 4_096) *ℤ exactSum cs minute)

@@ -1,4 +1,4 @@
--- Demand 3's distance: a height lies within 1/2 + n/4,096 + sizes/2^32 of the exact sum, for every list of constituents and every minute.
+-- Demand 3's distance: a height lies within 1/2 + n/4,096 + sizes/2^34 of the exact sum, for every list of constituents and every minute.
 -- Each share is off by its floor, at most 1, and by the cosine's bound times the weights' sizes; the sums add up; the height's floor is off
 -- by at most a half. All over any bound e of the fixed cosine, then at cosine's own. Rests on cosine's claim. Assumes nothing.
 use Prim.Native.Nat.{ℕ, _+_, _*_, _/_, _≤_, _<_}
