@@ -1,4 +1,4 @@
--- What the claim says of hourly cards (specs/Claim.antt). Their bytes are read back (`Back` in hourly); the height of an hour is the one that a single
+-- What the claim says of hourly cards (specs/Claim.antt). Their bytes are read back (`ReadBack` in hourly); the height of an hour is the one that a single
 -- request gives, and its centimetres are the nearest (`Nearest` in hourly). By the cases of what is asked first. Assumes nothing.
 use Prim.{Unit}
 use Prim.Native.Nat.{ℕ, _+_, _*_, _<_, _≤_}
@@ -22,7 +22,7 @@ use Rattle.hourly.specs.Format.{narrow}
 use Rattle.hourly.specs.Writing.{cardsWritten}
 use Rattle.hourly.specs.Reading.{cardsRead}
 use Rattle.hourly.specs.Month.{centimetres, mostStationNumber, heightsAsked, bytesOf, CardsGiven, intoBuffer}
-use Rattle.hourly.proofs.Back.{reads-back}
+use Rattle.hourly.proofs.ReadBack.{reads-back}
 use Rattle.hourly.proofs.Nearest.{near-centimetre}
 use Rattle.calls.specs.State.{Maybe, none, some, Dated, State}
 use Rattle.calls.specs.Calls.{heightReturns}

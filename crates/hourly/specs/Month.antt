@@ -95,7 +95,7 @@ intoBuffer new buffer =
 
 -- ---- "these cards, read by that format and 01's number rule, give the station number, dates and centimetre heights written"
 
--- proved in proofs/Back.antt: of every month in range, every station number that is not refused, and every height at its minutes
+-- proved in proofs/ReadBack.antt: of every month in range, every station number that is not refused, and every height at its minutes
 abbrev pub ReadsBack : Type 0
 ReadsBack =
     (height : ℕ → ℤ) (station year month places : ℕ) (bytes : List ℕ) →
