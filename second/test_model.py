@@ -13,10 +13,12 @@ import decks
 import heights
 import hourly
 import hours
-from cards import Main, Shallow, read_card_file
+from cards import Main, Satellite, Shallow, read_card_file
 from clock import Clock
-from cosine import COSINES, DENOMINATOR, HALF, PARTS, QUARTER, STEP, base_fraction, fixed_cosine, fixed_sine
-from month import argument, day_count, days_in_month, latitude_factors, longitudes_at
+from cosine import COSINES, DENOMINATOR, HALF, PARTS, QUARTER, STEP, TURN
+from cosine import base_fraction, cosine_fraction, fixed_cosine, fixed_sine, sine_fraction
+from month import TICKS_PER_ARC_MINUTE, Constituent, Month
+from month import argument, day_count, days_in_month, latitude_factors, longitudes_at, pair_of_main
 from refusal import Refusal
 from replay import replay
 from stationfile import read_station_file, station_name, time_zone
@@ -91,7 +93,10 @@ def check_cosine():
     check("within 256", cosines_within(256, ticks + middles), True)
     check("a promise of 64", cosines_within(64, middles), False)
     turned = [(fixed_cosine(HALF - at), fixed_cosine(HALF + at), fixed_cosine(-at)) for at in ticks]
-    check("quadrants", turned, [(-C, -C, C) for C in map(fixed_cosine, ticks)])
+    check("quadrants", turned == [(-C, -C, C) for C in map(fixed_cosine, ticks)], True)
+    # The floor: nothing is taken off one tick past an entry, and all but one a tick before the next.
+    beside = [(fixed_cosine(i * STEP + 1), fixed_cosine(i * STEP + STEP - 1)) for i in range(PARTS)]
+    check("beside the entries", beside == [(C, after + 1) for C, after in zip(COSINES, COSINES[1:])], True)
 
 
 def check_arguments():
@@ -129,16 +134,45 @@ def near_exact_sum(clock, minutes, power=34):
 
 def check_third_part():
     """The third part of the distance where it counts: large still constituents, all of them at one angle within two degrees.
-    A part four times smaller is too small."""
+    The sums are the same with P and Q changed a quarter turn on. A part four times smaller is too small."""
     near, nearer = [], []
     clock = still_clock(0)
     for lag in range(200):
         clock.set_station(0, [(place_of(clock, name), 65_535, lag) for name in decks.STILLS])
         clock.set_date(1976, 7)
-        near.append(near_exact_sum(clock, [0]))
-        nearer.append(near_exact_sum(clock, [0], 36))
+        for _ in range(2):
+            near.append(near_exact_sum(clock, [0]))
+            nearer.append(near_exact_sum(clock, [0], 36))
+            turned = [c._replace(angle=c.angle - QUARTER, P=c.Q, Q=c.P) for c in clock.month.constituents]
+            clock.month = clock.month._replace(constituents=turned)
     check("near the exact sum of large amplitudes", all(near), True)
     check("a third part over 2^36", all(nearer), False)
+
+
+def floored_within(value, unit, fraction):
+    """Whether value may be floor(fixed cosine / unit), the cosine being within 256 of 2^30 times the fraction."""
+    return (value * unit - 256) * DENOMINATOR <= 2**30 * fraction <= (value * unit + unit - 1 + 256) * DENOMINATOR
+
+
+def check_taken_up():
+    """ "Latitude, satellites, heights and the search take it up": what they make of it is as near as the promise has it."""
+    latitudes = []
+    for minutes in range(300, 5_401):
+        # The semidiurnal G tells S20.
+        S20 = -(-latitude_factors(minutes)[2] * 100_000 // 259_808)
+        latitudes.append(floored_within(S20, 2**10, sine_fraction(minutes * TICKS_PER_ARC_MINUTE)))
+    check("latitudes take it up", all(latitudes), True)
+    satellites, slopes = [], []
+    main = Main(b"M2   ", [0] * 6, 0, [Satellite([0, 1, 0], 0, 20_000, 0)])
+    for angle in range(0, TURN, 3 * STEP // 2):
+        X, Y = pair_of_main(main, [0, 0, 0, angle, 0], latitude_factors(0))
+        satellites.append(floored_within(X - 2**20, 2**9, cosine_fraction(angle)))
+        satellites.append(floored_within(Y, 2**9, sine_fraction(angle)))
+        for P, Q, fraction in ((2**30, 0, sine_fraction(angle)), (0, 2**30, cosine_fraction(angle))):
+            month = Month(1976, 7, 31, [Constituent(angle, 1_000, P, Q)])
+            slopes.append(floored_within(-heights.slope(month, heights.INSTANT), 1, fraction))
+    check("satellites take it up", all(satellites), True)
+    check("slopes take it up", all(slopes), True)
 
 
 def check_heights():
@@ -685,6 +719,7 @@ def main():
     check_arguments()
     check_heights()
     check_third_part()
+    check_taken_up()
     check_stations()
     check_card_files()
     check_station_files()
