@@ -1,12 +1,13 @@
-"""Document 01, "Arguments" (the tick) and "Cosine". Whole numbers only."""
+"""Document 01, "Arguments" (the tick) and "Cosine", with the table of change request No. 5. Whole numbers only."""
 
 # "A tick is 1/T of a turn, T = 788,400,000,000,000."
 TURN = 788_400_000_000_000
 QUARTER = TURN // 4
 HALF = TURN // 2
 
-# "at i x 192,480,468,750 ticks"
-STEP = 192_480_468_750
+# 02, No. 5: "Divide the quarter turn into 2,048 parts of 96,240,234,375 ticks"
+PARTS = 2_048
+STEP = 96_240_234_375
 
 PI_NUMERATOR = 314_159_265_358_979
 PI_DENOMINATOR = 10**14
@@ -64,8 +65,8 @@ def nearest(numerator, denominator):
 
 
 def make_table():
-    """ "The table has 1,025 entries, each the whole number nearest 2^30 times the base fraction" """
-    return [nearest(2**30 * base_fraction(i * STEP), DENOMINATOR) for i in range(1025)]
+    """02, No. 5: "2,049 entries under the same nearest rule": "each the whole number nearest 2^30 times the base fraction" """
+    return [nearest(2**30 * base_fraction(i * STEP), DENOMINATOR) for i in range(PARTS + 1)]
 
 
 COSINES = make_table()
@@ -75,7 +76,7 @@ def fixed_cosine(angle):
     """The fixed cosine of an angle in ticks, any whole number of them."""
     angle, negative = fold(angle)
     # "For remainder r past entry i the fixed cosine is C(i) when r is 0,
-    # else C(i) - floor((C(i) - C(i+1)) x r / 192,480,468,750)"
+    # else C(i) - floor((C(i) - C(i+1)) x r / ...)", the step of No. 5
     i, r = divmod(angle, STEP)
     value = COSINES[i]
     if r != 0:

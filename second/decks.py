@@ -352,14 +352,26 @@ def late_satellites(rng, solar_perigee):
 # amplitude to every height, or take it off with lag 180.00.
 STILLS = [b"ST%02d " % number for number in range(20)]
 SLOW, SWIFT = b"SLOW ", b"SWIFT"
+# Those that creep turn by a few degrees a year.
+CREEPERS = [b"CR%02d " % number for number in range(6)]
 
 
 def still_file(rng):
     """A file of still constituents, one with a turn in more than two months and one with a turn in some hours."""
-    deck = Deck(rng, rng.random() < 0.5)
     frequencies = {name: 0 for name in STILLS}
     frequencies[SLOW] = rng.randint(1_000_000, 6_500_000)
     frequencies[SWIFT] = rng.randint(370_000_000, 840_000_000)
+    return plain_file(rng, frequencies)
+
+
+def creeping_file(rng):
+    """A file of constituents that all have the same very low frequency."""
+    return plain_file(rng, dict.fromkeys(CREEPERS, rng.randint(2_000, 30_000)))
+
+
+def plain_file(rng, frequencies):
+    """A file of constituents that have a frequency and nothing else."""
+    deck = Deck(rng, rng.random() < 0.5)
     for name in rng.sample(sorted(frequencies), len(frequencies)):
         deck.start()
         deck.skip(4)

@@ -12,6 +12,7 @@ import os
 import random
 import sys
 
+import balance
 import bookings
 import decks
 import hours
@@ -79,7 +80,7 @@ class ScriptWriter:
 
     def latitude(self):
         rng = self.rng
-        near = rng.choice([0, 1, 299, 300, 301, 2_905, 5_399, 5_400, 1_583])
+        near = rng.choice([0, 1, 299, 300, 301, 2_905, 5_399, 5_400, 1_583, rng.choice(balance.EDGES)])
         return rng.choice([near, -near, rng.randint(-5_400, 5_400), rng.randint(-330, 330)])
 
     def amplitude(self):
@@ -262,6 +263,19 @@ class ScriptWriter:
             (0.5, (short, short)), (0.2, (LARGEST_BUFFER, LARGEST_BUFFER)),
         )
 
+    def balanced_turns(self):
+        """A table of creeping constituents, and stations whose slopes balance about a minute of the month."""
+        rng = self.rng
+        self.put_cards(decks.creeping_file(rng))
+        for _ in range(rng.randint(1, 3)):
+            places = rng.sample(range(len(decks.CREEPERS)), rng.choice([2, 2, 4]))
+            records = balance.balanced_records(rng, places, self.frequency_at(0), rng.randint(0, 28 * years.DAY))
+            self.put_station(self.latitude(), records)
+            self.date(1)
+            self.write(b"turns", 0, self.last_minute(), 99, 99)
+            year = rng.randint(1950, 2049)
+            self.write(b"year", year, 0, years.DAY, 2, 0, years.midnights(year)[-1], 99, 99)
+
     # Bookings
 
     def bookings(self):
@@ -348,7 +362,7 @@ class ScriptWriter:
         if self.clock.month is None:
             choices.append((0.7, self.bookings))  # The state is asked before its 31 and 9.
             choices.append((0.3, self.hourly))  # And before its 32 and 34.
-        chance(self.rng, *choices, (0.06, self.late_year), (0.18, self.limited_hourly))()
+        chance(self.rng, *choices, (0.06, self.late_year), (0.18, self.limited_hourly), (0.18, self.balanced_turns))()
 
     def malformed_line(self):
         """A last line that is not of the format; the run ends there."""

@@ -1,5 +1,5 @@
 """Document 01's "Checked against" cases, its limits and the card file readings, change request No. 1 against single months,
-No. 3 against single heights, and No. 4 column by column and read back, as plain asserts.
+No. 3 against single heights, No. 4 column by column and read back, and No. 5's promise, as plain asserts.
 
 Usage: python3 second/test_model.py [folder with the standard cards]
 """
@@ -13,10 +13,12 @@ import decks
 import heights
 import hourly
 import hours
-from cards import Main, Shallow, read_card_file
+from cards import Main, Satellite, Shallow, read_card_file
 from clock import Clock
-from cosine import COSINES, DENOMINATOR, QUARTER, STEP, base_fraction, fixed_cosine, fixed_sine
-from month import argument, day_count, days_in_month, latitude_factors, longitudes_at
+from cosine import COSINES, DENOMINATOR, HALF, PARTS, QUARTER, STEP, TURN
+from cosine import base_fraction, cosine_fraction, fixed_cosine, fixed_sine, sine_fraction
+from month import TICKS_PER_ARC_MINUTE, Constituent, Month
+from month import argument, day_count, days_in_month, latitude_factors, longitudes_at, pair_of_main
 from refusal import Refusal
 from replay import replay
 from stationfile import read_station_file, station_name, time_zone
@@ -67,22 +69,34 @@ def clock_with(latitude, records, year=1976, month=7):
     return clock
 
 
+def cosines_within(bound, ticks):
+    """Whether the fixed cosines are so near 2^30 times their fractions."""
+    return all(abs(fixed_cosine(at) * DENOMINATOR - 2**30 * base_fraction(at)) <= bound * DENOMINATOR for at in ticks)
+
+
 def check_cosine():
+    # 02, No. 5: "The table cases of 01 move to entries 0, 1,024 and 2,048 with the same numbers."
     check("C(0)", COSINES[0], 1_073_741_824)
-    check("C(512)", COSINES[512], 759_250_125)
-    check("C(1024)", COSINES[1024], 0)
-    check("entries", len(COSINES), 1_025)
+    check("C(1024)", COSINES[1024], 759_250_125)
+    check("C(2048)", COSINES[2048], 0)
+    check("entries", len(COSINES), 2_049)
+    check("parts of the quarter turn", PARTS * STEP, QUARTER)
+    nearest = [abs(2**30 * base_fraction(i * STEP) - C * DENOMINATOR) * 2 <= DENOMINATOR for i, C in enumerate(COSINES)]
+    check("nearest", all(nearest), True)
     check("falling", all(a > b for a, b in zip(COSINES, COSINES[1:])), True)
     check("signs", [fixed_cosine(n * QUARTER) for n in range(-4, 5)], [2**30, 0, -(2**30), 0] * 2 + [2**30])
     check("sine", [fixed_sine(n * QUARTER) for n in range(4)], [0, 2**30, 0, -(2**30)])
-    # "It is within 1,024 of 2^30 times the fraction."
+    # "The fixed cosine is then promised within 256". The middles of the parts are the farthest, two each since the step is odd.
     rng = random.Random(1)
-    ticks = [rng.randrange(QUARTER) for _ in range(2_000)] + [i * STEP + STEP // 2 for i in range(1_024)]
-    ticks += [QUARTER - 1, 1, STEP - 1, QUARTER - STEP + 1]
-    near = True
-    for at in ticks:
-        near = near and abs(fixed_cosine(at) * DENOMINATOR - 2**30 * base_fraction(at)) <= 1_024 * DENOMINATOR
-    check("within 1,024", near, True)
+    middles = [i * STEP + half for i in range(PARTS) for half in (STEP // 2, STEP // 2 + 1)]
+    ticks = [rng.randrange(QUARTER) for _ in range(2_000)] + [QUARTER - 1, 1, STEP - 1, QUARTER - STEP + 1]
+    check("within 256", cosines_within(256, ticks + middles), True)
+    check("a promise of 64", cosines_within(64, middles), False)
+    turned = [(fixed_cosine(HALF - at), fixed_cosine(HALF + at), fixed_cosine(-at)) for at in ticks]
+    check("quadrants", turned == [(-C, -C, C) for C in map(fixed_cosine, ticks)], True)
+    # The floor: nothing is taken off one tick past an entry, and all but one a tick before the next.
+    beside = [(fixed_cosine(i * STEP + 1), fixed_cosine(i * STEP + STEP - 1)) for i in range(PARTS)]
+    check("beside the entries", beside == [(C, after + 1) for C, after in zip(COSINES, COSINES[1:])], True)
 
 
 def check_arguments():
@@ -108,6 +122,59 @@ def check_arguments():
     check("year 2050", refused(clock.set_date, 2050, 1), (8, 0))
 
 
+def near_exact_sum(clock, minutes, power=34):
+    """Whether heights stay near the exact sum: half a unit for rounding, 1/4,096 for each share's floor, and the third part, "the
+    sum of the weights' sizes over 2^34", for the fixed cosines. A gap is in 1/4,096 of a unit, times DENOMINATOR."""
+    sizes = sum(abs(c.P) + abs(c.Q) for c in clock.month.constituents)
+    share = 2**power // 4_096
+    reach = 2_048 * share + len(clock.month.constituents) * share + sizes
+    gaps = [clock.height(minute) * 4_096 * DENOMINATOR - heights.exact_sum(clock.month, minute) for minute in minutes]
+    return all(abs(gap) * share <= reach * DENOMINATOR for gap in gaps)
+
+
+def check_third_part():
+    """The third part of the distance where it counts: large still constituents, all of them at one angle within two degrees.
+    The sums are the same with P and Q changed a quarter turn on. A part four times smaller is too small."""
+    near, nearer = [], []
+    clock = still_clock(0)
+    for lag in range(200):
+        clock.set_station(0, [(place_of(clock, name), 65_535, lag) for name in decks.STILLS])
+        clock.set_date(1976, 7)
+        for _ in range(2):
+            near.append(near_exact_sum(clock, [0]))
+            nearer.append(near_exact_sum(clock, [0], 36))
+            turned = [c._replace(angle=c.angle - QUARTER, P=c.Q, Q=c.P) for c in clock.month.constituents]
+            clock.month = clock.month._replace(constituents=turned)
+    check("near the exact sum of large amplitudes", all(near), True)
+    check("a third part over 2^36", all(nearer), False)
+
+
+def floored_within(value, unit, fraction):
+    """Whether value may be floor(fixed cosine / unit), the cosine being within 256 of 2^30 times the fraction."""
+    return (value * unit - 256) * DENOMINATOR <= 2**30 * fraction <= (value * unit + unit - 1 + 256) * DENOMINATOR
+
+
+def check_taken_up():
+    """ "Latitude, satellites, heights and the search take it up": what they make of it is as near as the promise has it."""
+    latitudes = []
+    for minutes in range(300, 5_401):
+        # The semidiurnal G tells S20.
+        S20 = -(-latitude_factors(minutes)[2] * 100_000 // 259_808)
+        latitudes.append(floored_within(S20, 2**10, sine_fraction(minutes * TICKS_PER_ARC_MINUTE)))
+    check("latitudes take it up", all(latitudes), True)
+    satellites, slopes = [], []
+    main = Main(b"M2   ", [0] * 6, 0, [Satellite([0, 1, 0], 0, 20_000, 0)])
+    for angle in range(0, TURN, 3 * STEP // 2):
+        X, Y = pair_of_main(main, [0, 0, 0, angle, 0], latitude_factors(0))
+        satellites.append(floored_within(X - 2**20, 2**9, cosine_fraction(angle)))
+        satellites.append(floored_within(Y, 2**9, sine_fraction(angle)))
+        for P, Q, fraction in ((2**30, 0, sine_fraction(angle)), (0, 2**30, cosine_fraction(angle))):
+            month = Month(1976, 7, 31, [Constituent(angle, 1_000, P, Q)])
+            slopes.append(floored_within(-heights.slope(month, heights.INSTANT), 1, fraction))
+    check("satellites take it up", all(satellites), True)
+    check("slopes take it up", all(slopes), True)
+
+
 def check_heights():
     for A in (0, 1, 777, 65_535):
         for lag, wanted in ((0, A), (18_000, -A), (9_000, 0)):
@@ -115,18 +182,10 @@ def check_heights():
             last = 31 * 1_440
             check("Z0 %d at %d" % (A, lag), {clock.height(m) for m in (0, 1, 21_600, last)}, {wanted})
             check("Z0 turns", clock.turns(0, last, 0, 0), ([], False))
-    # Heights stay near the exact sum: half a unit for rounding, 1/4,096 for each share's floor, and
-    # the sizes of all P and Q over 2^32 for the fixed cosines.
     records = [(b"Z0", 60_670, 0), (b"O1", 12_110, 12_340), (b"K1", 20_700, 14_000), (b"M2", 65_535, 31_000), (b"M4", 900, 5)]
     for latitude in (2_905, -60, -5_400):
         clock = clock_with(latitude, records, 2049, 2)
-        sizes = sum(abs(c.P) + abs(c.Q) for c in clock.month.constituents)
-        reach = 2**19 * 4_096 + len(records) * 2**20 + sizes
-        near = True
-        for minute in range(0, 28 * 1_440 + 1, 97):
-            gap = clock.height(minute) * 4_096 * DENOMINATOR - heights.exact_sum(clock.month, minute)
-            near = near and abs(gap) * 2**20 <= reach * DENOMINATOR
-        check("near the exact sum", near, True)
+        check("near the exact sum", near_exact_sum(clock, range(0, 28 * 1_440 + 1, 97)), True)
     clock = clock_with(0, [])
     check("empty station", clock.series(0, 1_440, 32), [0] * 32)
     check("no place lent", clock.series(0, 1, 0), [])
@@ -659,6 +718,8 @@ def main():
     check_cosine()
     check_arguments()
     check_heights()
+    check_third_part()
+    check_taken_up()
     check_stations()
     check_card_files()
     check_station_files()
