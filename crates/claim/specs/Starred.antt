@@ -64,7 +64,7 @@ infix 5 _against_
 -- The list, for every amplitude A, and heights and advances at every minute.
 unfoldable pub starred : ℕ → ℕ → List Case
 starred A minute =
-    -- "C(0) = 1,073,741,824", and by 02, No. 5, "the table cases of 01 move to entries 0, 1,024 and 2,048 with the same numbers"
+    -- "C(0) = 1,073,741,824", and two more; 02, No. 5: "The table cases of 01 move to entries 0, 1,024 and 2,048 with the same numbers."
     (C 0 gives pos 1_073_741_824)
     ∷ (C 1_024 gives pos 759_250_125)
     ∷ (C 2_048 gives pos 0)
