@@ -1,4 +1,4 @@
--- The steps of 01 pass the tests of `Rule`, each computed here, so the fixed cosine and sine are within the bound at every angle.
+-- The step, count and bound of the table pass the tests of `Rule`, each computed here, so the fixed cosine and sine are within the bound at every angle.
 -- Another step, count and bound need nothing else. Assumes nothing.
 use mathlib.Core.Path.{_≡_, refl, sym, _∙_, ap, subst}
 use mathlib.Core.List.{List}
