@@ -16,7 +16,7 @@ use Rattle.refusals.specs.Outcome.{Outcome, accepted, refused, numberOf, outcom
 use Rattle.refusals.specs.declared.Answer.{Answer}
 use Rattle.refusals.specs.declared.Answer.the-variants as answer
 use Rattle.refusals.specs.declared.Refusal.{Refusal}
-use Rattle.refusals.specs.declared.Refusal.the-variants.{BadLine, Malformed, OutOfRange, BadName, Missing, TooMany, Ended, BadDate, BadMinutes, TooManyTurns, TooLarge, NoTable, NoStation, NoMonth, UnequalBuffers, BadStationNumber, BadHeight, ShortBuffer}
+use Rattle.refusals.specs.declared.Refusal.the-variants.{BadLine, Malformed, OutOfRange, BadName, Missing, TooMany, Ended, BadDate, BadMinutes, TooManyTurns, TooLarge, NoTable, NoStation, NoMonth, UnequalBuffers, BadStationNumber, BadHeight, ShortBuffer, BadStride}
 use Rattle.refusals.proofs.Answer as AnswerType
 use Rattle.refusals.proofs.Answer.Laws as AnswerLaws
 use Rattle.refusals.proofs.Refusal.Laws as RefusalLaws
@@ -82,6 +82,7 @@ refusal-reads UnequalBuffers = refl
 refusal-reads BadStationNumber = refl
 refusal-reads BadHeight = refl
 refusal-reads ShortBuffer = refl
+refusal-reads BadStride = refl
 
 answer-lowered : (r : Answer) → answerIn (AnswerLaws.lowered r) ≡ outcomeOf r
 answer-lowered answer.Accepted = refl

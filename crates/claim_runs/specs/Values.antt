@@ -38,7 +38,7 @@ byTag v first second = cond (eqb (numberIn (partIn 0 v)) 0) first second
 
 -- the tags of the refusals are their places in 01's two tables, and then 02's: "a new number joins 01's table"
 abbrev pub refusalNumbers : List ℕ
-refusalNumbers = 1 ∷ 2 ∷ 3 ∷ 4 ∷ 5 ∷ 6 ∷ 7 ∷ 8 ∷ 9 ∷ 10 ∷ 11 ∷ 21 ∷ 22 ∷ 23 ∷ 31 ∷ 32 ∷ 33 ∷ 34 ∷ []
+refusalNumbers = 1 ∷ 2 ∷ 3 ∷ 4 ∷ 5 ∷ 6 ∷ 7 ∷ 8 ∷ 9 ∷ 10 ∷ 11 ∷ 21 ∷ 22 ∷ 23 ∷ 31 ∷ 32 ∷ 33 ∷ 34 ∷ 35 ∷ []
 
 -- "A refusal returns its number and a place"
 abbrev pub refusedIn : {A : Type 0} → Val → Outcome A

@@ -3,7 +3,7 @@ use Prim.Native.Nat.{ℕ}
 use mathlib.Core.Path.{_≡_, refl}
 use Rattle.refusals.specs.Outcome.{refused, numberOf}
 use Rattle.refusals.specs.declared.Refusal.{Refusal}
-use Rattle.refusals.specs.declared.Refusal.the-variants.{BadLine, Malformed, OutOfRange, BadName, Missing, TooMany, Ended, BadDate, BadMinutes, TooManyTurns, TooLarge, NoTable, NoStation, NoMonth, UnequalBuffers, BadStationNumber, BadHeight, ShortBuffer}
+use Rattle.refusals.specs.declared.Refusal.the-variants.{BadLine, Malformed, OutOfRange, BadName, Missing, TooMany, Ended, BadDate, BadMinutes, TooManyTurns, TooLarge, NoTable, NoStation, NoMonth, UnequalBuffers, BadStationNumber, BadHeight, ShortBuffer, BadStride}
 use Rattle.cuvalimodo_c.specs.Answers.{returnedBy}
 
 pub refusal-read : {A : Type 0} (r : Refusal) (place : ℕ) (a : A) → returnedBy (numberOf r) place a ≡ refused (numberOf r) place
@@ -25,3 +25,4 @@ refusal-read UnequalBuffers place a = refl
 refusal-read BadStationNumber place a = refl
 refusal-read BadHeight place a = refl
 refusal-read ShortBuffer place a = refl
+refusal-read BadStride place a = refl

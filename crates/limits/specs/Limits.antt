@@ -54,6 +54,10 @@ mostAmplitude = 65_535
 abbrev pub mostPhase : ℕ
 mostPhase = 35_999
 
+-- 02, No. 6: "three stride lengths in minutes, .. each 1 to 720"
+abbrev pub mostStride : ℕ
+mostStride = 720
+
 -- 01, Heights and turns: "a step of 1 to 1,440 minutes"
 abbrev pub mostStep : ℕ
 mostStep = 1_440

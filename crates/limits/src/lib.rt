@@ -38,5 +38,8 @@ pub const AMPLITUDE: u32 = 65_535;
 
 pub const PHASE: u32 = 35_999;
 
+// 02, No. 6: "three stride lengths in minutes, .. each 1 to 720".
+pub const STRIDE: u32 = 720;
+
 // A series has "a step of 1 to 1,440 minutes".
 pub const STEP: u64 = 1_440;

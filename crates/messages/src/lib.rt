@@ -243,4 +243,5 @@ pub fn list_refusals() {
     list_one(Refusal::BadStationNumber);
     list_one(Refusal::BadHeight);
     list_one(Refusal::ShortBuffer);
+    list_one(Refusal::BadStride);
 }

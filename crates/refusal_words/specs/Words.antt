@@ -29,6 +29,7 @@ refusalRows =
     (32, "station number over 99999") ∷
     (33, "a height outside -999 to 9998") ∷
     (34, "buffer too short for the month") ∷
+    (35, "a stride outside 1 to 720 minutes") ∷
     []
 
 -- the words of a number; none where no row has it

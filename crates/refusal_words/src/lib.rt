@@ -41,6 +41,7 @@ pub fn text_of(number: u32) -> [u8; 64]
         32 => with_zeros(b"station number over 99999"),
         33 => with_zeros(b"a height outside -999 to 9998"),
         34 => with_zeros(b"buffer too short for the month"),
+        35 => with_zeros(b"a stride outside 1 to 720 minutes"),
         _ => with_zeros(b""),
     }
 }

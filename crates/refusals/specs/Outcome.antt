@@ -4,7 +4,7 @@ use Prim.{Unit}
 use Prim.Native.Nat.{ℕ}
 use mathlib.Core.Bool.{Bool, true, false}
 use Rattle.refusals.specs.declared.Refusal.{Refusal}
-use Rattle.refusals.specs.declared.Refusal.the-variants.{BadLine, Malformed, OutOfRange, BadName, Missing, TooMany, Ended, BadDate, BadMinutes, TooManyTurns, TooLarge, NoTable, NoStation, NoMonth, UnequalBuffers, BadStationNumber, BadHeight, ShortBuffer}
+use Rattle.refusals.specs.declared.Refusal.the-variants.{BadLine, Malformed, OutOfRange, BadName, Missing, TooMany, Ended, BadDate, BadMinutes, TooManyTurns, TooLarge, NoTable, NoStation, NoMonth, UnequalBuffers, BadStationNumber, BadHeight, ShortBuffer, BadStride}
 use Rattle.refusals.specs.declared.Answer.{Answer}
 use Rattle.refusals.specs.declared.Answer.the-variants.{Accepted, Refused}
 
@@ -14,7 +14,7 @@ pub data Outcome (A : Type 0) : Type 0 where
   accepted : A → Outcome A
   refused : ℕ → ℕ → Outcome A
 
--- the number of each row of the two tables; "a new number joins 01's table" (02, No. 3 and 4)
+-- the number of each row of the two tables; "a new number joins 01's table" (02, No. 3, 4 and 6)
 abbrev pub numberOf : Refusal → ℕ
 numberOf BadLine = 1
 numberOf Malformed = 2
@@ -34,6 +34,7 @@ numberOf UnequalBuffers = 31
 numberOf BadStationNumber = 32
 numberOf BadHeight = 33
 numberOf ShortBuffer = 34
+numberOf BadStride = 35
 
 -- what an answer of the code says in 01's numbers
 abbrev pub outcomeOf : Answer → Outcome Unit

@@ -22,6 +22,7 @@ pub enum Refusal {
     BadStationNumber,
     BadHeight,
     ShortBuffer,
+    BadStride,
 }
 
 // What a call says: it is accepted, or refused, with the place that 01 gives the refusal.
@@ -53,5 +54,6 @@ pub fn number_of(r: Refusal) -> u32
         Refusal::BadStationNumber => 32,
         Refusal::BadHeight => 33,
         Refusal::ShortBuffer => 34,
+        Refusal::BadStride => 35,
     }
 }

@@ -9,6 +9,7 @@ use lib.ListN.{getD, set, replicate}
 use lib.IntN.{ℤ}
 use Rattle.limits.specs.Limits.{mostRecords}
 use Rattle.station.specs.declared.records.Rows.{Rows}
+use Rattle.station.specs.declared.strides.Strides.{Strides}
 use Rattle.station.specs.Records.{recordsFrom, recordsOf}
 use Rattle.station.proofs.records.Copies.{stored, stored-at}
 use Rattle.station.specs.declared.Station as code
@@ -46,21 +47,27 @@ module _ (empty : code.Station) (rows : Rows) where
   latitude-upto zero = refl
   latitude-upto (suc n) = latitude-upto n
 
+  strides-upto : (n : ℕ) → stationUpto empty rows n .strides ≡ empty .strides
+  unfolding stationUpto
+  strides-upto zero = refl
+  strides-upto (suc n) = strides-upto n
+
   count-upto : (n : ℕ) → empty .count ≡ 0 → stationUpto empty rows n .count ≡ n
   unfolding stationUpto
   count-upto zero e = e
   count-upto (suc n) e = add-one n
 
 -- a station with the first n records of the rows has those records
-pub kept-is : (latitude : ℤ) (rows : Rows) (n : ℕ) → n ≤ mostRecords
-    → stationOf (stationUpto (noStation latitude) rows n) ≡ record { latitude = latitude; records = recordsOf rows n }
+pub kept-is : (latitude : ℤ) (strides : Strides) (rows : Rows) (n : ℕ) → n ≤ mostRecords
+    → stationOf (stationUpto (noStation latitude strides) rows n) ≡ record { latitude = latitude; strides = strides; records = recordsOf rows n }
 unfolding stationOf
-kept-is latitude rows n h =
-    let empty = noStation latitude in
+kept-is latitude strides rows n h =
+    let empty = noStation latitude strides in
     let at = stored-at (replicate mostRecords 0) in
     let fewest : min n mostRecords ≡ n = omega arith in
     rw (
       latitude-upto empty rows n,
+      strides-upto empty rows n,
       count-upto empty rows n refl,
       fewest,
       places-upto empty rows n,

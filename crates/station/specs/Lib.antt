@@ -1,3 +1,4 @@
+pub mod Strides
 pub mod Station
 pub mod Records
 pub mod inner

@@ -12,10 +12,14 @@ use Rattle.limits.specs.Limits.{mostAmplitude, mostLatitude, mostPhase, mostRec
 use Rattle.refusals.specs.Places.{isAmong}
 use Rattle.refusals.specs.Outcome.{Outcome, accepted, refuseIf, _>>_}
 use Rattle.station.specs.declared.records.Record.{Record}
+use Rattle.station.specs.declared.strides.Strides.{Strides}
+use Rattle.station.specs.Strides.{stridesOutside}
 
 -- "A station is a latitude in signed minutes [..] and at most 146 constituents [..] lent as one row of records: place, amplitude, phase."
+-- 02, No. 6: "The station carries three stride lengths in minutes".
 pub record Station : Type 0 where
   pub latitude : ℤ
+  pub strides : Strides
   pub records : List Record
 
 -- "Amplitude is 0 to 65,535 tenths of a millimetre, phase lag 0 to 35,999 hundredths of a degree."
@@ -41,8 +45,10 @@ recordsOutcome frequencies earlier k (r ∷ rs) = do
   recordsOutcome frequencies (r .place ∷ earlier) (k + 1) rs
 
 -- "A station checks latitude (place 0), count (place 147, the first record too many), then each record". Latitude is -5,400 to 5,400.
-unfoldable pub stationOutcome : ℕ → ℤ → List Record → Outcome Unit
-stationOutcome frequencies latitude rs =
-    refuseIf (ltZ latitude (negℤ (pos mostLatitude))) 3 0
-    (refuseIf (ltZ (pos mostLatitude) latitude) 3 0
-    (refuseIf (ltb mostRecords (length rs)) 6 (mostRecords + 1) (recordsOutcome frequencies [] 1 rs)))
+-- 02, No. 6: "35, a stride outside its range, after the latitude and before the count of records"; its place is 0.
+unfoldable pub stationOutcome : ℕ → Station → Outcome Unit
+stationOutcome frequencies station =
+    refuseIf (ltZ (station .latitude) (negℤ (pos mostLatitude))) 3 0
+    (refuseIf (ltZ (pos mostLatitude) (station .latitude)) 3 0
+    (refuseIf (stridesOutside (station .strides)) 35 0
+    (refuseIf (ltb mostRecords (length (station .records))) 6 (mostRecords + 1) (recordsOutcome frequencies [] 1 (station .records)))))

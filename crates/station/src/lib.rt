@@ -1,4 +1,4 @@
-// A station: a latitude and its constituents' records, accepted whole or refused at the first record that is at fault.
+// A station: a latitude, stride lengths and its constituents' records, accepted whole or refused at the first record that is at fault.
 ghost use mathlib.Core.Path.{_≡_};
 ghost use Prim.Native.Nat.{_+_, _%_, _<_, _≤_};
 ghost use Rattle.limits.specs.Limits.{mostRecords};
@@ -7,11 +7,13 @@ ghost use Rattle.station.specs.Station.{amplitudeOutside, recordOutcome}
 ghost use Rattle.refusals.specs.Places.{isAmong};
 ghost use Rattle.station.specs.inner.Station.{placesBefore, noStation, putRecord};
 ghost use Rattle.station.specs.inner.Posts.{RecordsPost, StationPost};
-ghost use Rattle.station.specs.Records.{recordAt};
+ghost use Rattle.station.specs.Records.{recordAt, recordsOf};
 
 pub mod records; // the lent row of records, taken apart
+pub mod strides; // the stride lengths
 
 use crate::records::Rows;
+use crate::strides::Strides;
 use limits::AMPLITUDE;
 use limits::LATITUDE;
 use limits::PHASE;
@@ -23,6 +25,7 @@ use refusals::Refusal;
 #[repr(C)]
 pub struct Station {
     pub latitude: i32,
+    pub strides: Strides,
     pub count: usize,
     pub places: [u8; RECORDS],
     pub amplitudes: [u16; RECORDS],
@@ -36,11 +39,12 @@ pub struct Taken {
 }
 
 // A station with no records.
-pub fn no_station(latitude: i32) -> Station
-    ensures { λ r. ⌜ r ≡ noStation latitude ⌝ }
+pub fn no_station(latitude: i32, strides: Strides) -> Station
+    ensures { λ r. ⌜ r ≡ noStation latitude strides ⌝ }
 {
     Station {
         latitude,
+        strides,
         count: 0,
         places: [0u8; RECORDS],
         amplitudes: [0u16; RECORDS],
@@ -145,10 +149,16 @@ const SOUTHMOST: i32 = -LATITUDE;
 const FIRST_TOO_MANY: usize = RECORDS + 1;
 
 // A station of n records, of which the first 146 are in the rows: accepted whole, or refused with 01's number and place.
-pub fn take_station(frequencies: usize, latitude: i32, n: usize, rows: Rows) -> Taken
-    ensures { λ r. ⌜ StationPost frequencies latitude n rows r ⌝ }
+pub fn take_station(
+    frequencies: usize,
+    latitude: i32,
+    strides: Strides,
+    n: usize,
+    rows: Rows,
+) -> Taken
+    ensures { λ r. ⌜ StationPost frequencies (record { latitude = latitude; strides = strides; records = recordsOf rows n }) r ⌝ }
 {
-    let station = no_station(latitude);
+    let station = no_station(latitude, strides);
     if latitude < SOUTHMOST {
         return Taken {
             answer: Answer::Refused(Refusal::OutOfRange, 0),
@@ -158,6 +168,12 @@ pub fn take_station(frequencies: usize, latitude: i32, n: usize, rows: Rows) -> 
     if LATITUDE < latitude {
         return Taken {
             answer: Answer::Refused(Refusal::OutOfRange, 0),
+            station,
+        };
+    }
+    if strides::strides_outside(strides) {
+        return Taken {
+            answer: Answer::Refused(Refusal::BadStride, 0),
             station,
         };
     }

@@ -139,6 +139,12 @@ slice-aggregate-with-zeros-19 c = search needs
 with-zeros-requires-19 : tie.Need-with-zeros-requires-19
 with-zeros-requires-19 c κs = search needs
 
+slice-aggregate-with-zeros-20 : tie.Need-slice-aggregate-with-zeros-20
+slice-aggregate-with-zeros-20 c = search needs
+
+with-zeros-requires-20 : tie.Need-with-zeros-requires-20
+with-zeros-requires-20 c κs = search needs
+
 returns : tie.Need-returns
 unfolding refusalRows wordsIn bytesOf zerosBehind
 returns c = rw (c .before .before .match .keys1) (c .with-zeros .ensures)
@@ -212,8 +218,12 @@ unfolding refusalRows wordsIn bytesOf zerosBehind
 returns-18 c = rw (c .before .before .match .keys18) (c .with-zeros18 .ensures)
 
 returns-19 : tie.Need-returns-19
+unfolding refusalRows wordsIn bytesOf zerosBehind
+returns-19 c = rw (c .before .before .match .keys19) (c .with-zeros19 .ensures)
+
+returns-20 : tie.Need-returns-20
 unfolding refusalRows bytesOf zerosBehind
-returns-19 c = rw (no-words (Unit {0}) refusalRows (c .before .before .before .args .number) (c .before .before .match .rest)) (c .with-zeros19 .ensures)
+returns-20 c = rw (no-words (Unit {0}) refusalRows (c .before .before .before .args .number) (c .before .before .match .rest)) (c .with-zeros20 .ensures)
 
 pub text-of-spec : {M : Type 1} → statement M
 text-of-spec =
@@ -257,6 +267,8 @@ text-of-spec =
     with-zeros-requires-18
     slice-aggregate-with-zeros-19
     with-zeros-requires-19
+    slice-aggregate-with-zeros-20
+    with-zeros-requires-20
     returns
     returns-2
     returns-3
@@ -275,4 +287,5 @@ text-of-spec =
     returns-16
     returns-17
     returns-18
-    returns-19)
+    returns-19
+    returns-20)

@@ -1,4 +1,4 @@
--- `station::no_station` meets its contract: the latitude that is lent, and no record. Assumes nothing.
+-- `station::no_station` meets its contract: the latitude and the lengths that are lent, and no record. Assumes nothing.
 use mir.Syntax.{w32}
 use mir.ValLaws.{toZ-ofZ}
 use Rattle.station.proofs.no_station.Statement.{statement}
