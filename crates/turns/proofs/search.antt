@@ -3,3 +3,4 @@ pub mod Onward
 pub mod Stored
 pub mod Kept
 pub mod Examples
+pub mod One

@@ -3,6 +3,7 @@
 use Prim.Native.Nat.{ℕ, zero, suc, _+_, _-_}
 use mathlib.Core.Bool.{Bool, false, cond}
 use mathlib.Core.List.{List, [], _∷_, map}
+use mathlib.Core.Path.{_≡_}
 use lib.Dec.{ltb}
 use lib.IntN.{ℤ}
 use Rattle.turns.specs.Sense.{rising, differ}
@@ -17,6 +18,10 @@ pub record Turn : Type 0 where
 abbrev pub turnIn : (ℕ → ℤ) → ℕ → ℕ → Turn
 turnIn slope minute stride =
     record { minute = smaller slope (earlierEnd slope minute stride); high = rising (slope minute) }
+
+-- 02, No. 6: "A stride of 1 whose ends differ is not cut": its turn is the end with the smaller slope size (proved in proofs/search/One.antt)
+abbrev pub UncutAtOne : Type 0
+UncutAtOne = (slope : ℕ → ℤ) (minute : ℕ) → (turnIn slope minute 1 .minute ≡ smaller slope minute) × (laterEnd slope minute 1 ≡ minute + 1)
 
 -- "stride until the two ends' slopes differ in sense; a stride past the last minute ends the work. .. Search resumes from the later end."
 -- The turns from a minute on, in at most `strides` strides.

@@ -20,13 +20,14 @@ pub mod strides; // a station's stride
 
 use crate::search::Summary;
 use cosine::ENTRIES;
+use limits::MINUTES;
 use limits::RECORDS;
 use month_prepared::months::Months;
 pub use search::Reach;
 
-// How many turns are kept while they are counted. (A year of two high and two low waters a day has 1,411; one with more than these is
-// searched a second time.)
-const KEPT: usize = 8_192;
+// How many turns are kept while they are counted: as many as a month has at a stride of 1, a turn in each minute. (A year of two high and two
+// low waters a day has 1,411; one with more than these is searched a second time.)
+const KEPT: usize = MINUTES;
 
 // What a search returns: what it found, or that there are more turns than a lent buffer holds.
 pub enum Searched {

@@ -1,6 +1,9 @@
 // The stride of a station's own tides, by the amplitudes of K1, O1, M2 and S2.
 ghost use mathlib.Core.Path.{_≡_};
+ghost use mathlib.Core.Bool.{false};
 ghost use Prim.Native.Nat.{_≤_, _<_};
+ghost use Rattle.limits.specs.Limits.{mostStride};
+ghost use Rattle.station.specs.Strides.{stridesOutside};
 ghost use Rattle.columns.specs.Columns.{columns};
 ghost use Rattle.table.specs.inner.View.{tableOf};
 ghost use Rattle.station.specs.inner.Station.{stationOf};
@@ -37,14 +40,15 @@ fn amplitude_of(table: Table, station: Station, name: &[u8]) -> u16
     }
 }
 
-// The stride of the search for turns: 180, 360 or 30 minutes.
+// The stride of the search for turns: the station's own length for its tides.
 pub fn station_stride(table: Table, station: Station) -> u64
+    requires { ⌜ stridesOutside (station .strides) ≡ false ⌝ }
     ensures { λ r. ⌜ r ≡ stationStride (tableOf table) (stationOf station) ⌝ }
-    ensures { λ r. ⌜ (0 < r) × (r ≤ 720) ⌝ }
+    ensures { λ r. ⌜ (0 < r) × (r ≤ mostStride) ⌝ }
 {
     let k1 = amplitude_of(table, station, b"K1   ");
     let o1 = amplitude_of(table, station, b"O1   ");
     let m2 = amplitude_of(table, station, b"M2   ");
     let s2 = amplitude_of(table, station, b"S2   ");
-    stride(k1, o1, m2, s2)
+    stride(station.strides, k1, o1, m2, s2)
 }

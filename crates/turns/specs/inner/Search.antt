@@ -6,6 +6,7 @@ use mathlib.Core.Bool.{cond}
 use mathlib.Core.List.{List, [], _∷_}
 use lib.IntN.{ℤ}
 use lib.ListN.{length, getD, take}
+use Rattle.limits.specs.Limits.{mostStride}
 use Rattle.turns.specs.Search.{Turn, turnsOf, firstHigh, minutesOf}
 use Rattle.turns.specs.Written.{fromFront}
 use Rattle.turns.specs.declared.search.Next.{Next}
@@ -15,7 +16,7 @@ use Rattle.turns.specs.declared.search.Summary.{Summary}
 -- strides of a minute to half a day, from a first minute to a last that is no later than the end of the months
 pub record Reaches (end : ℕ) (reach : Reach) : Type 0 where
   pub some : 0 < reach .stride
-  pub short : reach .stride ≤ 720
+  pub short : reach .stride ≤ mostStride
   pub order : reach .first ≤ reach .last
   pub within : reach .last ≤ end
 

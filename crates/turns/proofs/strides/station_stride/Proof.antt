@@ -38,7 +38,7 @@ stride-requires : tie.Need-stride-requires
 stride-requires c κs = search needs
 
 returns : tie.Need-returns
-unfolding stationStride padded
+unfolding stationStride padded stationOf
 returns c =
     let t = tableOf (c .before .before .before .before .before .before .before .before .before .args .table) in
     let s = stationOf (c .before .before .before .before .before .before .before .before .before .args .station) in
