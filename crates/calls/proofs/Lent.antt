@@ -13,7 +13,9 @@ use borrow.Author.Tests.{ltb-false}
 use Rattle.limits.specs.Limits.{mostRecords}
 use Rattle.refusals.specs.Outcome.{Outcome, refused, refuseIf, onAccepted, _>>=_}
 use Rattle.table.specs.Table.{Table}
-use Rattle.station.specs.Station.{stationOutcome}
+use Rattle.station.specs.Station.{Station, stationLent, stationOutcome}
+use Rattle.station.specs.Strides.{stridesOutside}
+use Rattle.station.specs.declared.strides.Strides.{Strides}
 use Rattle.station.specs.inner.Rows.{rowsOf}
 use Rattle.station.specs.Records.{recordsOf}
 use Rattle.station.specs.declared.records.Record.{Record}
@@ -36,46 +38,51 @@ turned-if false number place o h new old = h new old
 abbrev Crowd : List Record → Type 0
 Crowd records = ltb mostRecords (length records) ≡ true
 
-crowd-turned : (frequencies : ℕ) (latitude : ℤ) (records : List Record) → Crowd records → Turned (stationOutcome frequencies latitude records)
-unfolding stationOutcome
-crowd-turned frequencies latitude records many = rw many (turned-if (ltZ latitude (negsuc 5_399)) 3 0 _ (turned-if (ltZ (pos 5_400) latitude) 3 0 (refused 6 147) (λ new old. refl)))
+module _ (latitude : ℤ) (strides : Strides) where
+  -- a station by its records
+  abbrev with : List Record → Station
+  with = stationLent latitude strides
 
-crowds-agree : (frequencies : ℕ) (latitude : ℤ) (a b : List Record) → Crowd a → Crowd b → stationOutcome frequencies latitude a ≡ stationOutcome frequencies latitude b
-unfolding stationOutcome
-crowds-agree frequencies latitude a b many many′ = rw (many, many′) refl
+  crowd-turned : (frequencies : ℕ) (records : List Record) → Crowd records → Turned (stationOutcome frequencies (with records))
+  unfolding stationOutcome
+  crowd-turned frequencies records many =
+      rw many (turned-if (ltZ latitude (negsuc 5_399)) 3 0 _ (turned-if (ltZ (pos 5_400) latitude) 3 0 _ (turned-if (stridesOutside strides) 35 0 (refused 6 147) (λ new old. refl))))
 
-asked-agree : (t : Maybe Table) (latitude : ℤ) (a b : List Record) → Crowd a → Crowd b
-    → (tableAsked t >>= λ table. stationOutcome (length (table .frequencies)) latitude a) ≡ (tableAsked t >>= λ table. stationOutcome (length (table .frequencies)) latitude b)
-asked-agree none latitude a b many many′ = refl
-asked-agree (some table) latitude a b many many′ = crowds-agree (length (table .frequencies)) latitude a b many many′
+  crowds-agree : (frequencies : ℕ) (a b : List Record) → Crowd a → Crowd b → stationOutcome frequencies (with a) ≡ stationOutcome frequencies (with b)
+  unfolding stationOutcome
+  crowds-agree frequencies a b many many′ = rw (many, many′) refl
 
-asked-turned : (t : Maybe Table) (latitude : ℤ) (records : List Record) → Crowd records → (new : Unit → State) (old : State)
-    → onAccepted (tableAsked t >>= λ table. stationOutcome (length (table .frequencies)) latitude records) new old ≡ old
-asked-turned none latitude records many new old = refl
-asked-turned (some table) latitude records many new old = crowd-turned (length (table .frequencies)) latitude records many new old
+  asked-agree : (t : Maybe Table) (a b : List Record) → Crowd a → Crowd b
+      → (tableAsked t >>= λ table. stationOutcome (length (table .frequencies)) (with a)) ≡ (tableAsked t >>= λ table. stationOutcome (length (table .frequencies)) (with b))
+  asked-agree none a b many many′ = refl
+  asked-agree (some table) a b many many′ = crowds-agree (length (table .frequencies)) a b many many′
 
-returns-agree : (k : State) (latitude : ℤ) (a b : List Record) → Crowd a → Crowd b → stationReturns k latitude a ≡ stationReturns k latitude b
-unfolding stationReturns
-returns-agree k = asked-agree (k .table)
+  asked-turned : (t : Maybe Table) (records : List Record) → Crowd records → (new : Unit → State) (old : State)
+      → onAccepted (tableAsked t >>= λ table. stationOutcome (length (table .frequencies)) (with records)) new old ≡ old
+  asked-turned none records many new old = refl
+  asked-turned (some table) records many new old = crowd-turned (length (table .frequencies)) records many new old
 
-leaves-same : (k : State) (latitude : ℤ) (records : List Record) → Crowd records → stationLeaves k latitude records ≡ k
-unfolding stationReturns stationLeaves
-leaves-same k latitude records many = asked-turned (k .table) latitude records many _ k
+  returns-agree : (k : State) (a b : List Record) → Crowd a → Crowd b → stationReturns k (with a) ≡ stationReturns k (with b)
+  unfolding stationReturns
+  returns-agree k = asked-agree (k .table)
 
--- ---- the records lent
+  leaves-same : (k : State) (records : List Record) → Crowd records → stationLeaves k (with records) ≡ k
+  unfolding stationReturns stationLeaves
+  leaves-same k records many = asked-turned (k .table) records many _ k
 
-module _ (k : State) (latitude : ℤ) (records : List Record) where
-  -- the rows' records give and leave what those lent do
-  abbrev Same : List Record → Type 0
-  Same rs = (stationReturns k latitude rs ≡ stationReturns k latitude records) × (stationLeaves k latitude rs ≡ stationLeaves k latitude records)
+  -- ---- the records lent
 
-  crowd-same : (rs : List Record) → Crowd records → Crowd rs → Same rs
-  crowd-same rs many many′ =
-      (returns-agree k latitude rs records many′ many, leaves-same k latitude rs many′ ∙ sym (leaves-same k latitude records many))
+  module _ (k : State) (records : List Record) where
+    -- the rows' records give and leave what those lent do
+    abbrev Same : List Record → Type 0
+    Same rs = (stationReturns k (with rs) ≡ stationReturns k (with records)) × (stationLeaves k (with rs) ≡ stationLeaves k (with records))
 
-  same-by : (b : Bool) → ltb mostRecords (length records) ≡ b → Same (recordsOf (rowsOf records) (length records))
-  same-by true e = crowd-same _ e (ap (ltb mostRecords) (records-length _ _ _ 0 (length records)) ∙ e)
-  same-by false e = subst Same (sym (lent-is records (ltb-false mostRecords (length records) e))) (refl, refl)
+    crowd-same : (rs : List Record) → Crowd records → Crowd rs → Same rs
+    crowd-same rs many many′ = (returns-agree k rs records many′ many, leaves-same k rs many′ ∙ sym (leaves-same k records many))
 
-  pub lent-same : (rows : Rows) → rows ≡ rowsOf records → Same (recordsOf rows (length records))
-  lent-same rows e = subst (λ (x : Rows). Same (recordsOf x (length records))) (sym e) (same-by (ltb mostRecords (length records)) refl)
+    same-by : (b : Bool) → ltb mostRecords (length records) ≡ b → Same (recordsOf (rowsOf records) (length records))
+    same-by true e = crowd-same _ e (ap (ltb mostRecords) (records-length _ _ _ 0 (length records)) ∙ e)
+    same-by false e = subst Same (sym (lent-is records (ltb-false mostRecords (length records) e))) (refl, refl)
+
+    pub lent-same : (rows : Rows) → rows ≡ rowsOf records → Same (recordsOf rows (length records))
+    lent-same rows e = subst (λ (x : Rows). Same (recordsOf x (length records))) (sym e) (same-by (ltb mostRecords (length records)) refl)

@@ -4,6 +4,7 @@ pub mod Lent
 pub mod Dates
 pub mod Posed
 pub mod YearSheet
+pub mod Usual
 pub mod Booked
 pub mod Carded
 pub mod Singly

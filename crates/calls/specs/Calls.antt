@@ -9,7 +9,6 @@ use lib.IntN.{ℤ}
 use Rattle.refusals.specs.Outcome.{Outcome, accepted, answered, onAccepted, _>>=_}
 use Rattle.table.specs.Table.{Table}
 use Rattle.card_file.specs.Cards.{cardsOutcome}
-use Rattle.station.specs.declared.records.Record.{Record}
 use Rattle.station.specs.Station.{Station, stationOutcome}
 use Rattle.calendar.specs.Calendar.{monthMinutes}
 use Rattle.month.specs.Month.{monthOf}
@@ -35,16 +34,17 @@ cardsLeaves k file =
 
 -- ---- a station: "A station asks 21"
 
-unfoldable pub stationReturns : State → ℤ → List Record → Outcome Unit
-stationReturns k latitude records = do
+unfoldable pub stationReturns : State → Station → Outcome Unit
+stationReturns k station = do
   table ← tableAsked (k .table)
-  stationOutcome (length (table .frequencies)) latitude records
+  stationOutcome (length (table .frequencies)) station
 
--- "an accepted station keeps the table and leaves itself, with no month"
-unfoldable pub stationLeaves : State → ℤ → List Record → State
-stationLeaves k latitude records =
-    onAccepted (stationReturns k latitude records)
-    (λ _. record { table = k .table; station = some (record { latitude = latitude; records = records }); month = none }) k
+-- "an accepted station keeps the table and leaves itself, with no month"; 02, No. 6: "replacing a station replaces them with the rest", its
+-- stride lengths
+unfoldable pub stationLeaves : State → Station → State
+stationLeaves k station =
+    onAccepted (stationReturns k station)
+    (λ _. record { table = k .table; station = some station; month = none }) k
 
 -- ---- a date: "a month [asks] 21 and 22", then 8, then 11
 
@@ -97,10 +97,15 @@ filled new heights = record { returned = answered new; heights = onAccepted new 
 unfoldable pub seriesGives : State → ℕ → ℕ → List ℤ → SeriesGiven
 seriesGives k start step heights = filled (seriesHeights k start step (length heights)) heights
 
--- ---- turns, with the stride of the station's own tides
+-- ---- turns
 
-unfoldable pub turnsGives : State → ℕ → ℕ → List ℕ → List ℤ → TurnsGiven
-turnsGives k first last minutes heights =
+-- by strides that a rule gives a table and a station
+abbrev pub turnsBy : (Table → Station → ℕ) → State → ℕ → ℕ → List ℕ → List ℤ → TurnsGiven
+turnsBy stride k first last minutes heights =
     unlessRefused (ready (λ month. turnsOutside (month .prepared .last) first last) k) minutes heights λ (table, station, month).
     given (heightAt (month .prepared .constituents))
-    (turnsOf (slopeAt (month .prepared .constituents)) (stationStride table station) first last) minutes heights
+    (turnsOf (slopeAt (month .prepared .constituents)) (stride table station) first last) minutes heights
+
+-- 02, No. 6: "The search works from the station's own lengths from now on"
+unfoldable pub turnsGives : State → ℕ → ℕ → List ℕ → List ℤ → TurnsGiven
+turnsGives = turnsBy stationStride

@@ -3,6 +3,7 @@ pub mod Asked
 pub mod Reasons
 pub mod Calls
 pub mod Year
+pub mod Usual
 pub mod Bookings
 pub mod Hourly
 pub mod Names

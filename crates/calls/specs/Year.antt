@@ -75,8 +75,12 @@ sheetOver months stride sheet series minutes heights =
     (seriesOf (heightOver months) (sheet .start) (sheet .step) (length series))
     series
 
--- the sheet of the year's months, with the stride of the station's own tides
-unfoldable pub yearGives : State → Sheet → List ℤ → List ℕ → List ℤ → YearGiven
-yearGives k sheet series minutes heights =
+-- the sheet of the year's months, by strides that a rule gives a table and a station
+abbrev pub sheetBy : (Table → Station → ℕ) → State → Sheet → List ℤ → List ℕ → List ℤ → YearGiven
+sheetBy stride k sheet series minutes heights =
     unlessTurnedDown (sheetAsked k sheet (length series)) series minutes heights λ (table, station, months).
-    sheetOver months (stationStride table station) sheet series minutes heights
+    sheetOver months (stride table station) sheet series minutes heights
+
+-- with the stride of the station's own tides
+unfoldable pub yearGives : State → Sheet → List ℤ → List ℕ → List ℤ → YearGiven
+yearGives = sheetBy stationStride

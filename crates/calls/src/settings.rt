@@ -1,6 +1,8 @@
 // What a station, a date and a month come to, before the clock keeps them: accepted, or 21, 22, 8 and 11 with 01's places.
 ghost use mathlib.Core.Path.{_≡_};
 ghost use Rattle.refusals.specs.Outcome.{outcomeOf, answered};
+ghost use Rattle.station.specs.Records.{recordsOf};
+ghost use Rattle.station.specs.Station.{stationLent};
 ghost use Rattle.month.specs.inner.View.{preparedOf};
 ghost use Rattle.calls.specs.inner.Flags.{dateBy};
 ghost use Rattle.calls.specs.inner.Posts.{TakenPost};
@@ -11,17 +13,25 @@ use refusals::Answer;
 use refusals::Refusal;
 use station::Taken;
 use station::records::Rows;
+use station::strides::Strides;
 use table::Table;
 
 // What a station comes to: 21 where there is no table, else what its records come to.
-pub fn station_answer(tabled: bool, table: Table, latitude: i32, n: usize, rows: Rows) -> Taken
-    ensures { λ r. ⌜ TakenPost tabled table latitude n rows r ⌝ }
+pub fn station_answer(
+    tabled: bool,
+    table: Table,
+    latitude: i32,
+    strides: Strides,
+    n: usize,
+    rows: Rows,
+) -> Taken
+    ensures { λ r. ⌜ TakenPost tabled table (stationLent latitude strides (recordsOf rows n)) r ⌝ }
 {
     match state_answer(tabled, true, true) {
-        Answer::Accepted => station::take_station(table.frequencies, latitude, n, rows),
+        Answer::Accepted => station::take_station(table.frequencies, latitude, strides, n, rows),
         Answer::Refused(refusal, place) => Taken {
             answer: Answer::Refused(refusal, place),
-            station: station::no_station(latitude),
+            station: station::no_station(latitude, strides),
         },
     }
 }

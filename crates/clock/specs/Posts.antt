@@ -7,7 +7,7 @@ use mathlib.Core.List.{List}
 use mathlib.Core.Path.{_≡_}
 use lib.IntN.{ℤ}
 use Rattle.refusals.specs.Outcome.{Outcome}
-use Rattle.station.specs.declared.records.Record.{Record}
+use Rattle.station.specs.Station.{Station}
 use Rattle.calls.specs.State.{emptyState}
 use Rattle.turns.specs.Written.{TurnsFound}
 use Rattle.calls.specs.Calls.{cardsReturns, cardsLeaves, stationReturns, stationLeaves, dateReturns, dateLeaves, heightReturns, seriesGives, turnsGives}
@@ -27,10 +27,10 @@ pub record CardsPost (c : Clock) (file : List ℕ) (returned : Outcome Unit) (le
   pub returns : returned ≡ cardsReturns file
   pub leaves : view left ≡ cardsLeaves (view c) file
 
-pub record StationPost (c : Clock) (latitude : ℤ) (records : List Record) (returned : Outcome Unit) (left : Clock) : Type 0 where
+pub record StationPost (c : Clock) (station : Station) (returned : Outcome Unit) (left : Clock) : Type 0 where
   pub made : Made left
-  pub returns : returned ≡ stationReturns (view c) latitude records
-  pub leaves : view left ≡ stationLeaves (view c) latitude records
+  pub returns : returned ≡ stationReturns (view c) station
+  pub leaves : view left ≡ stationLeaves (view c) station
 
 pub record DatePost (c : Clock) (year month : ℕ) (returned : Outcome Unit) (left : Clock) : Type 0 where
   pub made : Made left

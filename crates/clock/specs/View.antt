@@ -1,12 +1,13 @@
 -- The state that the code's struct stands for, and what a clock call makes sure of for the next.
 -- Assumes nothing.
 use Prim.Native.Nat.{_≤_}
-use mathlib.Core.Bool.{true}
+use mathlib.Core.Bool.{true, false}
 use mathlib.Core.List.{List}
 use mathlib.Core.Path.{_≡_}
 use Rattle.limits.specs.Limits.{mostMinutes, mostRecords}
 use Rattle.cosine.specs.Fixed.{IsTable}
 use Rattle.table.specs.inner.View.{tableOf}
+use Rattle.station.specs.Strides.{stridesOutside}
 use Rattle.station.specs.inner.Station.{stationOf}
 use Rattle.month_prepared.specs.Prepared.{Constituent}
 use Rattle.month_prepared.specs.inner.View.{constituentsFrom}
@@ -33,6 +34,7 @@ pub record Sound (c : Clock) : Type 0 where
   pub count : c .count ≤ mostRecords
   pub last : c .last ≤ mostMinutes
   pub month : InRange (c .count) (c .frequencies)
+  pub strides : stridesOutside (c .station .strides) ≡ false
 
 -- A clock that a clock call made. Of one without a table nothing is asked: memory that is all zeros is such a clock.
 abbrev pub Made : Clock → Type 0

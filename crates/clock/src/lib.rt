@@ -13,6 +13,7 @@ ghost use Rattle.clock.specs.View.{view, Sound, Made};
 ghost use Rattle.clock.specs.Posts.{NewPost, CardsPost, StationPost, DatePost, HeightPost, SeriesPost, TurnsPost, YearPost, BookingsPost, HourlyPost};
 ghost use Rattle.clock.specs.inner.Posts.{BarePost, PreparedPost, PartsMade, HeightFrom, BookingsFrom};
 ghost use Rattle.station.specs.Records.{recordsOf};
+ghost use Rattle.station.specs.Station.{stationLent};
 ghost use Rattle.turns.specs.inner.Answers.{returnedOf};
 ghost use Rattle.hourly.specs.Answers.{cardsReturned};
 ghost use Rattle.clock.specs.Returned.{heightReturned, turnsReturned};
@@ -40,11 +41,13 @@ use station::Station;
 use station::records;
 use station::records::Record;
 use station::records::Rows;
+use station::strides;
+use station::strides::Strides;
 use table::NAMES;
 use table::Table;
 use turns::Reach;
 use turns::Searched;
-use turns::strides;
+use turns::strides::station_stride;
 
 // What the clock keeps. Only the calls below make or change one; all zeros are a clock without a table.
 #[repr(C)]
@@ -100,7 +103,7 @@ fn bare(tabled: bool, table: Table) -> Clock
         tabled,
         table,
         stationed: false,
-        station: station::no_station(0),
+        station: station::no_station(0, strides::usual()),
         dated: false,
         year: 0,
         month: 0,
@@ -182,11 +185,11 @@ pub fn load_cards(clock: Clock, file: &[u8]) -> After
 }
 
 // A station as `set_station` takes it, for a caller whose records lie in plain arrays: n records, of which the first 146 are in the rows.
-pub fn place_station(clock: Clock, latitude: i32, n: usize, rows: Rows) -> After
+pub fn place_station(clock: Clock, latitude: i32, strides: Strides, n: usize, rows: Rows) -> After
     requires { ⌜ Made clock ⌝ }
-    ensures { λ r. ⌜ StationPost clock latitude (recordsOf rows n) (outcomeOf (r .answer)) (r .clock) ⌝ }
+    ensures { λ r. ⌜ StationPost clock (stationLent latitude strides (recordsOf rows n)) (outcomeOf (r .answer)) (r .clock) ⌝ }
 {
-    let taken = settings::station_answer(clock.tabled, clock.table, latitude, n, rows);
+    let taken = settings::station_answer(clock.tabled, clock.table, latitude, strides, n, rows);
     let answer = taken.answer;
     match answer {
         Answer::Accepted => {
@@ -198,15 +201,15 @@ pub fn place_station(clock: Clock, latitude: i32, n: usize, rows: Rows) -> After
     }
 }
 
-// A station: a latitude and the records of its constituents. It keeps the table and drops the month; or it is refused.
+// A station: a latitude, its stride lengths and the records of its constituents. It keeps the table and drops the month; or it is refused.
 // (The thin function over the lent slice of structs: its proof is a walk by hand.)
-pub fn set_station(clock: Clock, latitude: i32, records: &[Record]) -> After
+pub fn set_station(clock: Clock, latitude: i32, strides: Strides, records: &[Record]) -> After
     requires { ⌜ Made clock ⌝ }
-    ensures { λ r. ⌜ StationPost clock latitude (now (records .entry)) (outcomeOf (r .answer)) (r .clock) ⌝ }
+    ensures { λ r. ⌜ StationPost clock (stationLent latitude strides (now (records .entry))) (outcomeOf (r .answer)) (r .clock) ⌝ }
 {
     let n = records.len();
     let rows = records::rows_of(records);
-    place_station(clock, latitude, n, rows)
+    place_station(clock, latitude, strides, n, rows)
 }
 
 // The month of a date that is in range.
@@ -505,7 +508,7 @@ pub fn turns(
     match asked {
         Answer::Accepted => {
             let reach = Reach {
-                stride: strides::station_stride(clock.table, clock.station),
+                stride: station_stride(clock.table, clock.station),
                 first: first as u64,
                 last: last as u64,
             };

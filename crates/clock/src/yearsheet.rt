@@ -1,9 +1,10 @@
 // A year's sheet, from a table and a station that are there and a year that is in range.
 ghost use mathlib.Core.Path.{_≡_};
-ghost use mathlib.Core.Bool.{true};
+ghost use mathlib.Core.Bool.{true, false};
 ghost use lib.ListN.{length};
 ghost use Rattle.calendar.specs.Calendar.{yearInRange};
 ghost use Rattle.cosine.specs.Fixed.{IsTable};
+ghost use Rattle.station.specs.Strides.{stridesOutside};
 ghost use Rattle.month_prepared.specs.inner.Rows.{InRange, lastOf, monthsIn};
 ghost use Rattle.turns.specs.inner.Lists.{Rows};
 ghost use Rattle.clock.specs.Returned.{turnsReturned};
@@ -20,7 +21,7 @@ use station::Station;
 use table::Table;
 use turns::Reach;
 use turns::Searched;
-use turns::strides;
+use turns::strides::station_stride;
 use year::ROWS;
 
 // The turns of the search are counted, 10; then all three buffers are written.
@@ -92,6 +93,7 @@ pub fn sheet(
     heights: &mut [i64],
 ) -> TurnsAnswer
     requires { ⌜ IsTable (now cosines) × (InRange (table .frequencies) (table .speeds) × (yearInRange (sheet .year) ≡ true)) ⌝ }
+    requires { ⌜ stridesOutside (station .strides) ≡ false ⌝ }
     ensures { λ r. ⌜ SheetPost table station sheet (now (series .entry)) (now (series .exit)) (now (minutes .entry)) (now (minutes .exit)) (now (heights .entry)) (now (heights .exit)) (turnsReturned r) ⌝ }
 {
     let months = year::months_of(sheet.year, month_prepared::held(station.count));
@@ -117,7 +119,7 @@ pub fn sheet(
             if annual::sheet_outside(sheet, series.len()) {
                 return TurnsAnswer::Refused(Refusal::BadMinutes, 0);
             }
-            let stride = strides::station_stride(table, station);
+            let stride = station_stride(table, station);
             return written(
                 cosines,
                 &arguments,

@@ -11,6 +11,7 @@ use Rattle.limits.specs.Limits.{mostRecords}
 use Rattle.station.specs.declared.records.Rows.{Rows}
 use Rattle.station.specs.declared.strides.Strides.{Strides}
 use Rattle.station.specs.Records.{recordsFrom, recordsOf}
+use Rattle.station.specs.Station.{stationLent}
 use Rattle.station.proofs.records.Copies.{stored, stored-at}
 use Rattle.station.specs.declared.Station as code
 use Rattle.station.specs.inner.Station.{noStation, stationUpto, stationOf}
@@ -59,7 +60,7 @@ module _ (empty : code.Station) (rows : Rows) where
 
 -- a station with the first n records of the rows has those records
 pub kept-is : (latitude : ℤ) (strides : Strides) (rows : Rows) (n : ℕ) → n ≤ mostRecords
-    → stationOf (stationUpto (noStation latitude strides) rows n) ≡ record { latitude = latitude; strides = strides; records = recordsOf rows n }
+    → stationOf (stationUpto (noStation latitude strides) rows n) ≡ stationLent latitude strides (recordsOf rows n)
 unfolding stationOf
 kept-is latitude strides rows n h =
     let empty = noStation latitude strides in

@@ -22,6 +22,10 @@ pub record Station : Type 0 where
   pub strides : Strides
   pub records : List Record
 
+-- a station by what is lent: the latitude, the strides and the records
+abbrev pub stationLent : ℤ → Strides → List Record → Station
+stationLent latitude strides records = record { latitude = latitude; strides = strides; records = records }
+
 -- "Amplitude is 0 to 65,535 tenths of a millimetre, phase lag 0 to 35,999 hundredths of a degree."
 abbrev pub amplitudeOutside : ℕ → Bool
 amplitudeOutside amplitude = ltb mostAmplitude amplitude

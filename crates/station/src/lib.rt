@@ -3,7 +3,7 @@ ghost use mathlib.Core.Path.{_≡_};
 ghost use Prim.Native.Nat.{_+_, _%_, _<_, _≤_};
 ghost use Rattle.limits.specs.Limits.{mostRecords};
 ghost use Rattle.refusals.specs.Outcome.{outcomeOf};
-ghost use Rattle.station.specs.Station.{amplitudeOutside, recordOutcome};
+ghost use Rattle.station.specs.Station.{amplitudeOutside, recordOutcome, stationLent};
 ghost use Rattle.refusals.specs.Places.{isAmong};
 ghost use Rattle.station.specs.inner.Station.{placesBefore, noStation, putRecord};
 ghost use Rattle.station.specs.inner.Posts.{RecordsPost, StationPost};
@@ -156,7 +156,7 @@ pub fn take_station(
     n: usize,
     rows: Rows,
 ) -> Taken
-    ensures { λ r. ⌜ StationPost frequencies (record { latitude = latitude; strides = strides; records = recordsOf rows n }) r ⌝ }
+    ensures { λ r. ⌜ StationPost frequencies (stationLent latitude strides (recordsOf rows n)) r ⌝ }
 {
     let station = no_station(latitude, strides);
     if latitude < SOUTHMOST {

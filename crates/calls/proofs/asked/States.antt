@@ -10,7 +10,7 @@ use Rattle.refusals.specs.Outcome.{Outcome, accepted, refused, refuseIf, _>>_, 
 use Rattle.refusals.proofs.Laws.{not-both}
 use Rattle.calendar.specs.Calendar.{inRange, yearInRange}
 use Rattle.table.specs.Table.{Table}
-use Rattle.station.specs.declared.records.Record.{Record}
+use Rattle.station.specs.Station.{Station}
 use Rattle.calls.specs.Calls.{stationReturns}
 use Rattle.hourly.specs.Month.{mostStationNumber}
 use Rattle.calls.specs.inner.Flags.{tabledOnly, stateBy, dateBy, minutesBy, yearBy, hourlyBy}
@@ -53,8 +53,8 @@ pub table-there : (t : Bool) → stateBy t true true ≡ accepted tt → t ≡ t
 table-there true e = refl
 table-there false e = not-both e
 
-pub table-missing : (t : Bool) (table : Table) (latitude : ℤ) (records : List Record) (number place : ℕ) → stateBy t true true ≡ refused number place
-    → stationReturns (tabledOnly t table) latitude records ≡ refused number place
+pub table-missing : (t : Bool) (table : Table) (station : Station) (number place : ℕ) → stateBy t true true ≡ refused number place
+    → stationReturns (tabledOnly t table) station ≡ refused number place
 unfolding stationReturns
-table-missing true table latitude records number place e = not-both (sym e)
-table-missing false table latitude records number place e = e
+table-missing true table station number place e = not-both (sym e)
+table-missing false table station number place e = e

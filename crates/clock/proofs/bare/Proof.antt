@@ -8,12 +8,15 @@ use Rattle.clock.proofs.bare.Tie as tie
 cosines-requires : tie.Need-cosines-requires
 cosines-requires c κs = search needs
 
+usual-requires : tie.Need-usual-requires
+usual-requires c κs = search needs
+
 no-station-requires : tie.Need-no-station-requires
 no-station-requires c κs = search needs
 
 returns : tie.Need-returns
 unfolding view
-returns c = record { cosines = c .before .cosines .ensures; flag = refl; same = refl; count = refl; last = refl; there = refl }
+returns c = record { cosines = c .before .before .cosines .ensures; flag = refl; same = refl; count = refl; last = refl; strides = ?; there = refl }
 
 pub bare-spec : {M : Type 1} → statement M
-bare-spec = tie.close (tie.spec cosines-requires no-station-requires returns)
+bare-spec = tie.close (tie.spec cosines-requires usual-requires no-station-requires returns)

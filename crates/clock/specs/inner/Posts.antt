@@ -14,6 +14,7 @@ use Rattle.table.specs.inner.View.{tableOf}
 use Rattle.table.specs.declared.Table as declared
 use Rattle.table.specs.Table.{Table}
 use Rattle.station.specs.Station.{Station}
+use Rattle.station.specs.Strides.{usualStrides}
 use Rattle.station.specs.inner.Station.{stationOf}
 use Rattle.month_prepared.specs.inner.View.{constituentsFrom}
 use Rattle.calendar.specs.Calendar.{monthMinutes}
@@ -39,6 +40,7 @@ pub record BarePost (tabled : Bool) (table : declared.Table) (r : Clock) : Type 
   pub same : r .table ≡ table
   pub count : r .count ≡ 0
   pub last : r .last ≡ 0
+  pub strides : r .station .strides ≡ usualStrides
   pub there : view r ≡ tabledOnly tabled (tableOf table)
 
 -- a month that is prepared for a date in range, whatever the flags of the clock say

@@ -42,7 +42,7 @@ returns-2 c =
     let s = c .before .before .before .before .before in
     let g = c .before .before .refusal .given in
     record {
-      says = sym (table-missing (s .args .tabled) _ _ _ _ _ (sym (c .before .before .before .before .state-answer .ensures) ∙ ap outcomeOf (g .1)));
+      says = sym (table-missing (s .args .tabled) _ _ _ _ (sym (c .before .before .before .before .state-answer .ensures) ∙ ap outcomeOf (g .1)));
       keeps = not-accepted _ (g .0 .0) (g .0 .1 .0) refl;
     }
 
