@@ -12,7 +12,7 @@ use Rattle.columns.specs.Names.{namesFrom}
 use Rattle.station.specs.declared.strides.Strides.{Strides}
 use Rattle.station.specs.declared.records.Rows.{Rows}
 use Rattle.station.specs.Records.{recordsOf}
-use Rattle.station.specs.Station as station
+use Rattle.station.specs.Station as stations
 use Rattle.station.specs.Station.{stationLent}
 use Rattle.hourly.specs.declared.CardsAnswer.{CardsAnswer}
 use Rattle.hourly.specs.Answers.{cardsReturned}
@@ -37,7 +37,7 @@ use Rattle.claim.specs.Calls.{New, Call, Calls}
 -- no table, 21, and leave the lent places as they were (bookings too, which have a place too few: "31, [..] after the state checks"; and hourly cards,
 -- whose station number is over 99999 and whose buffer is too short: 32 to 34 "come after the state checks"; and the station, two of whose strides are
 -- out of range: "A station asks 21" first)
-abbrev pub aStation : station.Station
+abbrev pub aStation : stations.Station
 aStation = stationLent (pos 0) (record { semidiurnal = 0; mixed = 30; diurnal = 721 }) []
 
 abbrev pub aSheet : Sheet
@@ -69,7 +69,7 @@ eachRefused =
 pub record Controls : Type 2 where
   pub new : (c : Clock) → NewPost c → New c
   pub cards : (c c′ : Clock) (file : List ℕ) (answer : Answer) → CardsPost c file (outcomeOf answer) c′ → Call c (Cards file) (told (outcomeOf answer)) c′
-  pub station : (c c′ : Clock) (s : station.Station) (answer : Answer) → StationPost c s (outcomeOf answer) c′
+  pub station : (c c′ : Clock) (s : stations.Station) (answer : Answer) → StationPost c s (outcomeOf answer) c′
       → Call c (Station s) (told (outcomeOf answer)) c′
   pub placing : (c c′ : Clock) (latitude : ℤ) (strides : Strides) (n : ℕ) (rows : Rows) (answer : Answer) → StationPost c (stationLent latitude strides (recordsOf rows n)) (outcomeOf answer) c′
       → Call c (Station (stationLent latitude strides (recordsOf rows n))) (told (outcomeOf answer)) c′
@@ -89,7 +89,7 @@ pub record Controls : Type 2 where
   -- with the clock lent: c is what is behind the reference
   pub held-new : (c c′ : Clock) → NewPost c′ → New c′
   pub held-cards : (c c′ : Clock) (file : List ℕ) (r : Verdict) → CardsPost c file (verdictReturned r) c′ → Plain r → Call c (Cards file) (told (verdictReturned r)) c′
-  pub held-station : (c c′ : Clock) (s : station.Station) (r : Verdict) → StationPost c s (verdictReturned r) c′ → Plain r
+  pub held-station : (c c′ : Clock) (s : stations.Station) (r : Verdict) → StationPost c s (verdictReturned r) c′ → Plain r
       → Call c (Station s) (told (verdictReturned r)) c′
   pub held-date : (c c′ : Clock) (year month : ℕ) (r : Verdict) → DatePost c year month (verdictReturned r) c′ → Plain r → Call c (Date year month) (told (verdictReturned r)) c′
   pub lent-height : (c : Clock) (minute : ℕ) (answer : HeightAnswer) → HeightPost c minute (heightReturned answer) → Call c (Height minute) (predicted (heightReturned answer)) c

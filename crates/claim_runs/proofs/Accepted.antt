@@ -56,6 +56,7 @@ use Rattle.turns.specs.Slope.{fall, fallsAt, slopeAt, slopeOver}
 use Rattle.turns.specs.Sense.{rising, differ}
 use Rattle.turns.specs.Search.{turnsFrom}
 use Rattle.turns.specs.Stride.{tidesOf}
+use Rattle.station.specs.Strides.{strideOutside, stridesOutside}
 use Rattle.turns.specs.Strides.{amplitudeOf, stationStride}
 use Rattle.turns.specs.Written as written
 use Rattle.calls.specs.State.{Maybe, none, some}
@@ -69,7 +70,7 @@ use Rattle.clock.proofs.Clock.Laws as ClockLaws
 use Rattle.claim.specs.Zeroed.{zeroed, zeroOf}
 use Rattle.claim.proofs.Zeros.{zeros-are-zeroed}
 use Rattle.claim.specs.Document.{Last, workedOut, gives, after, givesAll}
-use Rattle.claim_runs.specs.Accepted.{z0, frequencyLine, fiveLine, mainLine, cardLines, ended, smallFile, z0-records, year-sheet, threeMinutes, threePlaces, stationNumber, stars, julyCards, acceptedCalls, AcceptedByTheDocument, AcceptedFrom, AcceptedByTheMachine}
+use Rattle.claim_runs.specs.Accepted.{z0, frequencyLine, fiveLine, mainLine, cardLines, ended, smallFile, z0-records, z0-station, none-station, year-sheet, threeMinutes, threePlaces, stationNumber, stars, julyCards, acceptedCalls, AcceptedByTheDocument, AcceptedFrom, AcceptedByTheMachine}
 use Rattle.claim_runs.specs.Values.{clockAt, zeroMemory}
 use Rattle.claim_runs.specs.Runs.{Started, GiveAll}
 use Rattle.claim_runs.proofs.EachKind.{all-reached, new-run, held-new-run}
@@ -259,15 +260,15 @@ series-given = rw month-worked
 
 turns-given : turnsGives (workedOut afterDate) 0 360 [] [] ≡ record { returned = accepted (record { count = 0; high = false }); minutes = []; heights = [] }
 unfolding turnsGives written.given
-turns-given = rw (month-worked, stride-is, turns-are 357)
+turns-given = rw (month-worked, stride-is, turns-are 356)
 
 year-given : yearGives (workedOut afterDate) year-sheet [] [] [] ≡ record { returned = accepted (record { count = 0; high = false }); series = []; minutes = []; heights = [] }
 unfolding sheetAsked yearGives written.given seriesFrom between yearMinutes monthsDays monthDays isFourth
-year-given = rw (month-worked, year-is, stride-is, year-turns-are 357)
+year-given = rw (month-worked, year-is, stride-is, year-turns-are 356)
 
 one-of-a-year : yearGives (workedOut afterDate) year-sheet (pos 0 ∷ []) [] [] ≡ record { returned = accepted (record { count = 0; high = false }); series = pos 100 ∷ []; minutes = []; heights = [] }
 unfolding sheetAsked yearGives written.given seriesFrom between yearMinutes monthsDays monthDays isFourth
-one-of-a-year = rw (month-worked, year-is, over-is, stride-is, year-turns-are 357)
+one-of-a-year = rw (month-worked, year-is, over-is, stride-is, year-turns-are 356)
 
 bookings-given : bookingsGives (workedOut afterDate) threeMinutes threePlaces ≡ record { returned = accepted tt; heights = pos 100 ∷ pos 100 ∷ pos 100 ∷ [] }
 unfolding bookingsHeights bookingsGives minutesFrom

@@ -80,7 +80,7 @@ use Rattle.claim_runs.specs.Handed.{Assertion, _∗_, ⟦_⟧₀, _⊨_,
 use Rattle.claim_runs.specs.Values.{clockIn, clockAt}
 use Rattle.claim_runs.specs.Runs.{Run, Started, routineOf, Runs, _then_, routinesOf}
 use Rattle.claim_runs.specs.OnMachine.{EveryCallEnds, AlwaysEnds}
-use Rattle.claim_runs.specs.Accepted.{z0-record, z0-records, year-sheet, threeMinutes, threePlaces, stationNumber, stars, cardsAsked, acceptedCalls, acceptedRoutines, frequencyLine, fiveLine, mainLine, ended, smallFile}
+use Rattle.claim_runs.specs.Accepted.{z0-record, z0-records, z0-strides, z0-station, none-station, year-sheet, threeMinutes, threePlaces, stationNumber, stars, cardsAsked, acceptedCalls, acceptedRoutines, frequencyLine, fiveLine, mainLine, ended, smallFile}
 use Rattle.claim_runs.proofs.Handing.{W₀}
 use Rattle.claim_runs.proofs.Parameters.{clock-lawful, clock-means, u32-makes}
 use Rattle.claim_runs.proofs.Laid.{laid, Lays, laid-to-write, laid-to-read}

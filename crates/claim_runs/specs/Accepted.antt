@@ -10,6 +10,9 @@ use mir.Val.{Val}
 use prog.Routine.{Routine}
 use Rattle.refusals.specs.Outcome.{accepted}
 use Rattle.station.specs.declared.records.Record.{Record}
+use Rattle.station.specs.declared.strides.Strides.{Strides}
+use Rattle.station.specs.Station as station
+use Rattle.station.specs.Station.{stationLent}
 use Rattle.hourly.specs.Format.{narrow}
 use Rattle.hourly.specs.Writing.{cardsWritten}
 use Rattle.hourly.specs.Month.{cardsOf}
@@ -98,10 +101,10 @@ z0-records = z0-record ∷ []
 abbrev pub z0-strides : Strides
 z0-strides = record { semidiurnal = 120; mixed = 1; diurnal = 720 }
 
-abbrev pub z0-station : Station
+abbrev pub z0-station : station.Station
 z0-station = stationLent (pos 0) z0-strides z0-records
 
-abbrev pub none-station : Station
+abbrev pub none-station : station.Station
 none-station = stationLent (pos 0) z0-strides []
 
 -- the year 1976, its series and its search from midnight on 1 January
