@@ -1,12 +1,12 @@
 #!/usr/bin/env python3
 """Writes the script that the program replay is run on: tools/replay_example.py > crates/replay/stdin.
 
-The manual's sample, Victoria in July 1976, with calls before, between and behind it that are refused, years, bookings and hourly cards among them; then document 01's cases "Checked against". What the program must answer
-(crates/replay/stdout) is what the second code answers, and
+The manual's sample, Victoria in July 1976, with calls before, between and behind it that are refused, years, bookings and hourly cards among them, and a berth with double high waters;
+then document 01's cases "Checked against", and those of 02, No. 6, a station's own strides. What the program must answer (crates/replay/stdout) is what the second code answers, and
 
     tools/replay_example.py --paper crates/replay/stdout
 
-fails where that is not what document 01 itself gives for its cases.
+fails where that is not what the documents themselves give for their cases.
 """
 
 import json
@@ -47,8 +47,10 @@ def clock_with(latitude, records):
 PLACES = {name.rstrip().decode(): place for place, (name, _) in enumerate(clock_with(0, []).table.frequencies)}
 
 
-def station(latitude, records):
-    return b"station %d %d\n" % (latitude, len(records)) + b"".join(b"%d %d %d\n" % record for record in records)
+def station(latitude, records, *strides):
+    """The call; with three strides its long line."""
+    numbers = b"".join(b" %d" % number for number in (latitude, len(records), *strides))
+    return b"station%s\n" % numbers + b"".join(b"%d %d %d\n" % record for record in records)
 
 
 def sample():
@@ -56,9 +58,11 @@ def sample():
     prediction = json.loads(read("victoria-1976-07.json"))["prediction"]
     records = [(PLACES[c["name"]], c["amplitude_e4"], c["phase_e2"]) for c in prediction["constituents"]]
     latitude = prediction["station"]["latitude_minutes_signed"]
+    double = [(PLACES["M2"], 10_000, 0), (PLACES["M4"], 6_000, 9_000)]
     return [
         b"height 0\n",
         b"cards 9\nno cards\n\n",
+        station(0, [], 0, 0, 0),
         bookings.call([LAST + 1], 0),
         b"hourly 100000 0\n",
         b"year 1949 0 0 0 1 0 0 0\n",
@@ -67,8 +71,19 @@ def sample():
         b"hourly 100000 0\n",
         b"year 1949 0 0 0 1 0 0 0\n",
         station(5_401, records),
+        station(5_401, records, 0, 30, 360),
+        station(latitude, records, 0, 30, 360),
+        station(latitude, records, 180, 4_294_967_295, 360),
+        station(latitude, records, 180, 30, 721),
         station(latitude, [(0, 0, 0)] * 147),
         station(latitude, records + records[:1]),
+        station(latitude, records + records[:1], 180, 0, 360),
+        station(latitude, records, 20, 20, 20),
+        b"date 1976 7\n",
+        b"turns 0 44640 200 200\n",
+        b"year 1976 0 1 0 %d %d 9 9\n" % (FIRST_OF_JULY, FIRST_OF_JULY + 1_440),
+        station(latitude, records, 20, 721, 20),
+        b"height 0\n",
         station(latitude, records),
         b"height 0\n",
         b"hourly 100000 0\n",
@@ -116,14 +131,22 @@ def sample():
         b"date 1976 7\n",
         b"hourly 5 0\n",
         b"hourly 100000 0\n",
+        station(0, double, 20, 20, 20),
+        b"date 1976 7\n",
+        b"turns 0 10080 99 99\n",
+        b"year 1976 0 1 0 %d %d 99 99\n" % (FIRST_OF_JULY, FIRST_OF_JULY + 10_080),
+        station(0, double),
+        b"date 1976 7\n",
+        b"turns 0 10080 99 99\n",
+        b"year 1976 0 1 0 %d %d 99 99\n" % (FIRST_OF_JULY, FIRST_OF_JULY + 10_080),
     ]
 
 
-def stride_cases(records, stride):
+def stride_cases(records, stride, *strides):
     """A search from just before a turn on finds it where one stride fits in, and none where it does not; both with what they must answer."""
     first = clock_with(0, records).turns(0, LAST, LAST, LAST)[0][0][0] - 1
     return [
-        (station(0, records), b"accepted"),
+        (station(0, records, *strides), b"accepted"),
         (b"date 1976 7\n", b"accepted"),
         (b"turns %d %d 1 1\n" % (first, first + stride - 1), b"turns 0 0"),
         (b"turns %d %d 1 1\n" % (first, first + stride), b"turns 1 "),
@@ -131,7 +154,7 @@ def stride_cases(records, stride):
 
 
 def cases():
-    """01's cases: calls, each with how its answer begins; None where the answer must be that of the call four before."""
+    """01's cases, and those of 02, No. 6: calls, each with how its answer begins; None where the answer must be that of the call four before."""
     tides = [(PLACES["K1"], 3_000, 100), (PLACES["O1"], 2_000, 0), (PLACES["M2"], 9_000, 200)]
     for lag, wanted in ((0, 65_535), (18_000, -65_535), (9_000, 0)):
         yield station(0, [(PLACES["Z0"], 65_535, lag)]), b"accepted"
@@ -142,7 +165,14 @@ def cases():
         yield b"turns 0 %d 0 0\n" % LAST, b"turns 0 0"
     for daily, twice, stride in ((100, 400, 180), (101, 400, 30), (301, 100, 360), (300, 100, 30)):
         yield from stride_cases([(PLACES["K1"], daily, 0), (PLACES["M2"], twice, 0)], stride)
+    for daily, twice, stride in ((100, 400, 20), (101, 400, 40), (301, 100, 60), (300, 100, 40)):
+        yield from stride_cases([(PLACES["K1"], daily, 0), (PLACES["M2"], twice, 0)], stride, 20, 40, 60)
     yield from stride_cases([(PLACES["N2"], 1_000, 0)], 180)
+    for strides, wanted in (((), b"turns "), ((180, 30, 360), None)):
+        yield station(0, tides, *strides), b"accepted"
+        yield b"date 1976 7\n", b"accepted"
+        yield b"height 0\n", b"height "
+        yield b"turns 0 %d 200 200\n" % LAST, wanted
     for latitude, wanted in ((4 * 60 + 59, b"heights "), (5 * 60, None)):
         yield station(latitude, tides), b"accepted"
         yield b"date 1976 7\n", b"accepted"
@@ -151,10 +181,13 @@ def cases():
     yield station(0, [(0, 65_535, 0)]), b"accepted"
     yield station(0, [(0, 65_536, 0)]), b"refused 3 1"
     yield station(0, [(0, 0, 0)] * 147), b"refused 6 147"
+    yield station(5_401, [], 0, 721, 0), b"refused 3 0"
+    yield station(0, [], 1, 720, 1), b"accepted"
+    yield station(0, [(0, 0, 0)] * 147, 180, 30, 721), b"refused 35 0"
 
 
 def differ(answers):
-    """The cases whose answers, in their order behind the sample's, are not the paper's."""
+    """The cases whose answers, in their order behind the sample's, are not the papers'."""
     answers = answers[len(sample()) :]
     for k, (call, wanted) in enumerate(cases()):
         given = answers[k]
@@ -167,7 +200,7 @@ def main():
         with open(sys.argv[2], "rb") as file:
             found = list(differ([answer.removesuffix(b"\n") for answer in parted(file.read())]))
         for call, given in found:
-            print(f"{call[:60]!r}: {given[:60]!r} is not what document 01 gives")
+            print(f"{call[:60]!r}: {given[:60]!r} is not what the documents give")
         sys.exit(len(found) > 0)
     sys.stdout.buffer.write(b"".join(sample() + [call for call, _ in cases()] + [b"height -1\n"]))
 

@@ -17,6 +17,7 @@ use hourly::CardsAnswer;
 use hourly::LONGEST;
 use script::YearLine;
 use station::records::Rows;
+use station::strides::Strides;
 use transcript::answers;
 use transcript::input;
 use transcript::reading;
@@ -109,6 +110,7 @@ fn cards_call(clock: Clock, file: &[u8], page: &mut [u8], at: usize) -> Step
 fn station_call(
     clock: Clock,
     latitude: i32,
+    strides: Strides,
     count: usize,
     rows: Rows,
     page: &mut [u8],
@@ -117,7 +119,11 @@ fn station_call(
     requires { ⌜ Made clock ⌝ }
     ensures { λ r. ⌜ Made (r .clock) ⌝ }
 {
-    put_after(clock::place_station(clock, latitude, count, rows), page, at)
+    put_after(
+        clock::place_station(clock, latitude, strides, count, rows),
+        page,
+        at,
+    )
 }
 
 // The line of a date, and the clock that it leaves.
@@ -308,8 +314,8 @@ fn answer_call(
         Asked::Cards(from, end) => {
             return cards_call(clock, &buffer[from..end], page, at);
         }
-        Asked::Station(latitude, count) => {
-            return station_call(clock, latitude, count, heard.rows, page, at);
+        Asked::Station(latitude, count, strides) => {
+            return station_call(clock, latitude, strides, count, heard.rows, page, at);
         }
         Asked::Date(year, month) => {
             return date_call(clock, year, month, page, at);

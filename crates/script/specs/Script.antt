@@ -5,6 +5,7 @@ use mathlib.Core.Bool.{Bool, false, cond}
 use lib.Dec.{eqb}
 use lib.IntN.{ℤ, pos, negℤ}
 use Rattle.columns.specs.Names.{same}
+use Rattle.station.specs.Strides.{usualStrides}
 use Rattle.script.specs.Words.{words, largest, reading, onward, lastNumber, given, lastTwo, givenTwo}
 use Rattle.script.specs.declared.Call.{Call}
 use Rattle.script.specs.declared.Call.the-variants.{Cards, Station, Date, Height, Series, Turns, Year, Bookings, Hourly, Bad}
@@ -30,10 +31,23 @@ behindMinus [] = []
 behindMinus ([] ∷ ws) = [] ∷ ws
 behindMinus ((b ∷ bs) ∷ ws) = bs ∷ ws
 
-unfoldable pub stationAt : ℤ → List (List ℕ) → Call
-stationAt latitude ws = given Bad (lastNumber ws) (λ count. Station latitude count)
+-- "SEMIDIURNAL MIXED DIURNAL", behind a station's count
+unfoldable pub withStrides : ℤ → ℕ → List (List ℕ) → Call
+withStrides latitude count ws =
+    onward Bad (reading largest ws) (λ semidiurnal ws.
+    onward Bad (reading largest ws) (λ mixed ws.
+    given Bad (lastNumber ws) (λ diurnal.
+    Station latitude count (record { semidiurnal = semidiurnal; mixed = mixed; diurnal = diurnal }))))
 
--- "station LATITUDE COUNT": "A minus may stand before a latitude only", "a signed 32-bit number"
+-- "The line with two numbers stays and means 180 30 360"
+abbrev pub behindCount : ℤ → ℕ → List (List ℕ) → Call
+behindCount latitude count [] = Station latitude count usualStrides
+behindCount latitude count (w ∷ ws) = withStrides latitude count (w ∷ ws)
+
+unfoldable pub stationAt : ℤ → List (List ℕ) → Call
+stationAt latitude ws = onward Bad (reading largest ws) (λ count ws. behindCount latitude count ws)
+
+-- "station LATITUDE COUNT" and "station LATITUDE COUNT SEMIDIURNAL MIXED DIURNAL": "A minus may stand before a latitude only", "a signed 32-bit number"
 unfoldable pub stationOf : List (List ℕ) → Call
 stationOf ws =
     cond (hasMinus ws)

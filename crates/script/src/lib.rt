@@ -5,7 +5,7 @@ ghost use Prim.Native.Nat.{_+_, _-_, _≤_, _^_};
 ghost use lib.ListN.{length};
 ghost use lib.IntN.{pos, negℤ};
 ghost use Rattle.columns.specs.Names.{same};
-ghost use Rattle.script.specs.Script.{callOf, callOfWords, recordOf, hasMinus, stationAt, stationOf, cardsOf, dateOf, heightOf, seriesOf, turnsOf, yearOf, bookingsOf, hourlyOf, minuteOf};
+ghost use Rattle.script.specs.Script.{callOf, callOfWords, recordOf, hasMinus, withStrides, stationAt, stationOf, cardsOf, dateOf, heightOf, seriesOf, turnsOf, yearOf, bookingsOf, hourlyOf, minuteOf};
 ghost use Rattle.script.specs.inner.Left.{wordsFrom, withSearch};
 
 mod words; // words and decimal numbers
@@ -17,6 +17,8 @@ use crate::words::field_at;
 use crate::words::last_at;
 use crate::words::two_at;
 use crate::words::word_end;
+use station::strides;
+use station::strides::Strides;
 
 // year YEAR START STEP COUNT FIRST LAST MINUTES HEIGHTS
 pub struct YearLine {
@@ -33,7 +35,7 @@ pub struct YearLine {
 // A line's call: its word and its numbers.
 pub enum Call {
     Cards(u32),
-    Station(i32, u32),
+    Station(i32, u32, Strides),
     Date(u32, u32),
     Height(u32),
     Series(u32, u32, u32),
@@ -215,15 +217,42 @@ fn south(size: u32) -> i32
     (0 - size as i64) as i32
 }
 
-// A station's count, behind its latitude.
+// SEMIDIURNAL MIXED DIURNAL, behind a station's count.
+fn strides_at(line: &[u8], at: usize, latitude: i32, count: u32) -> Call
+    ensures { λ r. ⌜ r ≡ withStrides latitude count (wordsFrom (now (line .entry)) at) ⌝ }
+{
+    let first = field_at(line, at, LARGEST);
+    let Field::Read(semidiurnal, second_at) = first else {
+        return Call::Bad;
+    };
+    let second = field_at(line, second_at, LARGEST);
+    let Field::Read(mixed, last_place) = second else {
+        return Call::Bad;
+    };
+    let last = last_at(line, last_place);
+    let Number::Value(diurnal) = last else {
+        return Call::Bad;
+    };
+    let strides = Strides {
+        semidiurnal,
+        mixed,
+        diurnal,
+    };
+    Call::Station(latitude, count, strides)
+}
+
+// A station's count, behind its latitude, and its strides: the usual ones where the line ends there.
 fn station_at(line: &[u8], at: usize, latitude: i32) -> Call
     ensures { λ r. ⌜ r ≡ stationAt latitude (wordsFrom (now (line .entry)) at) ⌝ }
 {
-    let last = last_at(line, at);
-    let Number::Value(count) = last else {
+    let field = field_at(line, at, LARGEST);
+    let Field::Read(count, next) = field else {
         return Call::Bad;
     };
-    Call::Station(latitude, count)
+    if line.len() < next {
+        return Call::Station(latitude, count, strides::usual());
+    }
+    strides_at(line, next, latitude, count)
 }
 
 // Whether a minus stands at a byte of a line.
@@ -236,7 +265,7 @@ fn minus_at(line: &[u8], at: usize) -> bool
     false
 }
 
-// station LATITUDE COUNT
+// station LATITUDE COUNT, or station LATITUDE COUNT SEMIDIURNAL MIXED DIURNAL
 fn latitude_at(line: &[u8], at: usize) -> Call
     requires { ⌜ at ≤ length (now line) + 1 ⌝ }
     ensures { λ r. ⌜ r ≡ stationOf (wordsFrom (now (line .entry)) at) ⌝ }

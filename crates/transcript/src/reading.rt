@@ -14,15 +14,16 @@ use script::YearLine;
 use station::records::Rows;
 use station::records::no_rows;
 use station::records::put;
+use station::strides::Strides;
 use std::num::wrapping_add_u64;
 
-// What a call asks. A card file stands in the buffer from the first place to the second; a station has a latitude and so many records; a series,
+// What a call asks. A card file stands in the buffer from the first place to the second; a station has a latitude, so many records and its strides; a series,
 // a search and a year's sheet end with how many places they are lent; bookings have so many minutes, which stand in the lent places, and so many places for heights;
 // hourly cards have a station number and so many bytes.
 // Stop: the input is not of the form.
 pub enum Asked {
     Cards(usize, usize),
-    Station(i32, usize),
+    Station(i32, usize, Strides),
     Date(u32, u32),
     Height(u32),
     Series(u32, u32, usize),
@@ -306,8 +307,15 @@ fn hear_cards(buffer: &mut [u8], window: Window, line: u64, bytes: usize) -> Hea
     heard_line(Asked::Stop, file.line, file.window)
 }
 
-// station LATITUDE COUNT, and the records behind its line.
-fn hear_station(buffer: &mut [u8], window: Window, line: u64, latitude: i32, count: u32) -> Heard
+// station LATITUDE COUNT with its strides, and the records behind its line.
+fn hear_station(
+    buffer: &mut [u8],
+    window: Window,
+    line: u64,
+    latitude: i32,
+    count: u32,
+    strides: Strides,
+) -> Heard
     requires { ⌜ Within (length (now buffer)) window ⌝ }
     ensures { λ r. ⌜ HeardPost (length (now (buffer .entry))) 0 0 r ⌝ }
 {
@@ -318,7 +326,7 @@ fn hear_station(buffer: &mut [u8], window: Window, line: u64, latitude: i32, cou
     }
     let rows = records.rows;
     Heard {
-        asked: Asked::Station(latitude, count as usize),
+        asked: Asked::Station(latitude, count as usize, strides),
         line,
         rows,
         window: next,
@@ -397,8 +405,8 @@ fn hear(buffer: &mut [u8], told: CallLine, minutes: &mut [u32], heights: usize) 
         Call::Cards(bytes) => {
             return hear_cards(buffer, told.window, line, bytes as usize);
         }
-        Call::Station(latitude, count) => {
-            return hear_station(buffer, told.window, line, latitude, count);
+        Call::Station(latitude, count, strides) => {
+            return hear_station(buffer, told.window, line, latitude, count, strides);
         }
         Call::Date(year, month) => {
             return heard_line(Asked::Date(year, month), line, told.window);

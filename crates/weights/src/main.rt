@@ -13,6 +13,8 @@ use month_prepared::Month;
 use refusals::Answer;
 use station::Station;
 use station::records::Rows;
+use station::strides;
+use station::strides::Strides;
 use table::Table;
 use transcript::answers;
 use transcript::input;
@@ -47,7 +49,7 @@ fn nothing() -> Kept {
         tabled: false,
         table: table::no_cards(),
         stationed: false,
-        station: station::no_station(0),
+        station: station::no_station(0, strides::usual()),
     }
 }
 
@@ -89,8 +91,8 @@ fn load_cards(kept: Kept, file: &[u8]) -> After {
 }
 
 // A station of n records, of which the first 146 are in the rows; or it is refused.
-fn place_station(kept: Kept, latitude: i32, n: usize, rows: Rows) -> After {
-    let taken = settings::station_answer(kept.tabled, kept.table, latitude, n, rows);
+fn place_station(kept: Kept, latitude: i32, strides: Strides, n: usize, rows: Rows) -> After {
+    let taken = settings::station_answer(kept.tabled, kept.table, latitude, strides, n, rows);
     let answer = taken.answer;
     match answer {
         Answer::Accepted => {
@@ -185,8 +187,12 @@ fn answer_call(heard: Heard, kept: Kept, buffer: &[u8], page: &mut [u8], at: usi
         Asked::Cards(from, end) => {
             return put_after(load_cards(kept, &buffer[from..end]), page, at);
         }
-        Asked::Station(latitude, count) => {
-            return put_after(place_station(kept, latitude, count, heard.rows), page, at);
+        Asked::Station(latitude, count, strides) => {
+            return put_after(
+                place_station(kept, latitude, strides, count, heard.rows),
+                page,
+                at,
+            );
         }
         Asked::Date(year, month) => {
             return left(kept, put_date(page, at, kept, year, month));

@@ -15,7 +15,7 @@ use Rattle.script.proofs.with_search.Tie as tie
 -- every variant but `Turns`, the sixth
 no-search : (year start step count : ℕ) (call : Call) → OneOf (0 ∷ 1 ∷ 2 ∷ 3 ∷ 4 ∷ 6 ∷ 7 ∷ 8 ∷ 9 ∷ []) (tagOf the-type call) → Bad ≡ withSearch call year start step count
 no-search year start step count (Cards bytes) h = refl
-no-search year start step count (Station latitude records) h = refl
+no-search year start step count (Station latitude records strides) h = refl
 no-search year start step count (Date y month) h = refl
 no-search year start step count (Height minute) h = refl
 no-search year start step count (Series s t places) h = refl

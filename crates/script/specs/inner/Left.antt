@@ -28,7 +28,7 @@ readingAt line NoField = unread
 -- a year's call, of its series and of a search read as `turns` has it
 abbrev pub withSearch : Call → ℕ → ℕ → ℕ → ℕ → Call
 withSearch (Cards bytes) year start step count = Bad
-withSearch (Station latitude records) year start step count = Bad
+withSearch (Station latitude records strides) year start step count = Bad
 withSearch (Date y month) year start step count = Bad
 withSearch (Height minute) year start step count = Bad
 withSearch (Series s t places) year start step count = Bad

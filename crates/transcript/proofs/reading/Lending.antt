@@ -14,7 +14,7 @@ heard-said {n} {m} {h} r a w e i f = record { within = subst (Within n) (sym (e 
 
 fits-more : (n m h k p q : ℕ) → n ≤ k → m ≤ p → h ≤ q → (a : Asked) → Fits n m h a → Fits k p q a
 fits-more n m h k p q i j l (Cards from end) f = (f .0, omega arith)
-fits-more n m h k p q i j l (Station latitude count) f = tt
+fits-more n m h k p q i j l (Station latitude count strides) f = tt
 fits-more n m h k p q i j l (Date year month) f = tt
 fits-more n m h k p q i j l (Height minute) f = tt
 fits-more n m h k p q i j l (Series start step count) f = omega arith

@@ -48,7 +48,7 @@ pub record MinutesPost (n lines : ℕ) (w : Window) (r : Minutes) : Type 0 where
 -- what a call asks can be lent: a card file's bytes in a buffer of n, and places in buffers of m minutes and h heights
 abbrev pub Fits : ℕ → ℕ → ℕ → Asked → Type 0
 Fits n m h (Cards from end) = (from ≤ end) × (end ≤ n)
-Fits n m h (Station latitude count) = Unit {0}
+Fits n m h (Station latitude count strides) = Unit {0}
 Fits n m h (Date year month) = Unit {0}
 Fits n m h (Height minute) = Unit {0}
 Fits n m h (Series start step count) = count ≤ h
