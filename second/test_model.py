@@ -200,8 +200,8 @@ def check_heights():
     for (k1_o1, m2_s2), wanted in (
         ((100, 400), 180), ((101, 400), 30), ((301, 100), 360), ((300, 100), 30), ((0, 0), 180)
     ):
-        check("stride %d, %d" % (k1_o1, m2_s2), heights.stride_by_amplitudes(k1_o1, 0, m2_s2, 0), wanted)
-        check("stride split", heights.stride_by_amplitudes(0, k1_o1, 0, m2_s2), wanted)
+        check("stride %d, %d" % (k1_o1, m2_s2), heights.stride_by_amplitudes(heights.USUAL_STRIDES, k1_o1, 0, m2_s2, 0), wanted)
+        check("stride split", heights.stride_by_amplitudes(heights.USUAL_STRIDES, 0, k1_o1, 0, m2_s2), wanted)
         clock = clock_with(0, [(b"K1", k1_o1, 0), (b"M2", m2_s2, 0)])
         check("stride of a station", heights.stride_of(clock.table, clock.station), wanted)
 
