@@ -20,6 +20,12 @@ MALFORMED = [
 OVERTIDES = {b"M4   ": 2, b"M6   ": 3, b"M8   ": 4, b"M10  ": 5}
 
 
+def malformed(rng):
+    """A station line that is not of the form: too few or too many strides on it, or one of those above."""
+    strides = b"".join(b" %d" % pick_stride(rng) for _ in range(rng.choice([1, 2, 2, 4])))
+    return rng.choice([b"station 0 0%s\n" % strides, rng.choice(MALFORMED)])
+
+
 # Strides
 
 
@@ -60,10 +66,11 @@ def pick_short(rng):
 def bad_stride(rng):
     """One outside the range; some are inside if cut to 8, 16 or 31 bits."""
     fits = rng.randint(SHORTEST_STRIDE, LONGEST_STRIDE)
-    return rng.choice([
-        0, 0, 0, 0, 721, 721, 721, 722, 1_440, LARGEST, LARGEST, 65_536, 65_536 + fits, 2**31 + fits, 1_024 + fits % 256,
-        rng.randint(721, LARGEST),
+    other = rng.choice([
+        722, 1_440, LARGEST, LARGEST, 65_536, 65_536 + fits, 65_536 * rng.randint(1, 65_535) + fits, 2**31 + fits,
+        1_024 + fits % 256, rng.randint(721, LARGEST),
     ])
+    return chance(rng, (3, 0), (4, 721), (4, other))
 
 
 def spoil(rng, strides):

@@ -116,10 +116,12 @@ class ScriptWriter:
         """Names and amplitudes of the four that decide the class: diurnal, semidiurnal, mixed, at the edges."""
         rng = self.rng
         unit = rng.choice([1, 10, 50])
-        k1_o1, m2_s2 = rng.choice([
-            (100, 400), (101, 400), (300, 100), (301, 100), (10, 1_000), (1_000, 10), (0, 0), (0, 500), (500, 0),
-            (300, 300), (400, 300), (200, 500), (rng.randint(0, 1_000), rng.randint(0, 1_000)),
+        edge = rng.choice([(100, 400), (100, 400), (101, 400), (300, 100), (300, 100), (301, 100)])
+        other = rng.choice([
+            (10, 1_000), (1_000, 10), (0, 0), (0, 500), (500, 0), (300, 300), (400, 300), (200, 500),
+            (rng.randint(0, 1_000), rng.randint(0, 1_000)),
         ])
+        k1_o1, m2_s2 = chance(rng, (2, edge), (3, other))
         k1 = rng.randint(0, k1_o1)
         m2 = rng.randint(0, m2_s2)
         return [(b"K1", k1 * unit), (b"O1", (k1_o1 - k1) * unit), (b"M2", m2 * unit), (b"S2", (m2_s2 - m2) * unit)]
@@ -167,7 +169,7 @@ class ScriptWriter:
         records = list(records)
         for _ in range(rng.choice([1, 1, 2, 2, 3])):
             at = rng.randint(0, len(records))
-            wrong = rng.choice(["latitude", "strides", "strides", "count", "place", "repeated", "amplitude", "phase"])
+            wrong = rng.choice(["latitude", "strides", "strides", "strides", "count", "place", "repeated", "amplitude", "phase"])
             if wrong == "strides":
                 strides = berths.spoil(rng, strides)
             elif wrong == "latitude":
@@ -327,7 +329,7 @@ class ScriptWriter:
             self.put_station(latitude, records, berths.pick_line(rng))
             self.put_date(*date)
             self.berth_search(first, length)
-            if rng.random() < 0.6:
+            if rng.random() < 0.7:
                 self.put_station(*self.spoil_station(latitude, records, berths.pick_line(rng)))
                 self.berth_search(first, length)
 
@@ -339,7 +341,19 @@ class ScriptWriter:
             self.put_year(self.clock.month.year, (begin, 60, 2), begin + first, begin + first + length)
         else:
             first = min(first, self.last_minute() - length)
-            self.put_turns(first, first + length)
+            self.put_turns(first, self.near_turn(first, first + length))
+
+    def near_turn(self, first, last):
+        """The last minute of a search, at times about the end of the stride that leads to one of its turns."""
+        rng = self.rng
+        found = self.clock.turns(first, last, LARGEST, LARGEST)[0] if self.clock.month else []
+        if not found or rng.random() < 0.5:
+            return last
+        stride = self.stride()
+        at = rng.randrange(len(found))
+        before, turn = found[at - 1][0] if at else first, found[at][0]
+        end = before + stride * -(-(turn - before) // stride) + rng.choice([-1, 0, 0, 1, 1])
+        return min(max(end, first), last)
 
     def fluttering_turns(self):
         """A table of slow constituents, and small strides about a minute where the slope changes its sense more than once or has
@@ -354,7 +368,8 @@ class ScriptWriter:
             self.date(1)
             for _ in range(rng.randint(1, 2)):
                 first = max(0, minute - rng.randint(0, 100))
-                self.put_turns(first, minute + rng.randint(0, 200))
+                last = min(minute + rng.randint(0, 200), self.last_minute())
+                self.put_turns(first, self.near_turn(first, last))
 
     # Bookings
 
@@ -450,11 +465,11 @@ class ScriptWriter:
             choices.append((0.7, self.bookings))  # The state is asked before its 31 and 9.
             choices.append((0.3, self.hourly))  # And before its 32 and 34.
         chance(self.rng, *choices, (0.06, self.late_year), (0.18, self.limited_hourly), (0.18, self.balanced_turns),
-               (0.25, self.berth), (0.15, self.fluttering_turns))()
+               (0.25, self.berth), (0.25, self.fluttering_turns))()
 
     def malformed_line(self):
         """A last line that is not of the format; the run ends there."""
-        self.calls.append(self.rng.choice([
+        any_line = self.rng.choice([
             b"height\n", b"height  1\n", b"height 1 \n", b" height 1\n", b"height -1\n", b"height 4294967296\n",
             b"heights 1\n", b"\n", b"date 1976\n", b"series 1 2\n", b"series 1 2 3 4\n", b"turns 1 2 3\n", b"height 1",
             b"station 0 1\n256 0 0\n", b"station 0 2\n0 0 0\n", b"station 0 1\n0 0\n", b"station 2147483648 0\n",
@@ -463,8 +478,9 @@ class ScriptWriter:
             b"year\n", b"year 1976\n", b"year 1976 0 60 1 0 0 0\n", b"year 1976 0 60 1 0 0 0 0 0\n", b"year 1976 0 60 1 0 0 0 -1\n",
             b"year -1976 0 60 1 0 0 0 0\n", b"year 1976 0 60 1 0 0 0 4294967296\n", b"years 1976 0 60 1 0 0 0 0\n",
             b"year 1976 0 60  1 0 0 0 0\n", b"year 1976 0 60 1 0 0 0 0", *bookings.MALFORMED,
-            *hours.MALFORMED, *berths.MALFORMED,
-        ]))
+            *hours.MALFORMED,
+        ])
+        self.calls.append(chance(self.rng, (3, any_line), (2, berths.malformed(self.rng))))
 
 
 def script(rng, index, standard):
@@ -473,7 +489,7 @@ def script(rng, index, standard):
     writer = ScriptWriter(rng, standard, ratios, standard_share)
     while len(writer.calls) < CALLS:
         writer.any_call()
-    if rng.random() < 0.15:
+    if rng.random() < 0.2:
         writer.malformed_line()
     return writer.data()
 
