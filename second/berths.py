@@ -45,7 +45,7 @@ def pick_strides(rng):
     """Three of those a station takes."""
     three = [pick_stride(rng) for _ in range(3)]
     mixed_up = rng.sample(USUAL_STRIDES, 3)
-    return Strides(*chance(rng, (7, pick_apart(rng)), (6, three), (1, mixed_up), (1, [three[0]] * 3), (2, USUAL_STRIDES)))
+    return Strides(*chance(rng, (10, pick_apart(rng)), (6, three), (1, mixed_up), (1, [three[0]] * 3), (2, USUAL_STRIDES)))
 
 
 def pick_line(rng):

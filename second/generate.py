@@ -116,12 +116,12 @@ class ScriptWriter:
         """Names and amplitudes of the four that decide the class: diurnal, semidiurnal, mixed, at the edges."""
         rng = self.rng
         unit = rng.choice([1, 10, 50])
-        edge = rng.choice([(100, 400), (100, 400), (101, 400), (300, 100), (300, 100), (301, 100)])
+        edge = rng.choice([(100, 400), (101, 400), (300, 100), (301, 100)])
         other = rng.choice([
             (10, 1_000), (1_000, 10), (0, 0), (0, 500), (500, 0), (300, 300), (400, 300), (200, 500),
             (rng.randint(0, 1_000), rng.randint(0, 1_000)),
         ])
-        k1_o1, m2_s2 = chance(rng, (2, edge), (3, other))
+        k1_o1, m2_s2 = rng.choice([edge, other])
         k1 = rng.randint(0, k1_o1)
         m2 = rng.randint(0, m2_s2)
         return [(b"K1", k1 * unit), (b"O1", (k1_o1 - k1) * unit), (b"M2", m2 * unit), (b"S2", (m2_s2 - m2) * unit)]
