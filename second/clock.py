@@ -1,5 +1,5 @@
-"""The berth clock: the six calls of document 01, the year of change request No. 1, the bookings of No. 3 and the hourly
-cards of No. 4, what they leave, and the order of their refusals."""
+"""The berth clock: the six calls of document 01, the year of change request No. 1, the bookings of No. 3, the hourly cards of
+No. 4 and the station's strides of No. 6, what they leave, and the order of their refusals."""
 
 from collections import namedtuple
 
@@ -12,8 +12,15 @@ from refusal import Refusal
 
 MAX_RECORDS = 146
 
-# latitude in signed minutes; records: list of (place, amplitude, phase lag)
-Station = namedtuple("Station", "latitude records")
+# latitude in signed minutes; strides: heights.Strides; records: list of (place, amplitude, phase lag)
+Station = namedtuple("Station", "latitude strides records")
+
+
+def check_strides(strides):
+    """02, No. 6: "Refused: 35, a stride outside its range" """
+    for stride in strides:
+        if not heights.SHORTEST_STRIDE <= stride <= heights.LONGEST_STRIDE:
+            raise Refusal(35)
 
 
 def check_minutes(last, *minutes):
@@ -85,13 +92,16 @@ class Clock:
         self.station = None
         self.month = None
 
-    def set_station(self, latitude, records):
-        """ "an accepted station keeps the table and leaves itself, with no month" """
+    def set_station(self, latitude, records, strides=heights.USUAL_STRIDES):
+        """ "an accepted station keeps the table and leaves itself, with no month"; 02, No. 6: "replacing a station replaces them
+        with the rest" """
         self.need_table()
         # "A station checks latitude (place 0), count (place 147, the first record too many),
         # then each record's place (5, 4), amplitude, phase."
         if not -5_400 <= latitude <= 5_400:
             raise Refusal(3, 0)
+        # 02, No. 6: "after the latitude and before the count of records"
+        check_strides(strides)
         if len(records) > MAX_RECORDS:
             raise Refusal(6, MAX_RECORDS + 1)
         seen = set()
@@ -105,7 +115,7 @@ class Clock:
                 raise Refusal(3, number)
             if not 0 <= lag <= 35_999:
                 raise Refusal(3, number)
-        self.station = Station(latitude, list(records))
+        self.station = Station(latitude, heights.Strides(*strides), list(records))
         self.month = None
 
     def set_date(self, year, month):

@@ -6,6 +6,8 @@ be damaged afterwards. Nothing here looks at the reader in cards.py.
 
 from collections import namedtuple
 
+from berths import OVERTIDES
+
 PRINTABLE = bytes(range(33, 127))
 NAME_BYTES = b"ABCDEFGHIJKLMNOPQRSTUVWXYZ0123456789"
 
@@ -367,6 +369,21 @@ def still_file(rng):
 def creeping_file(rng):
     """A file of constituents that all have the same very low frequency."""
     return plain_file(rng, dict.fromkeys(CREEPERS, rng.randint(2_000, 30_000)))
+
+
+def fluttering_file(rng):
+    """As the creeping file; they turn by a few degrees a day."""
+    return plain_file(rng, dict.fromkeys(CREEPERS, rng.randint(500_000, 6_000_000)))
+
+
+def double_file(rng):
+    """A file of the four constituents that decide the class, and of overtides, which make high waters double."""
+    m2 = pick_frequency(rng, b"M2   ")
+    frequencies = {name: pick_frequency(rng, name) for name in (b"K1   ", b"O1   ", b"S2   ")}
+    frequencies[b"M2   "] = m2
+    for name, times in OVERTIDES.items():
+        frequencies[name] = times * m2
+    return plain_file(rng, frequencies)
 
 
 def plain_file(rng, frequencies):

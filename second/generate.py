@@ -13,8 +13,10 @@ import random
 import sys
 
 import balance
+import berths
 import bookings
 import decks
+import heights
 import hours
 import years
 from clock import Clock
@@ -24,6 +26,10 @@ from years import LARGEST, LARGEST_BUFFER, chance
 
 STANDARD_PATH = os.path.join(os.path.dirname(os.path.abspath(__file__)), "..", "data", "standard-cards.txt")
 CALLS = 100
+
+
+def line(word, *numbers):
+    return word + b"".join(b" %d" % number for number in numbers) + b"\n"
 
 
 def cards_call(data):
@@ -52,7 +58,7 @@ class ScriptWriter:
             pass
 
     def write(self, word, *numbers):
-        self.calls.append(word + b"".join(b" %d" % number for number in numbers) + b"\n")
+        self.calls.append(line(word, *numbers))
 
     # Cards
 
@@ -106,17 +112,24 @@ class ScriptWriter:
                 records.append((place, amplitude, self.lag()))
         return records
 
-    def class_records(self):
-        """Stations of a known kind: diurnal, semidiurnal, mixed, at the edges, double high water, still."""
+    def class_tide(self):
+        """Names and amplitudes of the four that decide the class: diurnal, semidiurnal, mixed, at the edges."""
         rng = self.rng
         unit = rng.choice([1, 10, 50])
-        k1_o1, m2_s2 = rng.choice([
-            (100, 400), (101, 400), (300, 100), (301, 100), (10, 1_000), (1_000, 10), (0, 0), (0, 500), (500, 0),
-            (300, 300), (400, 300), (200, 500), (rng.randint(0, 1_000), rng.randint(0, 1_000)),
+        edge = rng.choice([(100, 400), (101, 400), (300, 100), (301, 100)])
+        other = rng.choice([
+            (10, 1_000), (1_000, 10), (0, 0), (0, 500), (500, 0), (300, 300), (400, 300), (200, 500),
+            (rng.randint(0, 1_000), rng.randint(0, 1_000)),
         ])
+        k1_o1, m2_s2 = rng.choice([edge, other])
         k1 = rng.randint(0, k1_o1)
         m2 = rng.randint(0, m2_s2)
-        tide = [(b"K1", k1 * unit), (b"O1", (k1_o1 - k1) * unit), (b"M2", m2 * unit), (b"S2", (m2_s2 - m2) * unit)]
+        return [(b"K1", k1 * unit), (b"O1", (k1_o1 - k1) * unit), (b"M2", m2 * unit), (b"S2", (m2_s2 - m2) * unit)]
+
+    def class_records(self):
+        """Stations of a known kind: of a class, double high water, still."""
+        rng = self.rng
+        tide = self.class_tide()
         double = [(b"M2", 9_000), (b"M4", rng.randint(4_000, 9_000)), (b"M6", rng.randint(0, 6_000)), (b"MS4", 2_000)]
         still = [(b"Z0", self.amplitude())]
         amplitudes = chance(rng, (8, tide), (3, tide + still), (3, double), (1, still + double), (2, still))
@@ -128,6 +141,13 @@ class ScriptWriter:
             records += [(place, amplitude % 3_000, lag) for place, amplitude, lag in others if place not in taken]
         rng.shuffle(records)
         return records
+
+    def double_records(self):
+        """Stations of any class with large overtides."""
+        tide = self.class_tide()
+        largest = max(amplitude for _, amplitude in tide)
+        records = self.named_records(tide + berths.pick_overtides(self.rng, largest))
+        return self.rng.sample(records, len(records))
 
     def random_records(self, most):
         rng = self.rng
@@ -142,15 +162,17 @@ class ScriptWriter:
         count = min(len(places), self.rng.randint(1, 6))
         return [(place, self.amplitude(), self.lag()) for place in self.rng.sample(places, count)]
 
-    def spoil_records(self, records):
-        """One thing wrong with a station; two sometimes, for the order of refusals."""
+    def spoil_station(self, latitude, records, strides):
+        """One thing wrong with a station; two or three sometimes, for the order of refusals."""
         rng = self.rng
         size = len(self.clock.table.frequencies) if self.clock.table else 0
-        latitude = self.latitude()
-        for _ in range(rng.choice([1, 1, 2])):
+        records = list(records)
+        for _ in range(rng.choice([1, 1, 2, 2, 3])):
             at = rng.randint(0, len(records))
-            wrong = rng.choice(["latitude", "count", "place", "repeated", "amplitude", "phase"])
-            if wrong == "latitude":
+            wrong = rng.choice(["latitude", "strides", "strides", "strides", "count", "place", "repeated", "amplitude", "phase"])
+            if wrong == "strides":
+                strides = berths.spoil(rng, strides)
+            elif wrong == "latitude":
                 latitude = rng.choice([-5_401, 5_401, 2**31 - 1, -(2**31), rng.randint(5_401, 99_999)])
             elif wrong == "count":
                 count = rng.choice([147, 147, 148, 300, 1_024])
@@ -165,31 +187,35 @@ class ScriptWriter:
             elif wrong == "phase" and records:
                 place, amplitude, _ = records.pop(rng.randrange(len(records)))
                 records.append((place, amplitude, rng.choice([36_000, LARGEST, 50_000])))
-        return latitude, records
+        return latitude, records, strides
 
-    def station(self, good=0.8):
+    def records(self):
+        """Those of a station, of one kind or another; none where there is no table."""
         rng = self.rng
-        latitude = self.latitude()
-        records = []
-        if self.clock.table:
-            kind = chance(rng, (12, "class"), (8, "random"), (4, "shallow"), (1, "empty"), (0.3, "full"))
-            if kind == "class":
-                records = self.class_records()
-            elif kind == "random":
-                records = self.random_records(20)
-            elif kind == "shallow":
-                records = self.shallow_records()
-            elif kind == "full":
-                size = len(self.clock.table.frequencies)
-                records = [(place, self.amplitude(), self.lag()) for place in range(min(size, 146))]
-        if rng.random() > good:
-            latitude, records = self.spoil_records(records)
-        self.put_station(latitude, records)
+        if not self.clock.table:
+            return []
+        kind = chance(rng, (8, "class"), (5, "double"), (8, "random"), (4, "shallow"), (1, "empty"), (0.3, "full"))
+        if kind == "class":
+            return self.class_records()
+        if kind == "double":
+            return self.double_records()
+        if kind == "random":
+            return self.random_records(20)
+        if kind == "shallow":
+            return self.shallow_records()
+        size = len(self.clock.table.frequencies) if kind == "full" else 0
+        return [(place, self.amplitude(), self.lag()) for place in range(min(size, 146))]
 
-    def put_station(self, latitude, records):
+    def station(self, good=0.75):
+        rng = self.rng
+        station = self.latitude(), self.records(), berths.pick_line(rng)
+        self.put_station(*station if rng.random() < good else self.spoil_station(*station))
+
+    def put_station(self, latitude, records, strides=None):
+        """With strides on its line, or on the line without them."""
         lines = b"".join(b"%d %d %d\n" % record for record in records)
-        self.calls.append(b"station %d %d\n" % (latitude, len(records)) + lines)
-        self.follow(self.clock.set_station, latitude, records)
+        self.calls.append(line(b"station", latitude, len(records), *(strides or ())) + lines)
+        self.follow(self.clock.set_station, latitude, records, strides or heights.USUAL_STRIDES)
 
     # Dates
 
@@ -235,23 +261,38 @@ class ScriptWriter:
         )
         self.write(b"series", start, step, count)
 
+    def stride(self):
+        """The station's, of its class."""
+        return heights.stride_of(self.clock.table, self.clock.station) if self.clock.station else 180
+
+    def few_strides(self):
+        """So many strides as take little time, as a rule; seldom a month of single minutes and few constituents."""
+        records = len(self.clock.station.records) if self.clock.station else 0
+        return chance(self.rng, (24, 16_000), (6, 50_000), (1, 140_000)) // max(1, records)
+
     def turns(self):
         rng = self.rng
         last = self.last_minute()
+        stride = self.stride()
         if rng.random() < 0.12:
             first, end = 0, last
         else:
             first = self.minute(0.97)
             end = chance(
-                rng, (12, first + rng.randint(0, 7_200)), (1, first), (1, first + 180), (1, first + 30), (1, first + 360),
-                (1, last), (0.5, rng.randint(0, last)), (0.5, last + 1),
+                rng, (12, first + rng.randint(0, 7_200)), (1, first), (2, first + stride), (1, first + stride - 1),
+                (1, first + stride * rng.randint(2, 9)), (1, last), (0.5, rng.randint(0, last)), (0.5, last + 1),
             )
             end = min(end, LARGEST) if first > last else min(end, last + 1 if rng.random() < 0.05 else last)
+        if first <= end <= last:
+            end = min(end, first + self.few_strides() * stride)
+        self.put_turns(first, end)
+
+    def put_turns(self, first, last):
         try:
-            count = len(self.clock.turns(first, end, LARGEST, LARGEST)[0])
+            count = len(self.clock.turns(first, last, LARGEST, LARGEST)[0])
         except Refusal:
-            count = rng.randint(0, 5)
-        self.write(b"turns", first, end, *self.places(count))
+            count = self.rng.randint(0, 5)
+        self.write(b"turns", first, last, *self.places(count))
 
     def places(self, count):
         """Two buffers for so many turns: as many places, one fewer, or plenty."""
@@ -270,11 +311,65 @@ class ScriptWriter:
         for _ in range(rng.randint(1, 3)):
             places = rng.sample(range(len(decks.CREEPERS)), rng.choice([2, 2, 4]))
             records = balance.balanced_records(rng, places, self.frequency_at(0), rng.randint(0, 28 * years.DAY))
-            self.put_station(self.latitude(), records)
+            self.put_station(self.latitude(), records, berths.pick_long(rng))
             self.date(1)
             self.write(b"turns", 0, self.last_minute(), 99, 99)
             year = rng.randint(1950, 2049)
             self.write(b"year", year, 0, years.DAY, 2, 0, years.midnights(year)[-1], 99, 99)
+
+    # Strides
+
+    def berth(self):
+        """A berth with double high waters under several strides, refused stations between them, and the same search each time."""
+        rng = self.rng
+        self.put_cards(self.standard if rng.random() < 0.2 else decks.double_file(rng))
+        latitude, records, date = self.latitude(), self.double_records(), hours.pick_date(rng)
+        first, length = rng.randint(0, 30 * years.DAY), rng.randint(200, 3_000)
+        for _ in range(rng.randint(2, 4)):
+            self.put_station(latitude, records, berths.pick_line(rng))
+            self.put_date(*date)
+            self.berth_search(first, length)
+            if rng.random() < 0.7:
+                self.put_station(*self.spoil_station(latitude, records, berths.pick_line(rng)))
+                self.berth_search(first, length)
+
+    def berth_search(self, first, length):
+        """By the month as a rule, at times on the year's sheet."""
+        length = min(length, self.few_strides() * self.stride())
+        if self.clock.month and self.rng.random() < 0.25:
+            begin = years.midnights(self.clock.month.year)[self.clock.month.number - 1]
+            self.put_year(self.clock.month.year, (begin, 60, 2), begin + first, begin + first + length)
+        else:
+            first = min(first, self.last_minute() - length)
+            self.put_turns(first, self.near_turn(first, first + length))
+
+    def near_turn(self, first, last):
+        """The last minute of a search, at times about the end of the stride that leads to one of its turns."""
+        rng = self.rng
+        found = self.clock.turns(first, last, LARGEST, LARGEST)[0] if self.clock.month else []
+        if not found or rng.random() < 0.5:
+            return last
+        stride = self.stride()
+        at = rng.randrange(len(found))
+        before, turn = found[at - 1][0] if at else first, found[at][0]
+        end = before + stride * -(-(turn - before) // stride) + rng.choice([-1, 0, 0, 1, 1])
+        return min(max(end, first), last)
+
+    def fluttering_turns(self):
+        """A table of slow constituents, and small strides about a minute where the slope changes its sense more than once or has
+        the same size on both sides."""
+        rng = self.rng
+        self.put_cards(decks.fluttering_file(rng))
+        for _ in range(rng.randint(1, 3)):
+            minute = rng.randint(0, 28 * years.DAY)
+            places = rng.sample(range(len(decks.CREEPERS)), 5)
+            records = balance.fluttering_records(rng, places, self.frequency_at(0), minute)
+            self.put_station(self.latitude(), records, berths.pick_short(rng))
+            self.date(1)
+            for _ in range(rng.randint(1, 2)):
+                first = max(0, minute - rng.randint(0, 100))
+                last = min(minute + rng.randint(0, 200), self.last_minute())
+                self.put_turns(first, self.near_turn(first, last))
 
     # Bookings
 
@@ -326,13 +421,19 @@ class ScriptWriter:
             # What takes time, rarely and of few constituents.
             series = chance(rng, (30, series), (1, years.whole_series(rng, ends)))
             search = chance(rng, (80, search), (1, (0, ends[-1])))
-        try:
-            count = len(self.clock.year(year, (0, 1, 0), (*search, LARGEST, LARGEST))[1])
-        except Refusal:
-            count = rng.randint(0, 5)
-        self.write(b"year", year, *series, *search, *self.places(count))
+        first, last = search
+        if first <= last <= ends[-1]:
+            last = min(last, first + self.few_strides() * self.stride())
+        self.put_year(year, series, first, last)
         if rng.random() < 0.3:
             self.height()
+
+    def put_year(self, year, series, first, last):
+        try:
+            count = len(self.clock.year(year, (0, 1, 0), (first, last, LARGEST, LARGEST))[1])
+        except Refusal:
+            count = self.rng.randint(0, 5)
+        self.write(b"year", year, *series, first, last, *self.places(count))
 
     def late_year(self):
         """A table and a station with an 11 in one month of the year or in two, a date or two of theirs, and the year."""
@@ -340,7 +441,8 @@ class ScriptWriter:
         months = rng.choice([[12], [2], rng.sample(range(2, 13), 1), rng.sample(range(1, 13), 2), rng.sample(range(9, 13), 2)])
         self.put_cards(decks.late_file(rng, [day_count(1976, month, 16) for month in months]))
         places = range(len(self.clock.table.frequencies))
-        self.put_station(self.latitude(), [(place, self.amplitude(), self.lag()) for place in rng.sample(places, len(places))])
+        records = [(place, self.amplitude(), self.lag()) for place in rng.sample(places, len(places))]
+        self.put_station(self.latitude(), records, berths.pick_line(rng))
         for _ in range(rng.randint(0, 2)):
             self.date()
         self.year()
@@ -362,11 +464,12 @@ class ScriptWriter:
         if self.clock.month is None:
             choices.append((0.7, self.bookings))  # The state is asked before its 31 and 9.
             choices.append((0.3, self.hourly))  # And before its 32 and 34.
-        chance(self.rng, *choices, (0.06, self.late_year), (0.18, self.limited_hourly), (0.18, self.balanced_turns))()
+        chance(self.rng, *choices, (0.06, self.late_year), (0.18, self.limited_hourly), (0.18, self.balanced_turns),
+               (0.25, self.berth), (0.25, self.fluttering_turns))()
 
     def malformed_line(self):
         """A last line that is not of the format; the run ends there."""
-        self.calls.append(self.rng.choice([
+        any_line = self.rng.choice([
             b"height\n", b"height  1\n", b"height 1 \n", b" height 1\n", b"height -1\n", b"height 4294967296\n",
             b"heights 1\n", b"\n", b"date 1976\n", b"series 1 2\n", b"series 1 2 3 4\n", b"turns 1 2 3\n", b"height 1",
             b"station 0 1\n256 0 0\n", b"station 0 2\n0 0 0\n", b"station 0 1\n0 0\n", b"station 2147483648 0\n",
@@ -376,7 +479,8 @@ class ScriptWriter:
             b"year -1976 0 60 1 0 0 0 0\n", b"year 1976 0 60 1 0 0 0 4294967296\n", b"years 1976 0 60 1 0 0 0 0\n",
             b"year 1976 0 60  1 0 0 0 0\n", b"year 1976 0 60 1 0 0 0 0", *bookings.MALFORMED,
             *hours.MALFORMED,
-        ]))
+        ])
+        self.calls.append(chance(self.rng, (3, any_line), (2, berths.malformed(self.rng))))
 
 
 def script(rng, index, standard):
@@ -385,7 +489,7 @@ def script(rng, index, standard):
     writer = ScriptWriter(rng, standard, ratios, standard_share)
     while len(writer.calls) < CALLS:
         writer.any_call()
-    if rng.random() < 0.15:
+    if rng.random() < 0.2:
         writer.malformed_line()
     return writer.data()
 

@@ -1,11 +1,19 @@
-"""Document 01, "Heights and turns"."""
+"""Document 01, "Heights and turns", with the strides of change request No. 6."""
 
+from collections import namedtuple
 from functools import cache
 
 from cosine import cosine_fraction, fixed_cosine, fixed_sine, sine_fraction
 
 # The month's instant, 00:00 on the 16th, is 15 days after minute 0.
 INSTANT = 21_600
+
+# 02, No. 6: "The station carries three stride lengths in minutes, for semidiurnal, mixed and diurnal tides, each 1 to 720."
+Strides = namedtuple("Strides", "semidiurnal mixed diurnal")
+SHORTEST_STRIDE = 1
+LONGEST_STRIDE = 720
+# "With 180, 30 and 360 every turn is what 01 gives."
+USUAL_STRIDES = Strides(180, 30, 360)
 
 
 def angle_at(constituent, minute):
@@ -49,26 +57,29 @@ def rising(slope_there):
     return slope_there >= 0
 
 
-def stride_by_amplitudes(k1, o1, m2, s2):
+def stride_by_amplitudes(strides, k1, o1, m2, s2):
+    """02, No. 6: "The class limits remain 0.25 and 3." """
     if 4 * (k1 + o1) <= m2 + s2:
-        return 180
+        return strides.semidiurnal
     if k1 + o1 > 3 * (m2 + s2):
-        return 360
-    return 30
+        return strides.diurnal
+    return strides.mixed
 
 
 def stride_of(table, station):
-    """ "By the amplitudes of K1, O1, M2, S2 (names with three blanks after; absent is 0)" """
+    """ "By the amplitudes of K1, O1, M2, S2 (names with three blanks after; absent is 0)"; 02, No. 6: "The search works from the
+    station's own lengths from now on" """
     amplitudes = {b"K1   ": 0, b"O1   ": 0, b"M2   ": 0, b"S2   ": 0}
     for place, amplitude, _ in station.records:
         name, _ = table.frequencies[place]
         if name in amplitudes:
             amplitudes[name] = amplitude
-    return stride_by_amplitudes(*amplitudes.values())
+    return stride_by_amplitudes(station.strides, *amplitudes.values())
 
 
 def bisect(slope_at, start, end):
     """Halves a bracket whose ends differ in sense, until they are one minute apart."""
+    # 02, No. 6: "A stride of 1 whose ends differ is not cut."
     if end - start == 1:
         return start, end
     # "Then cut at start + floor(length/2). The half that holds the change is halved again"

@@ -8,6 +8,7 @@ import re
 import sys
 
 from clock import Clock
+from heights import USUAL_STRIDES, Strides
 from refusal import Refusal
 
 DIGITS = re.compile(rb"[0-9]+")
@@ -93,6 +94,11 @@ def read_record(script):
     return place, amplitude, lag
 
 
+def read_strides(script, words):
+    """Semidiurnal, mixed and diurnal; the line without them stays and means 180 30 360."""
+    return Strides(*script.numbers(words, 3)) if words else USUAL_STRIDES
+
+
 def read_minute(script):
     (minute,) = script.numbers(script.words(), 1)
     script.done()
@@ -108,13 +114,14 @@ def read_call(script):
         data = script.card_file(size)
         return lambda clock: accepted(clock.set_cards(data))
     if word == b"station":
-        if len(rest) != 2:
+        if len(rest) < 2:
             script.fail()
         latitude = script.number(rest[0], -(2**31), 2**31 - 1)
         count = script.number(rest[1])
+        strides = read_strides(script, rest[2:])
         script.done()
         records = [read_record(script) for _ in range(count)]
-        return lambda clock: accepted(clock.set_station(latitude, records))
+        return lambda clock: accepted(clock.set_station(latitude, records, strides))
     if word == b"date":
         year, month = script.numbers(rest, 2)
         script.done()

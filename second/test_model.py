@@ -1,5 +1,6 @@
 """Document 01's "Checked against" cases, its limits and the card file readings, change request No. 1 against single months,
-No. 3 against single heights, No. 4 column by column and read back, and No. 5's promise, as plain asserts.
+No. 3 against single heights, No. 4 column by column and read back, No. 5's promise, and No. 6's strides against 01's and against
+every single minute, as plain asserts.
 
 Usage: python3 second/test_model.py [folder with the standard cards]
 """
@@ -9,6 +10,7 @@ import os
 import random
 import sys
 
+import berths
 import decks
 import heights
 import hourly
@@ -60,11 +62,16 @@ def place_of(clock, name):
     return [known for known, _ in clock.table.frequencies].index(name.ljust(5))
 
 
-def clock_with(latitude, records, year=1976, month=7):
+def named(clock, records):
+    """Records of a table's places, from (name, amplitude, lag)."""
+    return [(place_of(clock, name), amplitude, lag) for name, amplitude, lag in records]
+
+
+def clock_with(latitude, records, year=1976, month=7, strides=heights.USUAL_STRIDES):
     """A clock with the standard table; records as (name, amplitude, lag)."""
     clock = Clock()
     clock.set_cards(STANDARD)
-    clock.set_station(latitude, [(place_of(clock, name), a, g) for name, a, g in records])
+    clock.set_station(latitude, named(clock, records), strides)
     clock.set_date(year, month)
     return clock
 
@@ -200,8 +207,8 @@ def check_heights():
     for (k1_o1, m2_s2), wanted in (
         ((100, 400), 180), ((101, 400), 30), ((301, 100), 360), ((300, 100), 30), ((0, 0), 180)
     ):
-        check("stride %d, %d" % (k1_o1, m2_s2), heights.stride_by_amplitudes(k1_o1, 0, m2_s2, 0), wanted)
-        check("stride split", heights.stride_by_amplitudes(0, k1_o1, 0, m2_s2), wanted)
+        check("stride %d, %d" % (k1_o1, m2_s2), heights.stride_by_amplitudes(heights.USUAL_STRIDES, k1_o1, 0, m2_s2, 0), wanted)
+        check("stride split", heights.stride_by_amplitudes(heights.USUAL_STRIDES, 0, k1_o1, 0, m2_s2), wanted)
         clock = clock_with(0, [(b"K1", k1_o1, 0), (b"M2", m2_s2, 0)])
         check("stride of a station", heights.stride_of(clock.table, clock.station), wanted)
 
@@ -513,7 +520,7 @@ def still_clock(level, year=1976, month=7, others=()):
     for name in decks.STILLS:
         records.append((name, min(left, 65_535), lag))
         left -= min(left, 65_535)
-    clock.set_station(0, [(place_of(clock, name), a, g) for name, a, g in records])
+    clock.set_station(0, named(clock, records))
     clock.set_date(year, month)
     return clock
 
@@ -679,6 +686,266 @@ def check_hourly():
     check_hourly_ends()
 
 
+def check_stride_refusals():
+    """ "Refused: 35, a stride outside its range, after the latitude and before the count of records." """
+    clock = Clock()
+    check("no table before 35", refused(clock.set_station, 5_401, [(0, 0, 0)] * 147, (0, 0, 0)), (21, 0))
+    clock.set_cards(STANDARD)
+    check("35 with no station", refused(clock.set_station, 0, [], (0, 0, 0)), (35, 0))
+    check("still no station", refused(clock.set_date, 1976, 7), (22, 0))
+    faults = (
+        ([], None), ([(0, 0, 0)] * 147, (6, 147)), ([(255, 0, 0)], (5, 1)), ([(0, 0, 0), (0, 0, 0)], (4, 2)),
+        ([(0, 65_536, 0)], (3, 1)), ([(0, 0, 36_000)], (3, 1)),
+    )
+    for records, wanted in faults:
+        for strides in ((0, 30, 360), (180, 721, 360), (180, 30, 2**32 - 1), (0, 721, 0)):
+            check("35 beside %r" % (wanted,), refused(clock.set_station, 0, records, strides), (35, 0))
+            check("latitude before 35", refused(clock.set_station, -5_401, records, strides), (3, 0))
+        check("no 35", refused(clock.set_station, 0, records, (1, 720, 1)), wanted)
+        check("latitude and no 35", refused(clock.set_station, 5_401, records, (1, 720, 1)), (3, 0))
+    for place in range(3):
+        for length, wanted in (
+            (0, (35, 0)), (1, None), (2, None), (719, None), (720, None), (721, (35, 0)), (722, (35, 0)), (1_440, (35, 0)),
+            (65_536, (35, 0)), (65_536 + 180, (35, 0)), (2**31 + 1, (35, 0)), (2**32 - 1, (35, 0)),
+        ):
+            for other in (1, 30, 720):
+                strides = [other] * 3
+                strides[place] = length
+                check("strides %r" % strides, refused(clock.set_station, 0, [], strides), wanted)
+
+
+def check_stride_classes():
+    """ "The class limits remain 0.25 and 3." The order is semidiurnal, mixed, diurnal."""
+    for k1_o1, m2_s2, wanted in (
+        (0, 0, 7), (0, 1, 7), (99, 400, 7), (100, 400, 7), (101, 400, 11), (299, 100, 11), (300, 100, 11), (301, 100, 13), (1, 0, 13),
+        (100, 399, 11), (300, 99, 13), (25, 100, 7), (26, 100, 11), (75, 25, 11), (76, 25, 13), (20, 100, 7), (100, 25, 13), (1, 1, 11),
+    ):
+        for k1, m2 in ((k1_o1, m2_s2), (0, 0), (k1_o1 // 2, m2_s2 // 3)):
+            records = [(b"K1", k1, 0), (b"S2", m2_s2 - m2, 0), (b"O1", k1_o1 - k1, 0), (b"M4", 9_000, 0), (b"M2", m2, 0)]
+            clock = clock_with(0, records, strides=(7, 11, 13))
+            check("stride of %d, %d" % (k1_o1, m2_s2), heights.stride_of(clock.table, clock.station), wanted)
+
+
+def check_single_minutes():
+    """ "A stride of 1 whose ends differ is not cut." Made-up slopes, one for each minute."""
+    for slopes, wanted in (
+        # The end with the smaller size, the earlier if equal; slope 0 is rising.
+        ([5, -3], ([1], True)), ([3, -5], ([0], True)), ([4, -4], ([0], True)), ([-5, 3], ([1], False)), ([-3, 5], ([0], False)),
+        ([-4, 4], ([0], False)), ([-1, 0], ([1], False)), ([0, -1], ([0], True)), ([0, 0], ([], False)), ([1, 0], ([], False)),
+        ([-1, -1], ([], False)), ([7], ([], False)), ([2, 1, -1], ([1], True)), ([2, 1, 0, -1], ([2], True)),
+        # The search resumes from the later end, whichever end the turn was: a minute may be two turns.
+        ([9, -1, 9], ([1, 1], True)), ([1, -9, 1], ([0, 2], True)), ([1, -1, 1, -1], ([0, 1, 2], True)), ([-9, 2, -3], ([1, 1], False)),
+        ([5, -4, 3, -2, 1], ([1, 2, 3, 4], True)), ([1, -2, 3, -4, 5], ([0, 1, 2, 3], True)), ([3, -3, -3, 3], ([0, 2], True)),
+    ):
+        check("single minutes %r" % slopes, heights.search(slopes.__getitem__, 1, 0, len(slopes) - 1), wanted)
+    for slopes, stride, wanted in (
+        ([1, 2, -3], 2, ([1], True)), ([4, -2, -1], 2, ([1], True)), ([1, -1, 1], 2, ([], False)), ([1, -9], 2, ([], False)),
+        # Resumed at minute 2, a stride of 2 ends at 4 and one of 3 at 5.
+        ([1, 1, -1, -1, 3], 2, ([1, 3], True)), ([1, 1, -1, -1, 3], 3, ([1], True)), ([1, 1, -1, -1, -1, 3], 3, ([1, 4], True)),
+    ):
+        check("strides of %d %r" % (stride, slopes), heights.search(slopes.__getitem__, stride, 0, len(slopes) - 1), wanted)
+    asked = []
+    heights.search(lambda minute: asked.append(minute) or (-1) ** minute, 1, 3, 9)
+    check("nothing between asked", sorted(asked), list(range(3, 10)))
+    for stride in (1, 2, 20, 719, 720):
+        slopes = [1] * stride + [-1]
+        check("a stride to the last minute", heights.search(slopes.__getitem__, stride, 0, stride), ([stride - 1], True))
+        check("a stride past it", heights.search(slopes.__getitem__, stride, 1, stride), ([], False))
+
+
+def slopes_of(clock, first, last):
+    """The slope at every minute of a search."""
+    return {minute: heights.slope(clock.month, minute) for minute in range(first, last + 1)}
+
+
+def every_turn(slopes):
+    """The minutes of all changes of sense, looked for minute by minute."""
+    changes = [minute for minute in list(slopes)[:-1] if (slopes[minute] < 0) != (slopes[minute + 1] < 0)]
+    return [min((minute, minute + 1), key=lambda end: abs(slopes[end])) for minute in changes]
+
+
+def turns_by_01(slopes, stride):
+    """The minutes of the turns, by 01 as it stands."""
+    first, last = min(slopes), max(slopes)
+    found = []
+    while first + stride <= last:
+        low, high = first, first + stride
+        first = high
+        if (slopes[low] < 0) == (slopes[high] < 0):
+            continue
+        while high - low > 1:
+            middle = low + (high - low) // 2
+            if (slopes[low] < 0) == (slopes[middle] < 0):
+                low = middle
+            else:
+                high = middle
+        found.append(min((low, high), key=lambda end: abs(slopes[end])))
+        first = high
+    return found
+
+
+def random_tide(rng):
+    """Records of a class, with 01's stride for it."""
+    k1, o1, m2, s2 = [rng.randint(0, 5_000) for _ in range(4)]
+    m2 *= rng.choice([1, 1, 4])
+    k1 *= rng.choice([1, 1, 4, 8])
+    stride = 180 if 4 * (k1 + o1) <= m2 + s2 else 360 if k1 + o1 > 3 * (m2 + s2) else 30
+    amplitudes = [(b"K1", k1), (b"O1", o1), (b"M2", m2), (b"S2", s2), (b"M4", rng.randint(0, 9_000)), (b"M6", rng.randint(0, 6_000))]
+    return [(name, amplitude, rng.randint(0, 35_999)) for name, amplitude in amplitudes], stride
+
+
+def minutes_found(clock, first, last):
+    return [minute for minute, _ in clock.turns(first, last, PLENTY, PLENTY)[0]]
+
+
+def check_usual_strides():
+    """ "With 180, 30 and 360 every turn is what 01 gives." With 1 in all classes, every change of sense is a turn."""
+    rng = random.Random(6)
+    clock = clock_with(0, [])
+    seen, lost = set(), 0
+    for _ in range(24):
+        tide, stride = random_tide(rng)
+        first = rng.randint(0, 40_000)
+        last = first + rng.randint(1_500, 3_000)
+        records = named(clock, tide)
+        answers = {}
+        for strides in ((), ((180, 30, 360),), ((1, 1, 1),), ((stride,) * 3,)):
+            clock.set_station(2_905, records, *strides)
+            clock.set_date(2026, 3)
+            answers[strides] = minutes_found(clock, first, last)
+        slopes = slopes_of(clock, first, last)
+        wanted = turns_by_01(slopes, stride)
+        check("what 01 gives", answers[()], wanted)
+        check("180, 30 and 360", answers[((180, 30, 360),)], wanted)
+        check("the class's own length alone counts", answers[((stride,) * 3,)], wanted)
+        check("single minutes", answers[((1, 1, 1),)], every_turn(slopes))
+        seen.add(stride)
+        lost += answers[((1, 1, 1),)] != wanted
+    check("all classes were seen", seen, {180, 30, 360})
+    check("01's strides step over turns", lost > 5, True)
+
+
+# A made-up berth in Southampton's latitude: semidiurnal, with a quarter-diurnal tide that makes the high waters of neaps double.
+DOUBLE = [(b"M2", 10_000, 0), (b"S2", 2_000, 0), (b"M4", 3_500, 15_000)]
+# 8 March 2026, in minutes of the month: the turns that a stride of 180 finds, and those that it steps over.
+EIGHTH = 7 * 1_440, 8 * 1_440
+FOUND = [(10_360, 6_893), (10_637, -12_348), (11_111, 6_659), (11_383, -11_922)]
+STEPPED_OVER = [(10_177, 6_274), (10_248, 6_005), (10_916, 5_921), (10_994, 5_564)]
+ALL_EIGHT = sorted(FOUND + STEPPED_OVER)
+
+
+def check_double_high_water():
+    """ "Two estuary berths have double high waters that the fixed strides step over." """
+    clock = clock_with(3_050, DOUBLE, 2026, 3)
+    check("a stride of 180", clock.turns(*EIGHTH, 4, 4), (FOUND, True))
+    for stride in (20, 1, 5, 30):
+        clock = clock_with(3_050, DOUBLE, 2026, 3, (stride, 720, 720))
+        check("a stride of %d" % stride, clock.turns(*EIGHTH, 8, 8), (ALL_EIGHT, True))
+        check("its places", refused(clock.turns, *EIGHTH, 8, 7), (10, 0))
+    check("they are all", [minute for minute, _ in ALL_EIGHT], every_turn(slopes_of(clock, *EIGHTH)))
+    for stride, count in ((180, 119), (20, 155)):
+        clock = clock_with(3_050, DOUBLE, 2026, 3, (stride, 1, 1))
+        check("turns of March by %d" % stride, len(minutes_found(clock, 0, 44_640)), count)
+
+
+def check_strides_replaced():
+    """ "replacing a station replaces them with the rest"; a refused station keeps the old one, strides included."""
+    clock = clock_with(3_050, DOUBLE, 2026, 3)
+    records = named(clock, DOUBLE)
+    for strides in ((20, 30, 360), None, (180, 20, 20), (1, 720, 720), None, (720, 1, 1), (20, 30, 360), (180, 30, 360)):
+        clock.set_station(3_050, records, *[strides] if strides else [])
+        length = strides[0] if strides else 180
+        check("strides kept", clock.station.strides, strides or (180, 30, 360))
+        check("no month", refused(clock.turns, *EIGHTH, 9, 9), (23, 0))
+        clock.set_date(2026, 3)
+        wanted = turns_by_01(slopes_of(clock, *EIGHTH), length)
+        check("turns by the new strides", minutes_found(clock, *EIGHTH), wanted)
+        left = clock.station, clock.month
+        for latitude, bad, other, number in (
+            (5_401, [], (7, 7, 7), 3), (0, [], (0, 7, 7), 35), (0, [], (7, 721, 7), 35), (0, [], (7, 7, 2**32 - 1), 35),
+            (0, [(0, 0, 0)] * 147, (7, 7, 7), 6), (0, [(255, 0, 0)], (7, 7, 7), 5), (0, records + records, (7, 7, 7), 4),
+            (0, [(0, 65_536, 0)], (7, 7, 7), 3), (3_050, records + [(0, 0, 36_000)], (7, 7, 7), 3),
+            (-5_401, records, (180, 30, 360), 3),
+        ):
+            check("refused", refused(clock.set_station, latitude, bad, other)[0], number)
+            check("the old one kept", (clock.station is left[0], clock.month is left[1]), (True, True))
+            check("turns by the old strides", minutes_found(clock, *EIGHTH), wanted)
+    clock.set_cards(STANDARD)
+    clock.set_station(3_050, records)
+    check("a new table keeps no strides", clock.station.strides, (180, 30, 360))
+
+
+def check_year_strides():
+    """The year's search takes the station's lengths too."""
+    begin = midnights(2026)[2]
+    first, last = [begin + minute for minute in EIGHTH]
+    found = []
+    for strides in ((180, 30, 360), (20, 30, 360), (1, 720, 720), (180, 20, 20), (720, 1, 1)):
+        clock = clock_with(3_050, DOUBLE, 2026, 3, strides)
+        turns, high = clock.turns(*EIGHTH, 99, 99)
+        shifted = [(begin + minute, height) for minute, height in turns]
+        check("year's turns by %r" % (strides,), clock.year(2026, (0, 1, 0), (first, last, 99, 99)), ([], shifted, high))
+        found.append(len(turns))
+    check("turns by strides", found, [4, 8, 8, 4, 0])
+    # Across the end of a month, by single minutes and by the longest strides, for a mixed and a diurnal tide too.
+    end = midnights(2026)[3]
+    for tide, strides in (
+        (DOUBLE, (1, 720, 720)), (TIDE, (720, 1, 720)), (TIDE[:3], (720, 720, 1)), (TIDE, (1, 720, 1)), (TIDE[:3], (1, 1, 719)),
+    ):
+        clock = clock_with(3_050, tide, 2026, 4, strides)
+        april = clock.month
+        clock.set_date(2026, 3)
+
+        def slope_at(minute):
+            return heights.slope(clock.month, minute - begin) if minute < end else heights.slope(april, minute - end)
+
+        stride = heights.stride_of(clock.table, clock.station)
+        wanted = heights.search(slope_at, stride, end - 1_500, end + 1_500)
+        _, found, high = clock.year(2026, (0, 1, 0), (end - 1_500, end + 1_500, 99, 99))
+        check("year across by %d" % stride, ([minute for minute, _ in found], high), wanted)
+
+
+def check_stride_lines():
+    """The replay line with strides, the one without, and what is not of the form."""
+    cards = b"cards %d\n%s\n" % (len(STANDARD), STANDARD)
+    clock = clock_with(0, [])
+    records = b"".join(b"%d %d %d\n" % record for record in named(clock, DOUBLE))
+    search = b"turns %d %d 8 8\n" % EIGHTH
+    asked = b"date 2026 3\n" + search
+    wide, all_eight = ["turns %d 1" % len(found) + "".join(" %d %d" % turn for turn in found) for found in (FOUND, ALL_EIGHT)]
+    own, old = b"station 3050 3 20 30 360\n" + records, b"station 3050 3\n" + records
+    script = cards + own + asked + old + asked + b"station 3050 3 180 30 360\n" + records + asked + own + asked
+    three = ["accepted", "accepted"]
+    answers = ["accepted"] + three + [all_eight] + three + [wide] + three + [wide] + three + [all_eight]
+    check("lines with strides and without", list(replay(script)), answers)
+    for bad, refusal in (
+        (b"station 5401 0 0 0 0\n", "3 0"), (b"station 0 0 0 30 360\n", "35 0"), (b"station 0 0 180 721 360\n", "35 0"),
+        (b"station 0 1 180 30 4294967295\n255 0 0\n", "35 0"), (b"station 0 147 180 0 360\n" + b"0 0 0\n" * 147, "35 0"),
+        (b"station 0 147 180 30 360\n" + b"0 0 0\n" * 147, "6 147"), (b"station 0 1 180 30 360\n255 0 0\n", "5 1"),
+    ):
+        again = ["refused " + refusal, all_eight]
+        check("refused %r" % bad[:30], list(replay(script + bad + search)), answers + again)
+    check("strides with no table", list(replay(b"station 0 0 0 0 0\nstation 0 1 1 1 1\n0 0 0\n")), ["refused 21 0"] * 2)
+    for bad in berths.MALFORMED[:22]:
+        check("script %r" % bad, list(replay(bad)), ["script 1"])
+    for bad in berths.MALFORMED[22:]:
+        got = list(replay(bad))
+        check("script %r" % bad, got[-1].startswith("script ") and set(got[:-1]) <= {"refused 21 0"}, True)
+    for bad in (b"station 0 1 180 30 360\n", b"station 0 1 180 30 360\n0 0\n", b"station 0 1 0 0 0\n256 0 0\n"):
+        check("record of %r" % bad, list(replay(bad)), ["script 2"])
+
+
+def check_strides():
+    check_stride_refusals()
+    check_stride_classes()
+    check_single_minutes()
+    check_usual_strides()
+    check_double_high_water()
+    check_strides_replaced()
+    check_year_strides()
+    check_stride_lines()
+
+
 def check_replay():
     script = b"height 0\ncards %d\n%s\nstation -299 1\n0 5 18000\ndate 1976 2\nheight 41760\n" % (len(STANDARD), STANDARD)
     script += b"series 0 1440 2\nseries 5 5 0\nturns 0 41760 0 0\nheight 41761\n"
@@ -726,6 +993,7 @@ def main():
     check_years()
     check_bookings()
     check_hourly()
+    check_strides()
     check_replay()
     print("%d passed, %d failed" % (PASSED, FAILED))
     sys.exit(1 if FAILED else 0)
