@@ -1,9 +1,9 @@
 """Has the players of all languages play the second code's scripts: python3 bindings/compare.py NAME=COMMAND ...
 
-The scripts are 200 of about 100 calls, generated from a seed; replay's own; those of tools/malformed.py; and seven made here, of numbers at the ends
-of their types, buffers of every size, whole years, bookings, hourly cards, strides, and card files of every kind. A player gets all of them as files in one
-run. Every byte of each answer must be the second code's, and every refusal must come up, also every one that a station, a year, bookings or hourly cards can
-have.
+The scripts are 200 of about 100 calls, generated from a seed; replay's own; those of tools/malformed.py; stations not of the form; and seven made here,
+of numbers at the ends of their types, buffers of every size, whole years, bookings, hourly cards, strides, and card files of every kind. A player gets all of
+them as files in one run. Every byte of each answer must be the second code's, and every refusal must come up, also every one that a station, a year, bookings
+or hourly cards can have.
 """
 
 import collections

@@ -153,7 +153,8 @@ typedef struct cuvalimodo_text {
 
 static_assert(sizeof(cuvalimodo_clock) == CUVALIMODO_CLOCK_SIZE && alignof(cuvalimodo_clock) == 8, "a clock lies as in the library");
 static_assert(sizeof(cuvalimodo_record) == 12 && offsetof(cuvalimodo_record, amplitude) == 4, "a record lies as in the library");
-static_assert(sizeof(cuvalimodo_strides) == 12 && alignof(cuvalimodo_strides) == 4, "strides lie as in the library");
+static_assert(sizeof(cuvalimodo_strides) == 12 && offsetof(cuvalimodo_strides, mixed) == 4 && offsetof(cuvalimodo_strides, diurnal) == 8,
+              "strides lie as in the library");
 static_assert(sizeof(cuvalimodo_counts) == 48 && sizeof(cuvalimodo_verdict) == 16, "results lie as in the library");
 static_assert(sizeof(cuvalimodo_reading) == 24 && sizeof(cuvalimodo_turnings) == 32 && sizeof(bool) == 1, "results lie as in the library");
 static_assert(sizeof(cuvalimodo_cards) == 24 && offsetof(cuvalimodo_cards, bytes) == 16, "results lie as in the library");

@@ -242,7 +242,7 @@ static bool usual_station(struct script *s, const int64_t *n)
 
 static bool station(struct script *s, const int64_t *n)
 {
-    return station_of(s, n, (cuvalimodo_strides){(uint32_t)n[2], (uint32_t)n[3], (uint32_t)n[4]});
+    return station_of(s, n, (cuvalimodo_strides){.semidiurnal = (uint32_t)n[2], .mixed = (uint32_t)n[3], .diurnal = (uint32_t)n[4]});
 }
 
 static bool date(struct script *s, const int64_t *n)
