@@ -169,6 +169,7 @@ def berths():
         double, records, [(k1, 1_000, 0), (m2, 4_000, 0)], [(k1, 1_001, 0), (m2, 4_000, 0)], [(k1, 3_000, 0), (m2, 1_000, 0)],
         [(k1, 3_001, 0), (m2, 1_000, 0)], [(PLACES["Z0"], 9, 0)],
     ):
+        yield station(latitude, tides) + call(b"date", 1976, 7) + whole
         for strides in ((180, 30, 360), (360, 180, 30), (30, 360, 180), (720, 720, 720), *each_with((60, 60, 60), (1, 720))):
             yield strides_station(latitude, tides, strides) + call(b"date", 1976, 7) + search + call(b"turns", 0, 720, 9, 9)
 
