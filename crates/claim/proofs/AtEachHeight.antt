@@ -102,7 +102,7 @@ AllStand (named names) = Unit {0}
 all-stand : (l : Last) (q : Request) → AllStand (gives l q)
 unfolding gives
 all-stand l (Cards file) = tt
-all-stand l (Station latitude records) = tt
+all-stand l (Station s) = tt
 all-stand l (Date year month) = tt
 all-stand l (Height minute) = tt
 all-stand l (Series start step heights) = tt

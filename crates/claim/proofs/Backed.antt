@@ -19,7 +19,9 @@ use Rattle.columns.specs.Lines.{linesOf}
 use Rattle.columns.specs.Names.{namesFrom}
 use Rattle.card_frequencies.specs.Frequencies.{frequenciesFrom}
 use Rattle.card_file.specs.Cards.{readCards, cardsOutcome}
-use Rattle.station.specs.declared.records.Record.{Record}
+use Rattle.station.specs.declared.strides.Strides.{Strides}
+use Rattle.station.specs.Station as station
+use Rattle.station.specs.Station.{stationLent}
 use Rattle.station.specs.declared.records.Rows.{Rows}
 use Rattle.station.specs.Records.{recordsFrom, recordsOf}
 use Rattle.station.specs.inner.Rows.{noRows}
@@ -49,7 +51,7 @@ use Rattle.cuvalimodo_c.specs.declared.answers.Cards.{Cards as HeldCards}
 use Rattle.cuvalimodo_c.specs.Answers.{verdictReturned, readingReturned, turningsReturned, cardsTold, verdictOf, readingOf, turningsOf, cardsToldOf, Plain, PlainReading, PlainTurnings, PlainCards}
 use Rattle.claim.specs.Document.{Cards, Station, Date, Height, Series, Turns, Year, Bookings, Hourly, Names, told, predicted, wrote, found, filled, carded, named}
 use Rattle.claim.specs.Calls.{Keeps, New, Call, Calls, done, _then_}
-use Rattle.claim.specs.Controls.{Controls, aSheet, eachKind, eachRefused}
+use Rattle.claim.specs.Controls.{aStation, Controls, aSheet, eachKind, eachRefused}
 
 -- Wherever some memory satisfies what a call's `ensures` says, in the closed model, the call keeps its contract in the sense of `Calls`.
 pub backed : (P Q : (w : World) → SProp (w .𝓤)) (σ : Memory) (F : SProp (w₀ .𝓤)) → Satisfies (w₀ .𝓤) (w₀ .H) (w₀ .𝓜) σ (sep (w₀ .𝓤) (Q w₀) F) → Keeps P Q
@@ -82,13 +84,13 @@ module _ (c : Clock) (p : NewPost c) where
   no-cards : CardsPost c [] (refused 7 1) c
   no-cards = record { made = p .made; returns = sym no-file; leaves = sym (no-file-leaves _) }
 
-  no-station : (latitude : ℤ) (records : List Record) → StationPost c latitude records (refused 21 0) c
+  no-station : (s : station.Station) → StationPost c s (refused 21 0) c
   unfolding stationReturns stationLeaves
-  no-station latitude records =
+  no-station s =
       record {
         made = p .made;
-        returns = sym (ap (λ (k : State). stationReturns k latitude records) (p .leaves));
-        leaves = p .leaves ∙ sym (ap (λ (k : State). stationLeaves k latitude records) (p .leaves));
+        returns = sym (ap (λ (k : State). stationReturns k s) (p .leaves));
+        leaves = p .leaves ∙ sym (ap (λ (k : State). stationLeaves k s) (p .leaves));
       }
 
   no-month : (year month : ℕ) → DatePost c year month (refused 21 0) c
@@ -133,14 +135,13 @@ cards-there : (c c′ : Clock) (file : List ℕ) (answer : Answer) → CardsPost
 cards-there c c′ file answer p =
     Call.loads {κs = ([], tt)} {file = lent file} {r = record { answer = answer; clock = c′ }} (record { bound = λ w. tt; contract = kept _ _ p })
 
-station-there : (c c′ : Clock) (latitude : ℤ) (records : List Record) (answer : Answer) → StationPost c latitude records (outcomeOf answer) c′
-    → Call c (Station latitude records) (told (outcomeOf answer)) c′
-station-there c c′ latitude records answer p =
-    Call.stations {κs = ([], tt)} {records = lent records} {r = record { answer = answer; clock = c′ }} (record { bound = λ w. tt; contract = kept _ _ p })
+station-there : (c c′ : Clock) (s : station.Station) (answer : Answer) → StationPost c s (outcomeOf answer) c′ → Call c (Station s) (told (outcomeOf answer)) c′
+station-there c c′ s answer p =
+    Call.stations {κs = ([], tt)} {records = lent (s .records)} {r = record { answer = answer; clock = c′ }} (record { bound = λ w. tt; contract = kept _ _ p })
 
-placing-there : (c c′ : Clock) (latitude : ℤ) (n : ℕ) (rows : Rows) (answer : Answer) → StationPost c latitude (recordsOf rows n) (outcomeOf answer) c′
-    → Call c (Station latitude (recordsOf rows n)) (told (outcomeOf answer)) c′
-placing-there c c′ latitude n rows answer p =
+placing-there : (c c′ : Clock) (latitude : ℤ) (strides : Strides) (n : ℕ) (rows : Rows) (answer : Answer) → StationPost c (stationLent latitude strides (recordsOf rows n)) (outcomeOf answer) c′
+    → Call c (Station (stationLent latitude strides (recordsOf rows n))) (told (outcomeOf answer)) c′
+placing-there c c′ latitude strides n rows answer p =
     Call.placed {n = n} {rows = rows} {r = record { answer = answer; clock = c′ }} (record { bound = λ w. tt; contract = kept _ _ p })
 
 date-there : (c c′ : Clock) (year month : ℕ) (answer : Answer) → DatePost c year month (outcomeOf answer) c′ → Call c (Date year month) (told (outcomeOf answer)) c′
@@ -187,10 +188,9 @@ held-cards-there : (c c′ : Clock) (file : List ℕ) (r : Verdict) → CardsPos
 held-cards-there c c′ file r p plain =
     Call.heldLoads {κs = ([], ([], tt))} {clock = lent c} {file = lent file} {r = r} (record { bound = λ w. tt; contract = kept _ _ (p, plain) })
 
-held-station-there : (c c′ : Clock) (latitude : ℤ) (records : List Record) (r : Verdict) → StationPost c latitude records (verdictReturned r) c′ → Plain r
-    → Call c (Station latitude records) (told (verdictReturned r)) c′
-held-station-there c c′ latitude records r p plain =
-    Call.heldStations {κs = ([], ([], tt))} {clock = lent c} {records = lent records} {r = r} (record { bound = λ w. tt; contract = kept _ _ (p, plain) })
+held-station-there : (c c′ : Clock) (s : station.Station) (r : Verdict) → StationPost c s (verdictReturned r) c′ → Plain r → Call c (Station s) (told (verdictReturned r)) c′
+held-station-there c c′ s r p plain =
+    Call.heldStations {κs = ([], ([], tt))} {clock = lent c} {records = lent (s .records)} {r = r} (record { bound = λ w. tt; contract = kept _ _ (p, plain) })
 
 held-date-there : (c c′ : Clock) (year month : ℕ) (r : Verdict) → DatePost c year month (verdictReturned r) c′ → Plain r → Call c (Date year month) (told (verdictReturned r)) c′
 held-date-there c c′ year month r p plain =
@@ -240,7 +240,7 @@ each-kind : (c : Clock) → NewPost c → Calls c eachKind eachRefused c
 unfolding recordsFrom namesFrom
 each-kind c p =
     cards-there c c [] (Refused Ended 1) (no-cards c p)
-    then station-there c c (pos 0) [] (Refused NoTable 0) (no-station c p (pos 0) [])
+    then station-there c c aStation (Refused NoTable 0) (no-station c p aStation)
     then date-there c c 1976 7 (Refused NoTable 0) (no-month c p 1976 7)
     then height-there c 0 (height.Refused NoTable 0) (no-height c p 0)
     then series-there c 0 1 (pos 5 ∷ []) (pos 5 ∷ []) (Refused NoTable 0) (no-series c p 0 1 (pos 5 ∷ []))
@@ -249,7 +249,7 @@ each-kind c p =
     then bookings-there c (9 ∷ 0 ∷ []) (pos 5 ∷ []) (pos 5 ∷ []) (Refused NoTable 0) (no-bookings c p (9 ∷ 0 ∷ []) (pos 5 ∷ []))
     then hourly-there c 100_000 (7 ∷ []) (7 ∷ []) (cards.Refused NoTable 0) (no-hourly c p 100_000 (7 ∷ []))
     then held-cards-there c c [] (verdictOf (refused 7 1)) (no-cards c p) refl
-    then held-station-there c c (pos 0) [] (verdictOf (refused 21 0)) (no-station c p (pos 0) []) refl
+    then held-station-there c c aStation (verdictOf (refused 21 0)) (no-station c p aStation) refl
     then held-date-there c c 1976 7 (verdictOf (refused 21 0)) (no-month c p 1976 7) refl
     then held-height-there c 0 (readingOf (refused 21 0)) (no-height c p 0) refl
     then held-series-there c 0 1 (pos 5 ∷ []) (pos 5 ∷ []) (verdictOf (refused 21 0)) (no-series c p 0 1 (pos 5 ∷ [])) refl
@@ -259,7 +259,7 @@ each-kind c p =
     then held-hourly-there c 100_000 (7 ∷ []) (7 ∷ []) (cardsToldOf (refused 21 0)) (no-hourly c p 100_000 (7 ∷ [])) refl
     then lent-height-there c 0 (height.Refused NoTable 0) (no-height c p 0)
     then lent-bookings-there c (9 ∷ 0 ∷ []) (pos 5 ∷ []) (pos 5 ∷ []) (Refused NoTable 0) (no-bookings c p (9 ∷ 0 ∷ []) (pos 5 ∷ []))
-    then placing-there c c (pos 0) 0 noRows (Refused NoTable 0) (no-station c p (pos 0) [])
+    then placing-there c c (pos 0) (aStation .strides) 0 noRows (Refused NoTable 0) (no-station c p aStation)
     then names-there c (record { count = 0; bytes = [] }) (sym (ap namesIn (p .leaves)))
     then held-names-there c (record { count = 0; bytes = [] }) (sym (ap namesIn (p .leaves)))
     then done

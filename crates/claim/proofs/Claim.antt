@@ -13,7 +13,7 @@ use lib.IntN.{ℤ}
 use Rattle.refusals.specs.Outcome.{Outcome, accepted, refused, onAccepted, answered}
 use Rattle.table.specs.Table.{Table}
 use Rattle.card_file.specs.Cards.{cardsOutcome}
-use Rattle.station.specs.declared.records.Record.{Record}
+use Rattle.station.specs.Station as station
 use Rattle.clock.specs.declared.Clock.{Clock}
 use Rattle.calls.specs.State.{Dated, State, some, none}
 use Rattle.calls.specs.Names.{namesIn}
@@ -54,11 +54,9 @@ cards-works l file = by (cardsOutcome file) refl
     by (accepted table) e = rw e
     by (refused number line) e = refl
 
-station-works : (l : Last) (latitude : ℤ) (records : List Record) → stationLeaves (workedOut l) latitude records ≡ workedOut (after l (Station latitude records))
+station-works : (l : Last) (s : station.Station) → stationLeaves (workedOut l) s ≡ workedOut (after l (Station s))
 unfolding stationLeaves after workedOut
-station-works l latitude records =
-    sym (works (stationReturns (workedOut l) latitude records)
-    (record { cards = l .cards; station = some (record { latitude = latitude; records = records }); date = none }) l)
+station-works l s = sym (works (stationReturns (workedOut l) s) (record { cards = l .cards; station = some s; date = none }) l)
 
 date-works : (l : Last) (year month : ℕ) → dateLeaves (workedOut l) year month ≡ workedOut (after l (Date year month))
 unfolding dateLeaves dateReturns after workedOut
@@ -105,12 +103,11 @@ cards-follow {file = file} l h p = (
   record { made = p .made; keeps = p .leaves ∙ ap (λ (k : State). cardsLeaves k file) (h .keeps) ∙ cards-works l file },
 )
 
-station-follows : {c c′ : Clock} {latitude : ℤ} {records : List Record} {returned : Outcome Unit} (l : Last) → Agrees c l → StationPost c latitude records returned c′
-    → Follows l (Station latitude records) (told returned) c′
+station-follows : {c c′ : Clock} {s : station.Station} {returned : Outcome Unit} (l : Last) → Agrees c l → StationPost c s returned c′ → Follows l (Station s) (told returned) c′
 unfolding gives
-station-follows {latitude = latitude} {records = records} l h p = (
-  ap told (p .returns ∙ ap (λ (k : State). stationReturns k latitude records) (h .keeps)),
-  record { made = p .made; keeps = p .leaves ∙ ap (λ (k : State). stationLeaves k latitude records) (h .keeps) ∙ station-works l latitude records },
+station-follows {s = s} l h p = (
+  ap told (p .returns ∙ ap (λ (k : State). stationReturns k s) (h .keeps)),
+  record { made = p .made; keeps = p .leaves ∙ ap (λ (k : State). stationLeaves k s) (h .keeps) ∙ station-works l s },
 )
 
 date-follows : {c c′ : Clock} {year month : ℕ} {returned : Outcome Unit} (l : Last) → Agrees c l → DatePost c year month returned c′ → Follows l (Date year month) (told returned) c′

@@ -6,5 +6,6 @@ pub mod Backed
 pub mod AtEachHeight
 pub mod Hours
 pub mod Carded
+pub mod Usual
 pub mod Zeros
 pub mod Claim

@@ -127,7 +127,7 @@ module _ (t : Maybe Table) (s : Maybe station.Station) (m : Maybe Dated) where
 pub near-call : (l : Last) (q : Request) → AllNear (monthsFor l q) (points q (gives l q))
 unfolding gives
 near-call l (Cards file) = nil
-near-call l (Station latitude records) = nil
+near-call l (Station s) = nil
 near-call l (Date year month) = nil
 near-call l (Hourly number buffer) = nil
 near-call l Names = nil

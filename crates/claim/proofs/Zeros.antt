@@ -20,8 +20,10 @@ use Rattle.cosine.specs.Fixed.{entries}
 use Rattle.table.proofs.Table as TableType
 use Rattle.station.proofs.Station as StationType
 use Rattle.station.proofs.Station.Laws as StationLaws
+use Rattle.station.proofs.strides.Strides as StridesType
+use Rattle.station.proofs.strides.Strides.Laws as StridesLaws
 use Rattle.table.proofs.Table.Laws as TableLaws
-use Rattle.claim.specs.Zeroed.{zeroedTable, zeroedStation, zeroed, zeroOf, ZerosAreZeroed}
+use Rattle.claim.specs.Zeroed.{zeroedTable, zeroedStrides, zeroedStation, zeroed, zeroOf, ZerosAreZeroed}
 
 -- an array of one element that is written again and again
 all-are : (R : RattleType) (x : R .Denot) (v : Val) → Is R x (v ∷ []) → (n : ℕ) → shadow (each (R .Denot) (R .own) (map (λ (y : R .Denot). y) (replicate n x)) (replicate n v))
@@ -49,10 +51,13 @@ i32s-are = array-is (SInt w32) (pos 0) (vint w32 0) (refl, lit< tt)
 
 -- ---- a station, a table and a clock, field by field
 
+strides-are : Is StridesType.the-row zeroedStrides (zeroOf StridesLaws.mir ∷ [])
+strides-are = ((nought w32, (nought w32, (nought w32, tt))), (refl, ((refl, lit< tt), ((refl, lit< tt), ((refl, lit< tt), tt)))))
+
 station-is : Is StationType.the-row zeroedStation (zeroOf StationLaws.mir ∷ [])
 station-is = (
-  (nought w32, (nought w64, (noughts w8 mostRecords, (noughts w16 mostRecords, (noughts w16 mostRecords, tt))))),
-  (refl, ((refl, lit< tt), ((refl, lit< tt), (uints-are w8 tt mostRecords, (uints-are w16 tt mostRecords, (uints-are w16 tt mostRecords, tt)))))),
+  (nought w32, (zeroOf StridesLaws.mir ∷ [], (nought w64, (noughts w8 mostRecords, (noughts w16 mostRecords, (noughts w16 mostRecords, tt)))))),
+  (refl, ((refl, lit< tt), (strides-are, ((refl, lit< tt), (uints-are w8 tt mostRecords, (uints-are w16 tt mostRecords, (uints-are w16 tt mostRecords, tt))))))),
 )
 
 table-is : Is TableType.the-row zeroedTable (zeroOf TableLaws.mir ∷ [])

@@ -19,6 +19,8 @@ use Rattle.refusals.specs.Outcome.{outcomeOf}
 use Rattle.refusals.specs.declared.Answer.{Answer}
 use Rattle.columns.specs.Names.{namesFrom}
 use Rattle.station.specs.declared.records.Record.{Record}
+use Rattle.station.specs.declared.strides.Strides.{Strides}
+use Rattle.station.specs.Station.{stationLent}
 use Rattle.station.specs.declared.records.Rows.{Rows}
 use Rattle.station.specs.Records.{recordsOf}
 use Rattle.hourly.specs.declared.CardsAnswer.{CardsAnswer}
@@ -98,12 +100,12 @@ pub data Call : Clock → Request → Gave → Clock → Type 2 where
       → Once load.ended (λ M. load.clauses) κs (c, (file, tt)) r (tt, (tt, tt))
       → Call c (Cards (now file)) (told (outcomeOf (r .answer))) (r .clock)
   -- a station's records are lent as a row of records, `stations`, or taken apart into plain arrays, `placed`
-  stations : {κs : Lfts 1} {c : Clock} {latitude : ℤ} {records : RefT (List Record)} {r : After}
-      → Once station.ended (λ M. station.clauses) κs (c, (latitude, (records, tt))) r (tt, (tt, (tt, tt)))
-      → Call c (Station latitude (now records)) (told (outcomeOf (r .answer))) (r .clock)
-  placed : {c : Clock} {latitude : ℤ} {n : ℕ} {rows : Rows} {r : After}
-      → Once placing.ended (λ M. placing.clauses) tt (c, (latitude, (n, (rows, tt)))) r (tt, (tt, (tt, (tt, tt))))
-      → Call c (Station latitude (recordsOf rows n)) (told (outcomeOf (r .answer))) (r .clock)
+  stations : {κs : Lfts 1} {c : Clock} {latitude : ℤ} {strides : Strides} {records : RefT (List Record)} {r : After}
+      → Once station.ended (λ M. station.clauses) κs (c, (latitude, (strides, (records, tt)))) r (tt, (tt, (tt, (tt, tt))))
+      → Call c (Station (stationLent latitude strides (now records))) (told (outcomeOf (r .answer))) (r .clock)
+  placed : {c : Clock} {latitude : ℤ} {strides : Strides} {n : ℕ} {rows : Rows} {r : After}
+      → Once placing.ended (λ M. placing.clauses) tt (c, (latitude, (strides, (n, (rows, tt))))) r (tt, (tt, (tt, (tt, (tt, tt)))))
+      → Call c (Station (stationLent latitude strides (recordsOf rows n))) (told (outcomeOf (r .answer))) (r .clock)
   dates : {c : Clock} {year month : ℕ} {r : After}
       → Once date.ended (λ M. date.clauses) tt (c, (year, (month, tt))) r (tt, (tt, (tt, tt)))
       → Call c (Date year month) (told (outcomeOf (r .answer))) (r .clock)
@@ -132,9 +134,9 @@ pub data Call : Clock → Request → Gave → Clock → Type 2 where
   heldLoads : {κs : Lfts 2} {clock : RefT Clock} {file : RefT (List ℕ)} {r : Verdict} {left : Clock}
       → Once heldLoad.ended (λ M. heldLoad.clauses) κs (clock, (file, tt)) r (left, (tt, tt))
       → Call (now clock) (Cards (now file)) (told (verdictReturned r)) left
-  heldStations : {κs : Lfts 2} {clock : RefT Clock} {latitude : ℤ} {records : RefT (List Record)} {r : Verdict} {left : Clock}
-      → Once heldStation.ended (λ M. heldStation.clauses) κs (clock, (latitude, (records, tt))) r (left, (tt, (tt, tt)))
-      → Call (now clock) (Station latitude (now records)) (told (verdictReturned r)) left
+  heldStations : {κs : Lfts 2} {clock : RefT Clock} {latitude : ℤ} {strides : Strides} {records : RefT (List Record)} {r : Verdict} {left : Clock}
+      → Once heldStation.ended (λ M. heldStation.clauses) κs (clock, (latitude, (strides, (records, tt)))) r (left, (tt, (tt, (tt, tt))))
+      → Call (now clock) (Station (stationLent latitude strides (now records))) (told (verdictReturned r)) left
   heldDates : {κs : Lfts 1} {clock : RefT Clock} {year month : ℕ} {r : Verdict} {left : Clock}
       → Once heldDate.ended (λ M. heldDate.clauses) κs (clock, (year, (month, tt))) r (left, (tt, (tt, tt)))
       → Call (now clock) (Date year month) (told (verdictReturned r)) left

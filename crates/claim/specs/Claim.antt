@@ -1,5 +1,5 @@
 -- 01, demand 3: THE CLAIM, as it is proved (proofs/Claim.antt), and what it says of a single height, of a series, of turns, of a year's
--- sheet, of bookings (proofs/AtEachHeight.antt) and of hourly cards (proofs/Carded.antt).
+-- sheet, of bookings (proofs/AtEachHeight.antt), of hourly cards (proofs/Carded.antt) and of the usual strides (proofs/Usual.antt).
 -- Assumes nothing.
 use Prim.Native.Nat.{ℕ, _+_, _*_, _<_, _≤_}
 use mathlib.Core.Bool.{Bool}
@@ -10,12 +10,15 @@ use lib.ListN.{length, getD, take, drop}
 use Rattle.calendar.specs.Calendar.{monthDays}
 use Rattle.heights.specs.Exact.{Near, NearOver}
 use Rattle.refusals.specs.Outcome.{accepted}
+use Rattle.station.specs.Station.{Station}
+use Rattle.station.specs.Strides.{usualStrides}
 use Rattle.hourly.specs.Card.{Entry, value, gap, HourlyCard}
 use Rattle.hourly.specs.Format.{narrow}
 use Rattle.hourly.specs.Writing.{cardsWritten}
 use Rattle.hourly.specs.Reading.{cardsRead}
 use Rattle.calls.specs.State.{some, Dated}
 use Rattle.calls.specs.Hourly.{monthCards}
+use Rattle.calls.specs.Usual.{turnsGives01, yearGives01}
 use Rattle.calls.specs.declared.annual.Sheet.{Sheet}
 use Rattle.clock.specs.declared.Clock.{Clock}
 use Rattle.claim.specs.Document.{Request, Height, Series, Turns, Year, Bookings, Hourly, Gave, predicted, wrote, found, filled, carded, Last, nothing, workedOut, lastConstituents, lastYear, gives, givesAll, lastAfter, EachNear}
@@ -119,3 +122,12 @@ OfHourly =
     (qs : List Request) (gs : List Gave) (number n : ℕ) (buffer left : List ℕ)
     → Claim (qs ++ Hourly number buffer ∷ []) (gs ++ carded (record { returned = accepted n; buffer = left }) ∷ [])
     → Carded (Before qs) number n buffer left
+
+-- ---- 02, No. 6: "With 180, 30 and 360 every turn is what 01 gives": where the station last accepted has these lengths, a search for turns and
+-- a year's sheet give what 01's rule as it stood gives
+pub record AsIn01 (l : Last) : Type 0 where
+  pub turns : (first last : ℕ) (ms : List ℕ) (hs : List ℤ) → gives l (Turns first last ms hs) ≡ found (turnsGives01 (workedOut l) first last ms hs)
+  pub year : (sheet : Sheet) (ss : List ℤ) (ms : List ℕ) (hs : List ℤ) → gives l (Year sheet ss ms hs) ≡ filled (yearGives01 (workedOut l) sheet ss ms hs)
+
+abbrev pub OfUsualStrides : Type 0
+OfUsualStrides = (l : Last) (s : Station) → l .station ≡ some s → s .strides ≡ usualStrides → AsIn01 l

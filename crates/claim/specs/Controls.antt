@@ -9,9 +9,11 @@ use lib.IntN.{ℤ, pos}
 use Rattle.refusals.specs.Outcome.{refused, outcomeOf}
 use Rattle.refusals.specs.declared.Answer.{Answer}
 use Rattle.columns.specs.Names.{namesFrom}
-use Rattle.station.specs.declared.records.Record.{Record}
+use Rattle.station.specs.declared.strides.Strides.{Strides}
 use Rattle.station.specs.declared.records.Rows.{Rows}
 use Rattle.station.specs.Records.{recordsOf}
+use Rattle.station.specs.Station as station
+use Rattle.station.specs.Station.{stationLent}
 use Rattle.hourly.specs.declared.CardsAnswer.{CardsAnswer}
 use Rattle.hourly.specs.Answers.{cardsReturned}
 use Rattle.calls.specs.declared.annual.Sheet.{Sheet}
@@ -33,13 +35,17 @@ use Rattle.claim.specs.Calls.{New, Call, Calls}
 
 -- the calls of the papers, and what a clock with no table gives for them: an empty card file ends inside its first part, 7 at line 1; the others find
 -- no table, 21, and leave the lent places as they were (bookings too, which have a place too few: "31, [..] after the state checks"; and hourly cards,
--- whose station number is over 99999 and whose buffer is too short: 32 to 34 "come after the state checks")
+-- whose station number is over 99999 and whose buffer is too short: 32 to 34 "come after the state checks"; and the station, two of whose strides are
+-- out of range: "A station asks 21" first)
+abbrev pub aStation : station.Station
+aStation = stationLent (pos 0) (record { semidiurnal = 0; mixed = 30; diurnal = 721 }) []
+
 abbrev pub aSheet : Sheet
 aSheet = record { year = 1976; start = 0; step = 1; first = 0; last = 1 }
 
 abbrev each : List Request
 each =
-    Cards [] ∷ Station (pos 0) [] ∷ Date 1976 7 ∷ Height 0 ∷ Series 0 1 (pos 5 ∷ []) ∷ Turns 0 1 (9 ∷ []) (pos 5 ∷ [])
+    Cards [] ∷ Station aStation ∷ Date 1976 7 ∷ Height 0 ∷ Series 0 1 (pos 5 ∷ []) ∷ Turns 0 1 (9 ∷ []) (pos 5 ∷ [])
     ∷ Year aSheet (pos 3 ∷ []) (9 ∷ []) (pos 5 ∷ []) ∷ Bookings (9 ∷ 0 ∷ []) (pos 5 ∷ []) ∷ Hourly 100_000 (7 ∷ []) ∷ []
 
 abbrev refusals : List Gave
@@ -54,7 +60,7 @@ refusals =
 -- a list with each kind of call in it: a call of the papers with the clock by value, and with the clock lent; a height of `clock::height_lent` and
 -- bookings of `clock::bookings_lent`, a station whose records are in arrays, and the names, of which there are none, with the clock by value and lent
 abbrev pub eachKind : List Request
-eachKind = each ++ each ++ Height 0 ∷ Bookings (9 ∷ 0 ∷ []) (pos 5 ∷ []) ∷ Station (pos 0) [] ∷ Names ∷ Names ∷ []
+eachKind = each ++ each ++ Height 0 ∷ Bookings (9 ∷ 0 ∷ []) (pos 5 ∷ []) ∷ Station aStation ∷ Names ∷ Names ∷ []
 
 abbrev pub eachRefused : List Gave
 eachRefused =
@@ -63,10 +69,10 @@ eachRefused =
 pub record Controls : Type 2 where
   pub new : (c : Clock) → NewPost c → New c
   pub cards : (c c′ : Clock) (file : List ℕ) (answer : Answer) → CardsPost c file (outcomeOf answer) c′ → Call c (Cards file) (told (outcomeOf answer)) c′
-  pub station : (c c′ : Clock) (latitude : ℤ) (records : List Record) (answer : Answer) → StationPost c latitude records (outcomeOf answer) c′
-      → Call c (Station latitude records) (told (outcomeOf answer)) c′
-  pub placing : (c c′ : Clock) (latitude : ℤ) (n : ℕ) (rows : Rows) (answer : Answer) → StationPost c latitude (recordsOf rows n) (outcomeOf answer) c′
-      → Call c (Station latitude (recordsOf rows n)) (told (outcomeOf answer)) c′
+  pub station : (c c′ : Clock) (s : station.Station) (answer : Answer) → StationPost c s (outcomeOf answer) c′
+      → Call c (Station s) (told (outcomeOf answer)) c′
+  pub placing : (c c′ : Clock) (latitude : ℤ) (strides : Strides) (n : ℕ) (rows : Rows) (answer : Answer) → StationPost c (stationLent latitude strides (recordsOf rows n)) (outcomeOf answer) c′
+      → Call c (Station (stationLent latitude strides (recordsOf rows n))) (told (outcomeOf answer)) c′
   pub date : (c c′ : Clock) (year month : ℕ) (answer : Answer) → DatePost c year month (outcomeOf answer) c′ → Call c (Date year month) (told (outcomeOf answer)) c′
   pub height : (c : Clock) (minute : ℕ) (answer : HeightAnswer) → HeightPost c minute (heightReturned answer) → Call c (Height minute) (predicted (heightReturned answer)) c
   pub series : (c : Clock) (start step : ℕ) (hs hs′ : List ℤ) (answer : Answer) → SeriesPost c start step hs hs′ (outcomeOf answer)
@@ -83,8 +89,8 @@ pub record Controls : Type 2 where
   -- with the clock lent: c is what is behind the reference
   pub held-new : (c c′ : Clock) → NewPost c′ → New c′
   pub held-cards : (c c′ : Clock) (file : List ℕ) (r : Verdict) → CardsPost c file (verdictReturned r) c′ → Plain r → Call c (Cards file) (told (verdictReturned r)) c′
-  pub held-station : (c c′ : Clock) (latitude : ℤ) (records : List Record) (r : Verdict) → StationPost c latitude records (verdictReturned r) c′ → Plain r
-      → Call c (Station latitude records) (told (verdictReturned r)) c′
+  pub held-station : (c c′ : Clock) (s : station.Station) (r : Verdict) → StationPost c s (verdictReturned r) c′ → Plain r
+      → Call c (Station s) (told (verdictReturned r)) c′
   pub held-date : (c c′ : Clock) (year month : ℕ) (r : Verdict) → DatePost c year month (verdictReturned r) c′ → Plain r → Call c (Date year month) (told (verdictReturned r)) c′
   pub lent-height : (c : Clock) (minute : ℕ) (answer : HeightAnswer) → HeightPost c minute (heightReturned answer) → Call c (Height minute) (predicted (heightReturned answer)) c
   pub held-height : (c : Clock) (minute : ℕ) (r : Reading) → HeightPost c minute (readingReturned r) → PlainReading r → Call c (Height minute) (predicted (readingReturned r)) c

@@ -1,4 +1,4 @@
--- 01, "Heights and turns", demand 3, and 02, No. 1, 3 and 4: what the documents say of a list of calls. Over the calls alone, with all that is lent to them:
+-- 01, "Heights and turns", demand 3, and 02, No. 1, 3, 4 and 6: what the documents say of a list of calls. Over the calls alone, with all that is lent to them:
 -- no clock, and nothing that a program keeps.
 -- Assumes nothing.
 use Prim.{Unit}
@@ -9,7 +9,6 @@ use lib.IntN.{ℤ}
 use Rattle.refusals.specs.Outcome.{Outcome, onAccepted, _>>=_}
 use Rattle.table.specs.Table.{Table}
 use Rattle.card_file.specs.Cards.{cardsOutcome}
-use Rattle.station.specs.declared.records.Record.{Record}
 use Rattle.station.specs.Station as station
 use Rattle.month_prepared.specs.Prepared.{Constituent, Month}
 use Rattle.year.specs.Year.{yearOf}
@@ -29,7 +28,7 @@ use Rattle.calls.specs.Hourly.{hourlyGives}
 -- number; and, though it is no call of the papers and gives nothing of the tide, the clock's handing out of names
 pub data Request : Type 0 where
   Cards : List ℕ → Request
-  Station : ℤ → List Record → Request
+  Station : station.Station → Request
   Date : ℕ → ℕ → Request
   Height : ℕ → Request
   Series : ℕ → ℕ → List ℤ → Request
@@ -88,9 +87,9 @@ workedOut l =
 -- month; an accepted date keeps both [..]. Heights, series, turns and every refused call leave all three as they were."
 unfoldable pub after : Last → Request → Last
 after l (Cards file) = onAccepted (cardsReturns file) (λ _. record { cards = some file; station = none; date = none }) l
-after l (Station latitude records) =
-    onAccepted (stationReturns (workedOut l) latitude records)
-    (λ _. record { cards = l .cards; station = some (record { latitude = latitude; records = records }); date = none }) l
+after l (Station s) =
+    onAccepted (stationReturns (workedOut l) s)
+    (λ _. record { cards = l .cards; station = some s; date = none }) l
 after l (Date year month) =
     onAccepted (dateReturns (workedOut l) year month)
     (λ _. record { cards = l .cards; station = l .station; date = some (record { year = year; month = month }) }) l
@@ -107,7 +106,7 @@ after l Names = l
 -- what the document gives for a call, from what was last accepted before it
 unfoldable pub gives : Last → Request → Gave
 gives l (Cards file) = told (cardsReturns file)
-gives l (Station latitude records) = told (stationReturns (workedOut l) latitude records)
+gives l (Station s) = told (stationReturns (workedOut l) s)
 gives l (Date year month) = told (dateReturns (workedOut l) year month)
 gives l (Height minute) = predicted (heightReturns (workedOut l) minute)
 gives l (Series start step heights) = wrote (seriesGives (workedOut l) start step heights)
@@ -180,7 +179,7 @@ no given = []
 -- "The claim covers each height that a call in the list gives"
 abbrev pub points : Request → Gave → List Point
 points (Cards file) = no
-points (Station latitude records) = no
+points (Station s) = no
 points (Date year month) = no
 points (Height minute) = pointsBy (heightPoints minute) no no no
 points (Series start step heights) = pointsBy no (λ s. seriesPoints start step (s .returned) (s .heights)) no no
@@ -213,7 +212,7 @@ lastYear l year = monthsOn (workedOut l .table) (workedOut l .station) year
 -- the months that the heights of a call belong to: the year's own for a year's sheet, else the prepared one
 abbrev pub monthsFor : Last → Request → List Month
 monthsFor l (Cards file) = preparedMonth (workedOut l .month)
-monthsFor l (Station latitude records) = preparedMonth (workedOut l .month)
+monthsFor l (Station s) = preparedMonth (workedOut l .month)
 monthsFor l (Date year month) = preparedMonth (workedOut l .month)
 monthsFor l (Height minute) = preparedMonth (workedOut l .month)
 monthsFor l (Series start step heights) = preparedMonth (workedOut l .month)

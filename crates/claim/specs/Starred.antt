@@ -17,7 +17,8 @@ use Rattle.month_satellites.specs.Satellites.{mainPair}
 use Rattle.month.specs.Month.{constituent}
 use Rattle.heights.specs.Angle.{angle}
 use Rattle.heights.specs.Height.{heightAt}
-use Rattle.turns.specs.Stride.{strideBy}
+use Rattle.station.specs.Strides.{usualStrides}
+use Rattle.turns.specs.Stride.{strideOf, tidesBy}
 
 pub data Case : Type 0 where
   _gives_ : ℤ → ℤ → Case
@@ -56,9 +57,9 @@ Z0 amplitude lag =
 abbrev alone : ℕ → ℕ → ℕ → ℤ
 alone amplitude lag minute = heightAt (Z0 amplitude lag ∷ []) minute
 
--- "K1+O1 against M2+S2"
+-- "K1+O1 against M2+S2"; 02, No. 6: "With 180, 30 and 360 every turn is what 01 gives."
 abbrev _against_ : ℕ → ℕ → ℤ
-daily against twice = pos (strideBy daily twice)
+daily against twice = pos (strideOf usualStrides (tidesBy daily twice))
 
 infix 5 _against_
 -- The list, for every amplitude A, and heights and advances at every minute.

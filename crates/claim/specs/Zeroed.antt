@@ -13,6 +13,7 @@ use Rattle.limits.specs.Limits.{mostFrequencies, mostMains, mostSatellites, mos
 use Rattle.cosine.specs.Fixed.{entries}
 use Rattle.table.specs.declared.Table.{Table}
 use Rattle.station.specs.declared.Station.{Station}
+use Rattle.station.specs.declared.strides.Strides.{Strides}
 use Rattle.clock.specs.declared.Clock.{Clock}
 use Rattle.clock.proofs.Clock as ClockType
 use Rattle.clock.proofs.Clock.Laws as ClockLaws
@@ -42,8 +43,11 @@ zeroedTable =
       coefficients = signedZeros (4 * mostShallows);
     }
 
+abbrev pub zeroedStrides : Strides
+zeroedStrides = record { semidiurnal = 0; mixed = 0; diurnal = 0 }
+
 abbrev pub zeroedStation : Station
-zeroedStation = record { latitude = pos 0; count = 0; places = zeros mostRecords; amplitudes = zeros mostRecords; lags = zeros mostRecords }
+zeroedStation = record { latitude = pos 0; strides = zeroedStrides; count = 0; places = zeros mostRecords; amplitudes = zeros mostRecords; lags = zeros mostRecords }
 
 abbrev pub zeroed : Clock
 zeroed =

@@ -55,7 +55,7 @@ use Rattle.hourly.specs.Month.{cardsFrom, cardsOf, anyOutside, heightsAsked, by
 use Rattle.turns.specs.Slope.{fall, fallsAt, slopeAt, slopeOver}
 use Rattle.turns.specs.Sense.{rising, differ}
 use Rattle.turns.specs.Search.{turnsFrom}
-use Rattle.turns.specs.Stride.{strideOf}
+use Rattle.turns.specs.Stride.{tidesOf}
 use Rattle.turns.specs.Strides.{amplitudeOf, stationStride}
 use Rattle.turns.specs.Written as written
 use Rattle.calls.specs.State.{Maybe, none, some}
@@ -118,12 +118,6 @@ cards-read = rw (lines-are, frequencies-are, longitudes-are, increases-are, main
 
 -- ---- the station's month
 
-abbrev none-station : Station
-none-station = record { latitude = pos 0; records = [] }
-
-abbrev z0-station : Station
-z0-station = record { latitude = pos 0; records = z0-records }
-
 -- P is 100 × 2^20 / 256
 abbrev z0-month : List Constituent
 z0-month = record { argument = 0; lag = 0; frequency = 0; p = pos 409_600; q = pos 0 } ∷ []
@@ -165,17 +159,17 @@ over-is : heightOver z0-year 0 ≡ pos 100
 unfolding ownerOf
 over-is = height-is 0
 
-stride-is : stationStride table z0-station ≡ 180
-unfolding stationStride strideOf amplitudeOf placeFrom same
+stride-is : stationStride table z0-station ≡ 120
+unfolding stationStride tidesOf amplitudeOf placeFrom same
 stride-is = refl
 
--- three strides come to the end, however many are allowed: all the 360 that a search to minute 360 allows would be too many to compute
-turns-are : (more : ℕ) → turnsFrom (slopeAt z0-month) 180 360 (suc (suc (suc more))) 0 ≡ []
+-- four strides come to the end, however many are allowed: all the 360 that a search to minute 360 allows would be too many to compute
+turns-are : (more : ℕ) → turnsFrom (slopeAt z0-month) 120 360 (suc (suc (suc (suc more)))) 0 ≡ []
 unfolding turnsFrom differ rising slopeAt fallsAt fall angle fixedCosine fixedBase entry base added taken whole term factorial arc unit
 turns-are more = refl
 
 -- .. in the year as in the month
-year-turns-are : (more : ℕ) → turnsFrom (slopeOver z0-year) 180 360 (suc (suc (suc more))) 0 ≡ []
+year-turns-are : (more : ℕ) → turnsFrom (slopeOver z0-year) 120 360 (suc (suc (suc (suc more)))) 0 ≡ []
 unfolding turnsFrom differ rising slopeAt fallsAt fall angle fixedCosine fixedBase entry base added taken whole term factorial arc unit ownerOf
 year-turns-are more = refl
 
@@ -238,13 +232,13 @@ cards-accepted : cardsReturns smallFile ≡ accepted tt
 unfolding cardsReturns
 cards-accepted = rw cards-read
 
-none-accepted : stationReturns (workedOut afterCards) (pos 0) [] ≡ accepted tt
-unfolding stationReturns stationOutcome recordsOutcome
+none-accepted : stationReturns (workedOut afterCards) none-station ≡ accepted tt
+unfolding stationReturns stationOutcome stridesOutside strideOutside recordsOutcome
 none-accepted = rw (table-worked none)
 
 -- whichever station there was
-station-accepted : (s : Maybe Station) → stationReturns (workedOut (record { cards = some smallFile; station = s; date = none })) (pos 0) z0-records ≡ accepted tt
-unfolding stationReturns stationOutcome recordsOutcome recordOutcome isAmong
+station-accepted : (s : Maybe Station) → stationReturns (workedOut (record { cards = some smallFile; station = s; date = none })) z0-station ≡ accepted tt
+unfolding stationReturns stationOutcome stridesOutside strideOutside recordsOutcome recordOutcome isAmong
 station-accepted s = rw (table-worked s)
 
 date-accepted : dateReturns (workedOut afterStation) 1976 7 ≡ accepted tt

@@ -41,6 +41,8 @@ use Rattle.station.proofs.records.Record as RecordType
 use Rattle.station.proofs.records.Record.Laws as RecordLaws
 use Rattle.station.proofs.records.Rows as RowsType
 use Rattle.station.proofs.records.Rows.Laws as RowsLaws
+use Rattle.station.proofs.strides.Strides as StridesType
+use Rattle.station.proofs.strides.Strides.Laws as StridesLaws
 use Rattle.station.specs.Records.{recordsFrom}
 use Rattle.calls.proofs.annual.Sheet as SheetType
 use Rattle.calls.proofs.annual.Sheet.Laws as SheetLaws
@@ -144,6 +146,9 @@ record-lays =
       makes = LL.makes RecordType.the-type RecordLaws.the-plain (w₀ .𝓤) (w₀ .H) (w₀ .𝓖 .A);
       lawful = LL.lawful RecordType.the-type RecordLaws.the-laws (w₀ .𝓤) (w₀ .H) (w₀ .𝓖 .A) W₀;
     }
+
+z0-strides-are : Is StridesType.the-row z0-strides (StridesLaws.lowered z0-strides ∷ [])
+z0-strides-are = LL.owes StridesType.the-type StridesLaws.the-laws z0-strides ((refl, lit< tt), ((refl, lit< tt), ((refl, lit< tt), tt)))
 
 z0-is : Is RecordType.the-row z0-record (RecordLaws.lowered z0-record ∷ [])
 z0-is = LL.owes RecordType.the-type RecordLaws.the-laws z0-record ((refl, lit< tt), ((refl, lit< tt), ((refl, lit< tt), tt)))
@@ -282,19 +287,19 @@ module _ (v : Val) (e : EveryCallEnds v) where
   cards-run =
       ∥∥₁-map (e .loads smallFile fullShare 0 0 (file-has-room, tt) start Rest start-lies) (λ k. (clockIn (k .0), Run.loads (ran-of Rest (file-has-room, tt) start-lies k), refl))
 
-  station-run : Next v (Station (pos 0) []) stationCode.routine
+  station-run : Next v (Station none-station) stationCode.routine
   station-run =
-      let hs : List Handed = value i32 (pos 0) (u 0) ∷ reads RecordType.the-row fullShare [] 0 0 ∷ [] in
-      let fit : Fit hs = ((refl, lit< tt), ((lit< tt, lit< tt), tt)) in
+      let hs : List Handed = value i32 (pos 0) (u 0) ∷ value StridesType.the-row z0-strides (StridesLaws.lowered z0-strides) ∷ reads RecordType.the-row fullShare [] 0 0 ∷ [] in
+      let fit : Fit hs = ((refl, lit< tt), (z0-strides-are, ((lit< tt, lit< tt), tt))) in
       let lies : start ⊨ ⟦ lie hs ⟧₀ ∗ All = lies-too (lie hs) ((tt, tt), tt) ((refl, tt), tt) in
-      ∥∥₁-map (e .stations (pos 0) (u 0) [] fullShare 0 0 fit start All lies) (λ k. (clockIn (k .0), Run.stations {q = fullShare} (ran-of All fit lies k), refl))
+      ∥∥₁-map (e .stations (pos 0) z0-strides (u 0) (StridesLaws.lowered z0-strides) [] fullShare 0 0 fit start All lies) (λ k. (clockIn (k .0), Run.stations {strides = z0-strides} {q = fullShare} (ran-of All fit lies k), refl))
 
-  placing-run : Next v (Station (pos 0) z0-records) placingCode.routine
+  placing-run : Next v (Station z0-station) placingCode.routine
   unfolding recordsFrom
   placing-run =
-      let hs : List Handed = value i32 (pos 0) (u 0) ∷ value usize 1 (vint w64 1) ∷ value RowsType.the-row z0-rows (RowsLaws.lowered z0-rows) ∷ [] in
-      let fit : Fit hs = ((refl, lit< tt), ((refl, lit< tt), (z0-rows-are, tt))) in
-      ∥∥₁-map (e .placed (pos 0) 1 z0-rows (u 0) (vint w64 1) (RowsLaws.lowered z0-rows) fit start All (lies-too ftrue tt tt)) (λ k. (clockIn (k .0), Run.placed {n = 1} {rows = z0-rows} (ran-of All fit (lies-too ftrue tt tt) k), refl))
+      let hs : List Handed = value i32 (pos 0) (u 0) ∷ value StridesType.the-row z0-strides (StridesLaws.lowered z0-strides) ∷ value usize 1 (vint w64 1) ∷ value RowsType.the-row z0-rows (RowsLaws.lowered z0-rows) ∷ [] in
+      let fit : Fit hs = ((refl, lit< tt), (z0-strides-are, ((refl, lit< tt), (z0-rows-are, tt)))) in
+      ∥∥₁-map (e .placed (pos 0) z0-strides 1 z0-rows (u 0) (StridesLaws.lowered z0-strides) (vint w64 1) (RowsLaws.lowered z0-rows) fit start All (lies-too ftrue tt tt)) (λ k. (clockIn (k .0), Run.placed {strides = z0-strides} {n = 1} {rows = z0-rows} (ran-of All fit (lies-too ftrue tt tt) k), refl))
 
   date-run : Next v (Date 1976 7) dateCode.routine
   date-run =
@@ -353,13 +358,13 @@ module _ (v : Val) (e : EveryCallEnds v) where
       let fit : Fit (changes ClockType.the-row v (m .0) 0 ∷ reads u8 fullShare smallFile 0 0 ∷ []) = (file-has-room, tt) in
       ∥∥₁-map (e .heldLoads (m .0) 0 smallFile fullShare 0 0 fit (m .1) Rest (m .2)) (λ k. (clockAt (k .1) (m .0) 0, Run.heldLoads {q = fullShare} (ran-from (m .1) Rest fit (m .2) k), refl)))
 
-  held-station-run : Next v (Station (pos 0) z0-records) heldStationCode.routine
+  held-station-run : Next v (Station z0-station) heldStationCode.routine
   held-station-run =
       ∥∥₁-elim (laid-to-read RecordType.the-row record-lays z0-records (RecordLaws.lowered z0-record ∷ []) (z0-is, tt) [] start All (lies-too ftrue tt tt)) ∥∥₁-prop (λ r.
       ∥∥₁-elim (with-clock (r .1) ⟦ lie (reads RecordType.the-row fullShare z0-records (r .0) 0 ∷ []) ⟧₀ All (r .2)) ∥∥₁-prop (λ m.
-      let fit : Fit (changes ClockType.the-row v (m .0) 0 ∷ value i32 (pos 0) (u 0) ∷ reads RecordType.the-row fullShare z0-records (r .0) 0 ∷ []) = ((refl, lit< tt), ((lit< tt, lit< tt), tt)) in
-      ∥∥₁-map (e .heldStations (m .0) 0 (pos 0) (u 0) z0-records fullShare (r .0) 0 fit (m .1) All (m .2)) (λ k.
-      (clockAt (k .1) (m .0) 0, Run.heldStations {q = fullShare} (ran-from (m .1) All fit (m .2) k), refl))))
+      let fit : Fit (changes ClockType.the-row v (m .0) 0 ∷ value i32 (pos 0) (u 0) ∷ value StridesType.the-row z0-strides (StridesLaws.lowered z0-strides) ∷ reads RecordType.the-row fullShare z0-records (r .0) 0 ∷ []) = ((refl, lit< tt), (z0-strides-are, ((lit< tt, lit< tt), tt))) in
+      ∥∥₁-map (e .heldStations (m .0) 0 (pos 0) z0-strides (u 0) (StridesLaws.lowered z0-strides) z0-records fullShare (r .0) 0 fit (m .1) All (m .2)) (λ k.
+      (clockAt (k .1) (m .0) 0, Run.heldStations {strides = z0-strides} {q = fullShare} (ran-from (m .1) All fit (m .2) k), refl))))
 
   held-date-run : Next v (Date 1976 7) heldDateCode.routine
   held-date-run =

@@ -18,6 +18,7 @@ use contract.Monad.{fact, factI, top}
 use denote.Builtin.{u32}
 use denote.Laws.{Is}
 use borrow.Fn.World.{w₀}
+use Rattle.station.specs.Station.{stationLent}
 use Rattle.refusals.specs.Outcome.{Outcome}
 use Rattle.turns.specs.Written.{TurnsFound}
 use Rattle.clock.specs.declared.Clock.{Clock}
@@ -126,11 +127,11 @@ module _ {vc : Val} (l : Last) (h : Holds vc l) where
   run-gives (loads {file = file} {q = q} {b = b} {o = o} x) =
       ∥∥₁-elim (ran (load-call (h .clock) vc file q b o) (on-value x)) ∥∥₁-prop (λ k.
       ∥∥₁-map (left-anew (k .result) (k .is) (call.loads (k .once))) (λ a. ((k .leaves, a .0 ∙ ap told (sym (after-reads (k .result) (x .value) (k .is)))), a .1)))
-  run-gives (stations {latitude = latitude} {vl = vl} {records = records} {q = q} {b = b} {o = o} x) =
-      ∥∥₁-elim (ran (station-call (h .clock) vc latitude vl records q b o) (on-value x)) ∥∥₁-prop (λ k.
+  run-gives (stations {latitude = latitude} {strides = strides} {vl = vl} {vt = vt} {records = records} {q = q} {b = b} {o = o} x) =
+      ∥∥₁-elim (ran (station-call (h .clock) vc latitude strides vl vt records q b o) (on-value x)) ∥∥₁-prop (λ k.
       ∥∥₁-map (left-anew (k .result) (k .is) (call.stations (k .once))) (λ a. ((k .leaves, a .0 ∙ ap told (sym (after-reads (k .result) (x .value) (k .is)))), a .1)))
-  run-gives (placed {latitude = latitude} {n = n} {rows = rows} {vl = vl} {vn = vn} {vr = vr} x) =
-      ∥∥₁-elim (ran (placing-call (h .clock) vc latitude n rows vl vn vr) (on-value x)) ∥∥₁-prop (λ k.
+  run-gives (placed {latitude = latitude} {strides = strides} {n = n} {rows = rows} {vl = vl} {vt = vt} {vn = vn} {vr = vr} x) =
+      ∥∥₁-elim (ran (placing-call (h .clock) vc latitude strides n rows vl vt vn vr) (on-value x)) ∥∥₁-prop (λ k.
       ∥∥₁-map (left-anew (k .result) (k .is) (call.placed (k .once))) (λ a. ((k .leaves, a .0 ∙ ap told (sym (after-reads (k .result) (x .value) (k .is)))), a .1)))
   run-gives (dates {year = year} {month = month} {vy = vy} {vm = vm} x) =
       ∥∥₁-elim (ran (date-call (h .clock) vc year month vy vm) (on-value x)) ∥∥₁-prop (λ k.
@@ -177,9 +178,9 @@ module _ {vc : Val} (l : Last) (h : Holds vc l) where
       ∥∥₁-map (left-same (call.hands (k .once))) (λ a. ((k .leaves, a .0 ∙ ap named (sym (names-read (k .result) (x .value) (k .is)))), a .1)))
   run-gives (heldLoads {b = b} {o = o} {file = file} {q = q} {b₁ = b₁} {o₁ = o₁} x) =
       ∥∥₁-elim (ran (held-load-call (h .clock) vc (h .is) b o file q b₁ o₁) x) ∥∥₁-prop (λ k. left-there {q = Cards file} x tt (k .result) (k .last .0) (k .is) (k .stand .0) (k .leaves) (call.heldLoads (k .once)))
-  run-gives (heldStations {b = b} {o = o} {latitude = latitude} {vl = vl} {records = records} {q = q} {b₁ = b₁} {o₁ = o₁} x) =
-      ∥∥₁-elim (ran (held-station-call (h .clock) vc (h .is) b o latitude vl records q b₁ o₁) x) ∥∥₁-prop (λ k.
-      left-there {q = Station latitude records} x tt (k .result) (k .last .0) (k .is) (k .stand .0) (k .leaves) (call.heldStations (k .once)))
+  run-gives (heldStations {b = b} {o = o} {latitude = latitude} {strides = strides} {vl = vl} {vt = vt} {records = records} {q = q} {b₁ = b₁} {o₁ = o₁} x) =
+      ∥∥₁-elim (ran (held-station-call (h .clock) vc (h .is) b o latitude strides vl vt records q b₁ o₁) x) ∥∥₁-prop (λ k.
+      left-there {q = Station (stationLent latitude strides records)} x tt (k .result) (k .last .0) (k .is) (k .stand .0) (k .leaves) (call.heldStations (k .once)))
   run-gives (heldDates {b = b} {o = o} {year = year} {month = month} {vy = vy} {vm = vm} x) =
       ∥∥₁-elim (ran (held-date-call (h .clock) vc (h .is) b o year month vy vm) x) ∥∥₁-prop (λ k. left-there {q = Date year month} x tt (k .result) (k .last .0) (k .is) (k .stand .0) (k .leaves) (call.heldDates (k .once)))
   run-gives (lentHeights {s = s} {b = b} {o = o} {minute = minute} {vm = vm} x) =
@@ -241,8 +242,8 @@ module _ {vc : Val} (l : Last) (h : Holds vc l) where
   every-call-ends =
       record {
         loads = λ file q b o. ends-on (load-call (h .clock) vc file q b o);
-        stations = λ latitude vl records q b o. ends-on (station-call (h .clock) vc latitude vl records q b o);
-        placed = λ latitude n rows vl vn vr. ends-on (placing-call (h .clock) vc latitude n rows vl vn vr);
+        stations = λ latitude strides vl vt records q b o. ends-on (station-call (h .clock) vc latitude strides vl vt records q b o);
+        placed = λ latitude strides n rows vl vt vn vr. ends-on (placing-call (h .clock) vc latitude strides n rows vl vt vn vr);
         dates = λ year month vy vm. ends-on (date-call (h .clock) vc year month vy vm);
         heights = λ minute vm. ends-on (height-call (h .clock) vc minute vm);
         serieses = λ start step vs vt hs b o. ends-on (series-call (h .clock) vc start step vs vt hs b o);
@@ -253,7 +254,7 @@ module _ {vc : Val} (l : Last) (h : Holds vc l) where
         hands = ends-on (names-call (h .clock) vc);
         laid = laid ClockType.the-row (clock-means (h .clock) vc (h .is)) clock-lawful;
         heldLoads = λ b o file q b₁ o₁. ends-lent (held-load-call (h .clock) vc (h .is) b o file q b₁ o₁);
-        heldStations = λ b o latitude vl records q b₁ o₁. ends-lent (held-station-call (h .clock) vc (h .is) b o latitude vl records q b₁ o₁);
+        heldStations = λ b o latitude strides vl vt records q b₁ o₁. ends-lent (held-station-call (h .clock) vc (h .is) b o latitude strides vl vt records q b₁ o₁);
         heldDates = λ b o year month vy vm. ends-lent (held-date-call (h .clock) vc (h .is) b o year month vy vm);
         lentHeights = λ s b o minute vm. ends-lent (lent-height-call (h .clock) vc (h .is) s b o minute vm);
         heldHeights = λ s b o minute vm. ends-lent (held-height-call (h .clock) vc (h .is) s b o minute vm);

@@ -18,9 +18,12 @@ use denote.Triple.Clauses.{Ended}
 use borrow.Fn.World.{w₀}
 use Rattle.station.specs.declared.records.Record.{Record}
 use Rattle.station.specs.declared.records.Rows.{Rows}
+use Rattle.station.specs.declared.strides.Strides.{Strides}
 use Rattle.station.proofs.records.Record as RecordType
 use Rattle.station.proofs.records.Rows as RowsType
 use Rattle.station.proofs.records.Rows.Laws as RowsLaws
+use Rattle.station.proofs.strides.Strides as StridesType
+use Rattle.station.proofs.strides.Strides.Laws as StridesLaws
 use Rattle.calls.specs.declared.annual.Sheet.{Sheet}
 use Rattle.calls.proofs.annual.Sheet as SheetType
 use Rattle.calls.proofs.annual.Sheet.Laws as SheetLaws
@@ -117,6 +120,9 @@ clock-lawful = LL.lawful ClockType.the-type ClockLaws.the-laws (w₀ .𝓤) (w�
 pub rows-make : Makes (w₀ .𝓤) (w₀ .H) (w₀ .𝓖 .A) RowsType.the-row (Is RowsType.the-row)
 rows-make = LL.makes RowsType.the-type RowsLaws.the-plain (w₀ .𝓤) (w₀ .H) (w₀ .𝓖 .A)
 
+pub strides-make : Makes (w₀ .𝓤) (w₀ .H) (w₀ .𝓖 .A) StridesType.the-row (Is StridesType.the-row)
+strides-make = LL.makes StridesType.the-type StridesLaws.the-plain (w₀ .𝓤) (w₀ .H) (w₀ .𝓖 .A)
+
 pub sheet-makes : Makes (w₀ .𝓤) (w₀ .H) (w₀ .𝓖 .A) SheetType.the-row (Is SheetType.the-row)
 sheet-makes = LL.makes SheetType.the-type SheetLaws.the-plain (w₀ .𝓤) (w₀ .H) (w₀ .𝓖 .A)
 
@@ -167,27 +173,27 @@ module _ (c : Clock) (vc : Val) where
         takes = record { enters = λ ns. ((lifetimes all ns, wholes all, tt, denotes 0 all tt ns, valuesOf 0 all ns), (λ w. tt), refl, refl, refl); writes = λ ns ws. (tt, refl) };
       }
 
-  unfoldable pub station-call : (latitude : ℤ) (vl : Val) (records : List Record) (q : Share) (b o : ℕ) → Callable c stationCode.routine (clock ∷ value i32 latitude vl ∷ reads RecordType.the-row q records b o ∷ [])
-  station-call latitude vl records q b o =
-      let all : List Handed = clock ∷ value i32 latitude vl ∷ reads RecordType.the-row q records b o ∷ [] in
+  unfoldable pub station-call : (latitude : ℤ) (strides : Strides) (vl vt : Val) (records : List Record) (q : Share) (b o : ℕ) → Callable c stationCode.routine (clock ∷ value i32 latitude vl ∷ value StridesType.the-row strides vt ∷ reads RecordType.the-row q records b o ∷ [])
+  station-call latitude strides vl vt records q b o =
+      let all : List Handed = clock ∷ value i32 latitude vl ∷ value StridesType.the-row strides vt ∷ reads RecordType.the-row q records b o ∷ [] in
       record {
         ended = station.ended;
         clauses = λ M. station.clauses;
         met = λ M. stationMet.met;
         meant = tt;
-        makes = (clock-makes, (i32-makes, tt));
+        makes = (clock-makes, (i32-makes, (strides-make, tt)));
         takes = record { enters = λ ns. ((lifetimes all ns, wholes all, tt, denotes 0 all tt ns, valuesOf 0 all ns), (λ w. tt), refl, refl, refl); writes = λ ns ws. (tt, refl) };
       }
 
-  unfoldable pub placing-call : (latitude : ℤ) (n : ℕ) (rows : Rows) (vl vn vr : Val) → Callable c placingCode.routine (clock ∷ value i32 latitude vl ∷ value usize n vn ∷ value RowsType.the-row rows vr ∷ [])
-  placing-call latitude n rows vl vn vr =
-      let all : List Handed = clock ∷ value i32 latitude vl ∷ value usize n vn ∷ value RowsType.the-row rows vr ∷ [] in
+  unfoldable pub placing-call : (latitude : ℤ) (strides : Strides) (n : ℕ) (rows : Rows) (vl vt vn vr : Val) → Callable c placingCode.routine (clock ∷ value i32 latitude vl ∷ value StridesType.the-row strides vt ∷ value usize n vn ∷ value RowsType.the-row rows vr ∷ [])
+  placing-call latitude strides n rows vl vt vn vr =
+      let all : List Handed = clock ∷ value i32 latitude vl ∷ value StridesType.the-row strides vt ∷ value usize n vn ∷ value RowsType.the-row rows vr ∷ [] in
       record {
         ended = placing.ended;
         clauses = λ M. placing.clauses;
         met = λ M. placingMet.met;
         meant = tt;
-        makes = (clock-makes, (i32-makes, (usize-makes, (rows-make, tt))));
+        makes = (clock-makes, (i32-makes, (strides-make, (usize-makes, (rows-make, tt)))));
         takes = record { enters = λ ns. ((lifetimes all ns, wholes all, tt, denotes 0 all tt ns, valuesOf 0 all ns), (λ w. tt), refl, refl, refl); writes = λ ns ws. (tt, refl) };
       }
 
@@ -310,15 +316,15 @@ module _ (c : Clock) (vc : Val) (is : Is ClockType.the-row c (vc ∷ [])) where
         takes = record { enters = λ ns. ((lifetimes all ns, wholes all, tt, denotes 0 all (clock-means, tt) ns, valuesOf 0 all ns), (λ w. tt), refl, refl, refl); writes = λ ns ws. ((ws .0, tt), refl) };
       }
 
-  unfoldable pub held-station-call : (b o : ℕ) (latitude : ℤ) (vl : Val) (records : List Record) (q : Share) (b₁ o₁ : ℕ) → Callable c heldStationCode.routine (changes ClockType.the-row vc b o ∷ value i32 latitude vl ∷ reads RecordType.the-row q records b₁ o₁ ∷ [])
-  held-station-call b o latitude vl records q b₁ o₁ =
-      let all : List Handed = changes ClockType.the-row vc b o ∷ value i32 latitude vl ∷ reads RecordType.the-row q records b₁ o₁ ∷ [] in
+  unfoldable pub held-station-call : (b o : ℕ) (latitude : ℤ) (strides : Strides) (vl vt : Val) (records : List Record) (q : Share) (b₁ o₁ : ℕ) → Callable c heldStationCode.routine (changes ClockType.the-row vc b o ∷ value i32 latitude vl ∷ value StridesType.the-row strides vt ∷ reads RecordType.the-row q records b₁ o₁ ∷ [])
+  held-station-call b o latitude strides vl vt records q b₁ o₁ =
+      let all : List Handed = changes ClockType.the-row vc b o ∷ value i32 latitude vl ∷ value StridesType.the-row strides vt ∷ reads RecordType.the-row q records b₁ o₁ ∷ [] in
       record {
         ended = heldStation.ended;
         clauses = λ M. heldStation.clauses;
         met = λ M. heldStationMet.met;
         meant = (clock-means, tt);
-        makes = (clock-makes, (i32-makes, tt));
+        makes = (clock-makes, (i32-makes, (strides-make, tt)));
         takes = record { enters = λ ns. ((lifetimes all ns, wholes all, tt, denotes 0 all (clock-means, tt) ns, valuesOf 0 all ns), (λ w. tt), refl, refl, refl); writes = λ ns ws. ((ws .0, tt), refl) };
       }
 

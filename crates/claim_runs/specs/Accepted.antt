@@ -94,6 +94,16 @@ z0-record = record { place = 0; amplitude = 100; phase = 0 }
 abbrev pub z0-records : List Record
 z0-records = z0-record ∷ []
 
+-- stride lengths of its own, the least and the largest among them
+abbrev pub z0-strides : Strides
+z0-strides = record { semidiurnal = 120; mixed = 1; diurnal = 720 }
+
+abbrev pub z0-station : Station
+z0-station = stationLent (pos 0) z0-strides z0-records
+
+abbrev pub none-station : Station
+none-station = stationLent (pos 0) z0-strides []
+
 -- the year 1976, its series and its search from midnight on 1 January
 abbrev pub year-sheet : Sheet
 year-sheet = record { year = 1976; start = 0; step = 1; first = 0; last = 360 }
@@ -127,8 +137,8 @@ cardsGiven = carded (record { returned = accepted 4_278; buffer = julyCards ++ s
 abbrev pub acceptedCalls : List Request
 acceptedCalls =
     Cards smallFile
-    ∷ Station (pos 0) []
-    ∷ Station (pos 0) z0-records
+    ∷ Station none-station
+    ∷ Station z0-station
     ∷ Date 1976 7
     ∷ Height 0
     ∷ Series 0 1 []
@@ -138,7 +148,7 @@ acceptedCalls =
     ∷ cardsAsked
     ∷ Names
     ∷ Cards smallFile
-    ∷ Station (pos 0) z0-records
+    ∷ Station z0-station
     ∷ Date 1976 7
     ∷ Height 0
     ∷ Height 0

@@ -12,8 +12,10 @@ use denote.Builtin.{u8, u32, i32, i64, usize}
 use denote.Laws.{Is}
 use Rattle.station.specs.declared.records.Record.{Record}
 use Rattle.station.specs.declared.records.Rows.{Rows}
+use Rattle.station.specs.declared.strides.Strides.{Strides}
 use Rattle.station.proofs.records.Record as RecordType
 use Rattle.station.proofs.records.Rows as RowsType
+use Rattle.station.proofs.strides.Strides as StridesType
 use Rattle.calls.specs.declared.annual.Sheet.{Sheet}
 use Rattle.calls.proofs.annual.Sheet as SheetType
 use Rattle.clock.specs.declared.Clock.{Clock}
@@ -68,8 +70,8 @@ Returns f front handed =
 -- each routine does, on the clock's value vc; and that value can be laid into memory, beside all else that is there, to be lent
 pub record EveryCallEnds (vc : Val) : Type 2 where
   pub loads : (file : List ℕ) (q : Share) (b o : ℕ) → Returns loadCode.routine (vc ∷ []) (reads u8 q file b o ∷ [])
-  pub stations : (latitude : ℤ) (vl : Val) (records : List Record) (q : Share) (b o : ℕ) → Returns stationCode.routine (vc ∷ []) (value i32 latitude vl ∷ reads RecordType.the-row q records b o ∷ [])
-  pub placed : (latitude : ℤ) (n : ℕ) (rows : Rows) (vl vn vr : Val) → Returns placingCode.routine (vc ∷ []) (value i32 latitude vl ∷ value usize n vn ∷ value RowsType.the-row rows vr ∷ [])
+  pub stations : (latitude : ℤ) (strides : Strides) (vl vt : Val) (records : List Record) (q : Share) (b o : ℕ) → Returns stationCode.routine (vc ∷ []) (value i32 latitude vl ∷ value StridesType.the-row strides vt ∷ reads RecordType.the-row q records b o ∷ [])
+  pub placed : (latitude : ℤ) (strides : Strides) (n : ℕ) (rows : Rows) (vl vt vn vr : Val) → Returns placingCode.routine (vc ∷ []) (value i32 latitude vl ∷ value StridesType.the-row strides vt ∷ value usize n vn ∷ value RowsType.the-row rows vr ∷ [])
   pub dates : (year month : ℕ) (vy vm : Val) → Returns dateCode.routine (vc ∷ []) (value u32 year vy ∷ value u32 month vm ∷ [])
   pub heights : (minute : ℕ) (vm : Val) → Returns heightCode.routine (vc ∷ []) (value u32 minute vm ∷ [])
   pub serieses : (start step : ℕ) (vs vt : Val) (hs : List ℤ) (b o : ℕ) → Returns seriesCode.routine (vc ∷ []) (value u32 start vs ∷ value u32 step vt ∷ writes i64 hs b o ∷ [])
@@ -82,8 +84,8 @@ pub record EveryCallEnds (vc : Val) : Type 2 where
   pub hands : Returns namesCode.routine (vc ∷ []) []
   pub laid : (σ : Memory) (F : Assertion) → σ ⊨ F → ∥ ((b : ℕ) × (σ′ : Memory) × (σ′ ⊨ ⟦ At ClockType.the-row fullShare vc b 0 ⟧₀ ∗ F)) ∥₁
   pub heldLoads : (b o : ℕ) (file : List ℕ) (q : Share) (b₁ o₁ : ℕ) → Returns heldLoadCode.routine [] (changes ClockType.the-row vc b o ∷ reads u8 q file b₁ o₁ ∷ [])
-  pub heldStations : (b o : ℕ) (latitude : ℤ) (vl : Val) (records : List Record) (q : Share) (b₁ o₁ : ℕ)
-      → Returns heldStationCode.routine [] (changes ClockType.the-row vc b o ∷ value i32 latitude vl ∷ reads RecordType.the-row q records b₁ o₁ ∷ [])
+  pub heldStations : (b o : ℕ) (latitude : ℤ) (strides : Strides) (vl vt : Val) (records : List Record) (q : Share) (b₁ o₁ : ℕ)
+      → Returns heldStationCode.routine [] (changes ClockType.the-row vc b o ∷ value i32 latitude vl ∷ value StridesType.the-row strides vt ∷ reads RecordType.the-row q records b₁ o₁ ∷ [])
   pub heldDates : (b o year month : ℕ) (vy vm : Val) → Returns heldDateCode.routine [] (changes ClockType.the-row vc b o ∷ value u32 year vy ∷ value u32 month vm ∷ [])
   pub lentHeights : (s : Share) (b o minute : ℕ) (vm : Val) → Returns lentHeightCode.routine [] (sees ClockType.the-row s vc b o ∷ value u32 minute vm ∷ [])
   pub heldHeights : (s : Share) (b o minute : ℕ) (vm : Val) → Returns heldHeightCode.routine [] (sees ClockType.the-row s vc b o ∷ value u32 minute vm ∷ [])

@@ -13,9 +13,12 @@ use denote.Builtin.{u8, u32, i32, i64, usize}
 use denote.Laws.{Is}
 use Rattle.station.specs.declared.records.Record.{Record}
 use Rattle.station.specs.declared.records.Rows.{Rows}
+use Rattle.station.specs.declared.strides.Strides.{Strides}
+use Rattle.station.specs.Station.{stationLent}
 use Rattle.station.specs.Records.{recordsOf}
 use Rattle.station.proofs.records.Record as RecordType
 use Rattle.station.proofs.records.Rows as RowsType
+use Rattle.station.proofs.strides.Strides as StridesType
 use Rattle.calls.specs.declared.annual.Sheet.{Sheet}
 use Rattle.calls.proofs.annual.Sheet as SheetType
 use Rattle.clock.specs.declared.Clock.{Clock}
@@ -62,12 +65,12 @@ pub data Run : Val → Request → Val → Type 2 where
   loads : {vc : Val} {file : List ℕ} {q : Share} {b o : ℕ}
       → (x : Ran loadCode.routine (vc ∷ []) (reads u8 q file b o ∷ []))
       → Run vc (Cards file) (clockIn (x .value))
-  stations : {vc : Val} {latitude : ℤ} {vl : Val} {records : List Record} {q : Share} {b o : ℕ}
-      → (x : Ran stationCode.routine (vc ∷ []) (value i32 latitude vl ∷ reads RecordType.the-row q records b o ∷ []))
-      → Run vc (Station latitude records) (clockIn (x .value))
-  placed : {vc : Val} {latitude : ℤ} {n : ℕ} {rows : Rows} {vl vn vr : Val}
-      → (x : Ran placingCode.routine (vc ∷ []) (value i32 latitude vl ∷ value usize n vn ∷ value RowsType.the-row rows vr ∷ []))
-      → Run vc (Station latitude (recordsOf rows n)) (clockIn (x .value))
+  stations : {vc : Val} {latitude : ℤ} {strides : Strides} {vl vt : Val} {records : List Record} {q : Share} {b o : ℕ}
+      → (x : Ran stationCode.routine (vc ∷ []) (value i32 latitude vl ∷ value StridesType.the-row strides vt ∷ reads RecordType.the-row q records b o ∷ []))
+      → Run vc (Station (stationLent latitude strides records)) (clockIn (x .value))
+  placed : {vc : Val} {latitude : ℤ} {strides : Strides} {n : ℕ} {rows : Rows} {vl vt vn vr : Val}
+      → (x : Ran placingCode.routine (vc ∷ []) (value i32 latitude vl ∷ value StridesType.the-row strides vt ∷ value usize n vn ∷ value RowsType.the-row rows vr ∷ []))
+      → Run vc (Station (stationLent latitude strides (recordsOf rows n))) (clockIn (x .value))
   dates : {vc : Val} {year month : ℕ} {vy vm : Val}
       → (x : Ran dateCode.routine (vc ∷ []) (value u32 year vy ∷ value u32 month vm ∷ []))
       → Run vc (Date year month) (clockIn (x .value))
@@ -94,9 +97,9 @@ pub data Run : Val → Request → Val → Type 2 where
   heldLoads : {vc : Val} {b o : ℕ} {file : List ℕ} {q : Share} {b₁ o₁ : ℕ}
       → (x : Ran heldLoadCode.routine [] (changes ClockType.the-row vc b o ∷ reads u8 q file b₁ o₁ ∷ []))
       → Run vc (Cards file) (clockAt (x .left) b o)
-  heldStations : {vc : Val} {b o : ℕ} {latitude : ℤ} {vl : Val} {records : List Record} {q : Share} {b₁ o₁ : ℕ}
-      → (x : Ran heldStationCode.routine [] (changes ClockType.the-row vc b o ∷ value i32 latitude vl ∷ reads RecordType.the-row q records b₁ o₁ ∷ []))
-      → Run vc (Station latitude records) (clockAt (x .left) b o)
+  heldStations : {vc : Val} {b o : ℕ} {latitude : ℤ} {strides : Strides} {vl vt : Val} {records : List Record} {q : Share} {b₁ o₁ : ℕ}
+      → (x : Ran heldStationCode.routine [] (changes ClockType.the-row vc b o ∷ value i32 latitude vl ∷ value StridesType.the-row strides vt ∷ reads RecordType.the-row q records b₁ o₁ ∷ []))
+      → Run vc (Station (stationLent latitude strides records)) (clockAt (x .left) b o)
   heldDates : {vc : Val} {b o : ℕ} {year month : ℕ} {vy vm : Val}
       → (x : Ran heldDateCode.routine [] (changes ClockType.the-row vc b o ∷ value u32 year vy ∷ value u32 month vm ∷ []))
       → Run vc (Date year month) (clockAt (x .left) b o)

@@ -4,6 +4,7 @@ ghost use Rattle.refusals.specs.Outcome.{outcomeOf};
 ghost use Rattle.clock.specs.View.{Made};
 ghost use Rattle.clock.specs.Posts.{CardsPost, StationPost, DatePost, SeriesPost, TurnsPost, YearPost, HourlyPost};
 ghost use Rattle.station.specs.Records.{recordsOf};
+ghost use Rattle.station.specs.Station.{stationLent};
 ghost use Rattle.cuvalimodo_c.specs.Answers.{verdictReturned, turningsReturned, cardsTold, Plain, PlainTurnings, PlainCards};
 use crate::answers;
 use crate::answers::Cards;
@@ -13,6 +14,7 @@ use calls::annual::Sheet;
 use clock::After;
 use clock::Clock;
 use station::records::Rows;
+use station::strides::Strides;
 
 // What a call says, and the clock as it leaves it.
 pub struct Left {
@@ -39,11 +41,11 @@ pub fn load_cards(clock: Clock, file: &[u8]) -> Left
 }
 
 // A station whose records are taken apart.
-pub fn place_station(clock: Clock, latitude: i32, n: usize, rows: Rows) -> Left
+pub fn place_station(clock: Clock, latitude: i32, strides: Strides, n: usize, rows: Rows) -> Left
     requires { ⌜ Made clock ⌝ }
-    ensures { λ r. ⌜ StationPost clock latitude (recordsOf rows n) (verdictReturned (r .verdict)) (r .clock) × Plain (r .verdict) ⌝ }
+    ensures { λ r. ⌜ StationPost clock (stationLent latitude strides (recordsOf rows n)) (verdictReturned (r .verdict)) (r .clock) × Plain (r .verdict) ⌝ }
 {
-    in_numbers(clock::place_station(clock, latitude, n, rows))
+    in_numbers(clock::place_station(clock, latitude, strides, n, rows))
 }
 
 // A date.

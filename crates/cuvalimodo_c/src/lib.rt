@@ -11,6 +11,7 @@ ghost use Rattle.card_file.specs.Counts.{countsOf};
 ghost use Rattle.refusal_words.specs.Words.{wordsOf, bytesOf, zerosBehind};
 ghost use Rattle.columns.specs.Names.{namesFrom};
 ghost use Rattle.calls.specs.Names.{namesIn};
+ghost use Rattle.station.specs.Station.{stationLent};
 ghost use Rattle.clock.specs.View.{view, Made};
 ghost use Rattle.clock.specs.Posts.{NewPost, CardsPost, StationPost, DatePost, HeightPost, SeriesPost, TurnsPost, YearPost, BookingsPost, HourlyPost};
 ghost use Rattle.cuvalimodo_c.specs.Answers.{verdictReturned, readingReturned, turningsReturned, cardsTold, Plain, PlainReading, PlainTurnings, PlainCards};
@@ -29,6 +30,7 @@ use clock::Clock;
 use clock::TableNames;
 use station::records;
 use station::records::Record;
+use station::strides::Strides;
 
 // A card file is checked: what it comes to.
 #[no_mangle]
@@ -57,19 +59,20 @@ pub extern "C" fn cuvalimodo_load_cards(clock: &mut Clock, file: &[u8]) -> Verdi
     after.verdict
 }
 
-// A station: a latitude and the records of its constituents. It keeps the table and drops the month; or it is refused.
+// A station: a latitude, its stride lengths and the records of its constituents. It keeps the table and drops the month; or it is refused.
 #[no_mangle]
 pub extern "C" fn cuvalimodo_set_station(
     clock: &mut Clock,
     latitude: i32,
+    strides: Strides,
     records: &[Record],
 ) -> Verdict
     requires { ⌜ Made (now clock) ⌝ }
-    ensures { λ r. ⌜ StationPost (now (clock .entry)) latitude (now (records .entry)) (verdictReturned r) (now (clock .exit)) × Plain r ⌝ }
+    ensures { λ r. ⌜ StationPost (now (clock .entry)) (stationLent latitude strides (now (records .entry))) (verdictReturned r) (now (clock .exit)) × Plain r ⌝ }
 {
     let n = records.len();
     let rows = records::rows_of(records);
-    let after = byvalue::place_station(*clock, latitude, n, rows);
+    let after = byvalue::place_station(*clock, latitude, strides, n, rows);
     *clock = after.clock;
     after.verdict
 }
