@@ -33,7 +33,7 @@ static size_t depth(void (*f)(void)) {
 
 static void nothing(void) { number = 0; }
 static void cards(void) { number = cuvalimodo_load_cards(&w.clock, (const uint8_t *)w.file, w.length).number; }
-static void station(void) { number = cuvalimodo_set_station(&w.clock, w.station.latitude, w.records, (size_t)w.station.count).number; }
+static void station(void) { number = cuvalimodo_set_station(&w.clock, w.station.latitude, CUVALIMODO_USUAL_STRIDES, w.records, (size_t)w.station.count).number; }
 static void date(void) { number = cuvalimodo_set_date(&w.clock, w.year, w.month).number; }
 static void single_height(void) { number = cuvalimodo_height(&w.clock, 1).number; }
 static void bookings(void) { number = cuvalimodo_bookings(&w.clock, booked, BOOKED, heights, BOOKED).number; }

@@ -59,7 +59,8 @@ void set_work(struct work *w, const char *file, size_t length, int latitude, int
     if (w->station.count < count) fail("the card file has too few constituents");
     if (peer_prepare(&w->prepared, &w->table, &w->station, year, month).number) fail("the peer refuses the month");
     if (cuvalimodo_load_cards(&w->clock, (const uint8_t *)file, length).number) fail("the clock refuses the card file");
-    if (cuvalimodo_set_station(&w->clock, latitude, w->records, (size_t)w->station.count).number) fail("the clock refuses the station");
+    cuvalimodo_verdict said = cuvalimodo_set_station(&w->clock, latitude, CUVALIMODO_USUAL_STRIDES, w->records, (size_t)w->station.count);
+    if (said.number) fail("the clock refuses the station");
     if (cuvalimodo_set_date(&w->clock, year, month).number) fail("the clock refuses the month");
 }
 

@@ -1,8 +1,9 @@
 """Has the players of all languages play the second code's scripts: python3 bindings/compare.py NAME=COMMAND ...
 
-The scripts are 200 of about 100 calls, generated from a seed; replay's own; those of tools/malformed.py; and six made here, of numbers at the ends
-of their types, buffers of every size, whole years, bookings, hourly cards, and card files of every kind. A player gets all of them as files in one run.
-Every byte of each answer must be the second code's, and every refusal must come up, also every one that a year, bookings or hourly cards can have.
+The scripts are 200 of about 100 calls, generated from a seed; replay's own; those of tools/malformed.py; stations not of the form; and seven made here,
+of numbers at the ends of their types, buffers of every size, whole years, bookings, hourly cards, strides, and card files of every kind. A player gets all of
+them as files in one run. Every byte of each answer must be the second code's, and every refusal must come up, also every one that a station, a year, bookings
+or hourly cards can have.
 """
 
 import collections
@@ -18,18 +19,20 @@ sys.path.insert(0, os.path.join(ROOT, "tools"))
 import compare_many  # noqa: E402
 import malformed  # noqa: E402
 import replay_example  # noqa: E402
+from berths import MALFORMED as MALFORMED_STATIONS  # noqa: E402
 from bookings import call as bookings_call  # noqa: E402
 from cards import read_card_file  # noqa: E402
 from decks import STILLS, still_file  # noqa: E402
 from generate import cards_call  # noqa: E402
 from hours import AMPLITUDE, HIGHEST, LOWEST  # noqa: E402
-from replay_example import CARDS, LAST, station  # noqa: E402
+from replay_example import CARDS, LAST, PLACES, station  # noqa: E402
 from replayed import parted  # noqa: E402
 
 SEED, COUNT = 1, 200
 LARGEST = 4_294_967_295
 YEAR = 366 * 1_440
-REFUSALS = [*range(1, 12), *range(21, 24), *range(31, 35)]
+REFUSALS = [*range(1, 12), *range(21, 24), *range(31, 36)]
+STATION_REFUSALS = [3, 4, 5, 6, 21, 35]
 YEAR_REFUSALS = [8, 9, 10, 11, 21, 22]
 BOOKINGS_REFUSALS = [9, 21, 22, 23, 31]
 HOURLY_REFUSALS = [21, 22, 23, 32, 33, 34]
@@ -136,6 +139,41 @@ def hourly():
     yield from levels()
 
 
+def strides_station(latitude, records, strides):
+    return call(b"station", latitude, len(records), *strides) + b"".join(call(b"%d" % place, *rest) for place, *rest in records)
+
+
+def each_with(strides, lengths):
+    """Copies of three strides with each of some lengths at each of the three places."""
+    return [(*strides[:place], length, *strides[place + 1 :]) for length in lengths for place in range(3)]
+
+
+def berths():
+    """A berth with a double high water, on a line with strides and on one without; strides outside their range alone, beside other faults and without a
+    table, with a search after each that says that the old station stays; then tides of every class and at the classes' limits, with strides that tell the
+    three places from each other."""
+    latitude, records = victoria()
+    double = [(PLACES["M2"], 9_000, 0), (PLACES["M4"], 2_500, 18_000)]
+    search, whole = call(b"turns", 0, 4_320, 99, 99), call(b"turns", 0, LAST, 300, 300)
+    early = [strides_station(latitude, double, (20, 30, 360)), strides_station(5_401, double, (0, 0, 0)), station(latitude, double)]
+    yield from (*early, cards_call(CARDS))
+    for set_berth in (station(latitude, double), *(strides_station(latitude, double, (length, 30, 360)) for length in (180, 20, 1))):
+        yield from (set_berth, call(b"date", 1976, 7), whole, call(b"year", 1976, 0, 60, 9, 300_000, 309_000, 99, 99))
+    for strides in each_with((20, 30, 360), (0, 721, 722, 1_440, 65_536 + 20, 2**31 + 20, LARGEST)):
+        yield strides_station(latitude, double, strides) + search
+    for faulty in ((5_401, double), (latitude, [(0, 1, 2)] * 147), (latitude, double[:1] * 2), (latitude, [(255, 65_536, 36_000)])):
+        for strides in ((20, 30, 360), (0, 30, 360), (20, 721, 360), (20, 30, LARGEST), (0, 0, 0)):
+            yield strides_station(*faulty, strides) + search
+    k1, m2 = PLACES["K1"], PLACES["M2"]
+    for tides in (
+        double, records, [(k1, 1_000, 0), (m2, 4_000, 0)], [(k1, 1_001, 0), (m2, 4_000, 0)], [(k1, 3_000, 0), (m2, 1_000, 0)],
+        [(k1, 3_001, 0), (m2, 1_000, 0)], [(PLACES["Z0"], 9, 0)],
+    ):
+        yield station(latitude, tides) + call(b"date", 1976, 7) + whole
+        for strides in ((180, 30, 360), (360, 180, 30), (30, 360, 180), (720, 720, 720), *each_with((60, 60, 60), (1, 720))):
+            yield strides_station(latitude, tides, strides) + call(b"date", 1976, 7) + search + call(b"turns", 0, 720, 9, 9)
+
+
 def updates():
     """Stations and dates at the ends of their types; most are refused."""
     latitude, records = victoria()
@@ -182,8 +220,8 @@ def scripts():
     """Each script with the second code's answers."""
     yield from compare_many.answered(SEED, COUNT)
     with open(malformed.SCRIPT, "rb") as file:
-        by_hand = [file.read(), ends(), b"".join(years()), b"".join(bookings()), b"".join(hourly()), card_files(), deepest()]
-    for script in [*by_hand, *malformed.short_scripts()]:
+        by_hand = [file.read(), ends(), b"".join(years()), b"".join(bookings()), b"".join(hourly()), b"".join(berths()), card_files(), deepest()]
+    for script in [*by_hand, *malformed.short_scripts(), *MALFORMED_STATIONS]:
         yield script, compare_many.answers(script)
 
 
@@ -243,7 +281,8 @@ def main():
         same = [compare(*player.split("=", 1), paths, played) for player in sys.argv[1:]]
     there = [came_up("how often each refusal came up: ", collections.Counter(kind for _, kind in answered), REFUSALS)]
     for title, alone, numbers in (
-        ("a year", b"year", YEAR_REFUSALS), ("bookings", b"bookings", BOOKINGS_REFUSALS), ("hourly cards", b"hourly", HOURLY_REFUSALS),
+        ("a station", b"station", STATION_REFUSALS), ("a year", b"year", YEAR_REFUSALS), ("bookings", b"bookings", BOOKINGS_REFUSALS),
+        ("hourly cards", b"hourly", HOURLY_REFUSALS),
     ):
         there.append(came_up("and with %s: " % title, collections.Counter(kind for word, kind in answered if word == alone), numbers))
     sys.exit(0 if same and all(same + there) else 1)

@@ -38,7 +38,7 @@ def layout(kind, found, texts):
         return size * length(array.group(2), texts), align
     if kind in SIZES:
         return SIZES[kind], SIZES[kind]
-    crate = {"Table": "table", "Station": "station", "Clock": "clock"}[kind]
+    crate = {"Table": "table", "Station": "station", "Strides": "station", "Clock": "clock"}[kind]
     at, most = 0, 1
     for _, field in found[(crate, kind)]:
         size, align = layout(field, found, texts)

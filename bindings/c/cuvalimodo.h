@@ -25,6 +25,7 @@
  *
  * Units
  *   latitude    minutes of arc, north positive, -5,400 to 5,400
+ *   strides     minutes, 1 to 720 each
  *   place       position of a constituent among the card file's frequencies (part 1), from 0: see cuvalimodo_place_of
  *   amplitude   tenths of a millimetre, 0 to 65,535
  *   phase       phase lag in hundredths of a degree, 0 to 35,999
@@ -69,11 +70,12 @@ enum cuvalimodo_refusal {
     CUVALIMODO_UNEQUAL_BUFFERS = 31,    /* the two lent buffers of bookings differ in length */
     CUVALIMODO_BAD_STATION_NUMBER = 32, /* a station number over 99999, for hourly cards */
     CUVALIMODO_BAD_HEIGHT = 33,         /* a height outside -999 to 9998 centimetres; place: the first hourly card with one */
-    CUVALIMODO_SHORT_BUFFER = 34        /* the lent buffer is too short for the month's hourly cards */
+    CUVALIMODO_SHORT_BUFFER = 34,       /* the lent buffer is too short for the month's hourly cards */
+    CUVALIMODO_BAD_STRIDE = 35          /* a station's stride outside 1 to 720 minutes */
 };
 
 /* A clock: a table of constituents, a station and a month, each there or not. What is inside is the library's own. */
-#define CUVALIMODO_CLOCK_SIZE 20928
+#define CUVALIMODO_CLOCK_SIZE 20936
 typedef struct cuvalimodo_clock {
     alignas(8) unsigned char inside[CUVALIMODO_CLOCK_SIZE];
 } cuvalimodo_clock;
@@ -84,6 +86,20 @@ typedef struct cuvalimodo_record {
     uint32_t amplitude;
     uint32_t phase;
 } cuvalimodo_record;
+
+/* The lengths of the strides by which turns are looked for. Which one is taken, the station's amplitudes say: (K1 + O1) / (M2 + S2). */
+typedef struct cuvalimodo_strides {
+    uint32_t semidiurnal; /* up to 0.25 */
+    uint32_t mixed;       /* between them */
+    uint32_t diurnal;     /* over 3 */
+} cuvalimodo_strides;
+
+/* The usual lengths, document 01's. An expression: to be passed, or to be put into a variable. */
+#ifdef __cplusplus
+#define CUVALIMODO_USUAL_STRIDES (cuvalimodo_strides{180, 30, 360})
+#else
+#define CUVALIMODO_USUAL_STRIDES ((cuvalimodo_strides){180, 30, 360})
+#endif
 
 /* What a card file comes to: the counts of an accepted one, or the refusal's number and line (from 1), and counts of 0. */
 typedef struct cuvalimodo_counts {
@@ -137,6 +153,8 @@ typedef struct cuvalimodo_text {
 
 static_assert(sizeof(cuvalimodo_clock) == CUVALIMODO_CLOCK_SIZE && alignof(cuvalimodo_clock) == 8, "a clock lies as in the library");
 static_assert(sizeof(cuvalimodo_record) == 12 && offsetof(cuvalimodo_record, amplitude) == 4, "a record lies as in the library");
+static_assert(sizeof(cuvalimodo_strides) == 12 && offsetof(cuvalimodo_strides, mixed) == 4 && offsetof(cuvalimodo_strides, diurnal) == 8,
+              "strides lie as in the library");
 static_assert(sizeof(cuvalimodo_counts) == 48 && sizeof(cuvalimodo_verdict) == 16, "results lie as in the library");
 static_assert(sizeof(cuvalimodo_reading) == 24 && sizeof(cuvalimodo_turnings) == 32 && sizeof(bool) == 1, "results lie as in the library");
 static_assert(sizeof(cuvalimodo_cards) == 24 && offsetof(cuvalimodo_cards, bytes) == 16, "results lie as in the library");
@@ -169,8 +187,12 @@ static inline int cuvalimodo_place_of(const cuvalimodo_clock *clock, const char 
     return -1;
 }
 
-/* Takes a station, at most 146 records, in place of the old one. The table stays; the month goes. */
-cuvalimodo_verdict cuvalimodo_set_station(cuvalimodo_clock *clock, int32_t latitude, const cuvalimodo_record *records, size_t records_length);
+/*
+ * Takes a station, its strides and at most 146 records, in place of the old one. The table stays; the month goes. The usual strides step over a
+ * double high water where its parts are near each other; shorter ones find it, and take longer.
+ */
+cuvalimodo_verdict cuvalimodo_set_station(cuvalimodo_clock *clock, int32_t latitude, cuvalimodo_strides strides,
+                                          const cuvalimodo_record *records, size_t records_length);
 
 /* Prepares a month, in place of the old one. Table and station stay. */
 cuvalimodo_verdict cuvalimodo_set_date(cuvalimodo_clock *clock, uint32_t year, uint32_t month);

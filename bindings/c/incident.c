@@ -50,7 +50,7 @@ static void set_clock(const uint8_t *cards, size_t length)
     cuvalimodo_record records[CONSTITUENTS];
     for (int k = 0; k < CONSTITUENTS; k++)
         records[k] = (cuvalimodo_record){place_of(victoria[k].name), victoria[k].amplitude, victoria[k].phase};
-    said = cuvalimodo_set_station(&berth, latitude, records, CONSTITUENTS);
+    said = cuvalimodo_set_station(&berth, latitude, CUVALIMODO_USUAL_STRIDES, records, CONSTITUENTS);
     accepted("the station", said.number, said.place);
     said = cuvalimodo_set_date(&berth, 1976, 7);
     accepted("the date", said.number, said.place);
@@ -112,7 +112,7 @@ int main(int argc, char **argv)
     cuvalimodo_record update[UPDATE];
     for (int k = 0; k < UPDATE; k++)
         update[k] = (cuvalimodo_record){(uint8_t)k, 500, 0};
-    cuvalimodo_verdict said = cuvalimodo_set_station(&berth, latitude, update, UPDATE);
+    cuvalimodo_verdict said = cuvalimodo_set_station(&berth, latitude, CUVALIMODO_USUAL_STRIDES, update, UPDATE);
     printf("an update with %d records: refusal %u at %zu, %s\n", UPDATE, said.number, said.place, cuvalimodo_refusal_text(said.number).text);
 
     read_month(&after);

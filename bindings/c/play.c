@@ -217,7 +217,7 @@ static bool cards(struct script *s, const int64_t *n)
     return true;
 }
 
-static bool station(struct script *s, const int64_t *n)
+static bool station_of(struct script *s, const int64_t *n, cuvalimodo_strides strides)
 {
     size_t count = (size_t)n[1];
     struct script first = *s;
@@ -230,9 +230,19 @@ static bool station(struct script *s, const int64_t *n)
     for (size_t k = 0; k < count; k++)
         record(&first, &records[k]);
     copy(lent);
-    set(cuvalimodo_set_station(held(), (int32_t)n[0], records, count));
+    set(cuvalimodo_set_station(held(), (int32_t)n[0], strides, records, count));
     back(lent, 0);
     return true;
+}
+
+static bool usual_station(struct script *s, const int64_t *n)
+{
+    return station_of(s, n, CUVALIMODO_USUAL_STRIDES);
+}
+
+static bool station(struct script *s, const int64_t *n)
+{
+    return station_of(s, n, (cuvalimodo_strides){.semidiurnal = (uint32_t)n[2], .mixed = (uint32_t)n[3], .diurnal = (uint32_t)n[4]});
 }
 
 static bool date(struct script *s, const int64_t *n)
@@ -366,14 +376,24 @@ static bool hourly(struct script *s, const int64_t *n)
     return true;
 }
 
+/* A call is picked by its word and by how many numbers its line has. */
 static const struct {
     const char *word;
     int numbers;
     bool (*play)(struct script *, const int64_t *);
-} calls[] = {{"cards", 1, cards},       {"station", 2, station}, {"date", 2, date}, {"height", 1, height},  {"series", 3, series},
-             {"bookings", 2, bookings}, {"turns", 4, turns},     {"year", 8, year}, {"hourly", 2, hourly}};
+} calls[] = {{"cards", 1, cards},   {"station", 2, usual_station}, {"station", 5, station}, {"date", 2, date}, {"height", 1, height},
+             {"series", 3, series}, {"bookings", 2, bookings},     {"turns", 4, turns},     {"year", 8, year}, {"hourly", 2, hourly}};
 
 enum { CALLS = sizeof calls / sizeof *calls, NUMBERS = 8 };
+
+/* How many blanks are left on a line. */
+static int blanks(const struct script *s)
+{
+    int count = 0;
+    for (const unsigned char *at = s->at; at < s->end && *at != '\n'; at++)
+        count += *at == ' ';
+    return count;
+}
 
 /* One call of a script. */
 static bool play_call(struct script *s)
@@ -382,14 +402,14 @@ static bool play_call(struct script *s)
     while (s->at < s->end && *s->at >= 'a' && *s->at <= 'z')
         s->at++;
     size_t length = (size_t)(s->at - word);
-    int k = 0;
-    while (k < CALLS && !(strlen(calls[k].word) == length && memcmp(calls[k].word, word, length) == 0))
+    int k = 0, found = blanks(s);
+    while (k < CALLS && !(calls[k].numbers == found && strlen(calls[k].word) == length && memcmp(calls[k].word, word, length) == 0))
         k++;
     if (k == CALLS)
         return false;
     int64_t numbers[NUMBERS];
     for (int i = 0; i < calls[k].numbers; i++) {
-        bool latitude = calls[k].play == station && i == 0;
+        bool latitude = strcmp(calls[k].word, "station") == 0 && i == 0;
         if (!(byte(s, ' ') && number(s, latitude ? INT32_MIN : 0, latitude ? INT32_MAX : UINT32_MAX, &numbers[i])))
             return false;
     }

@@ -10,7 +10,7 @@ The calls are those of the proved library (crates/cuvalimodo_c). One that is tur
 leaves the clock and the lent buffers as they were.
 It loads target/staticlib/libcuvalimodo_c.so (bindings/build makes it), or the file that the environment variable CUVALIMODO_LIBRARY names.
 
-Units: latitude in minutes of arc, north positive; amplitudes and heights in tenths of a millimetre; phase lags in hundredths of a degree; minutes
+Units: latitude in minutes of arc, north positive; strides in minutes; amplitudes and heights in tenths of a millimetre; phase lags in hundredths of a degree; minutes
 after 00:00 GMT on the 1st of the month, for a year on 1 January; a place is the position of a constituent among the card file's frequencies, from 0 (see Clock.place_of).
 A number that its C type cannot hold (place: one byte; latitude: 32 bits, signed; all others: 32 bits) raises OverflowError and reaches no call.
 
@@ -29,7 +29,7 @@ from typing import TYPE_CHECKING, Iterable, NamedTuple, SupportsIndex, Tuple
 if TYPE_CHECKING:
     from _typeshed import ReadableBuffer, WriteableBuffer
 
-CLOCK_SIZE = 20928
+CLOCK_SIZE = 20936
 HOURLY_SIZE = 4278  # the hourly cards of 31 days
 NAME_SIZE = 5
 
@@ -49,6 +49,18 @@ class Record(NamedTuple):
     place: int
     amplitude: int
     phase: int
+
+
+class Strides(NamedTuple):
+    """The lengths of the strides by which turns are looked for, 1 to 720 each. Which one is taken, the station's amplitudes say, by
+    (K1 + O1) / (M2 + S2): up to 0.25, between them, over 3."""
+
+    semidiurnal: int
+    mixed: int
+    diurnal: int
+
+
+USUAL_STRIDES = Strides(180, 30, 360)  # document 01's
 
 
 class Turn(NamedTuple):
@@ -80,6 +92,7 @@ class Refusal(IntEnum):
     BAD_STATION_NUMBER = 32
     BAD_HEIGHT = 33
     SHORT_BUFFER = 34
+    BAD_STRIDE = 35
 
 
 class Refused(Exception):
@@ -101,6 +114,10 @@ class Refused(Exception):
 
 class _Record(ctypes.Structure):
     _fields_ = [("place", ctypes.c_uint8), ("amplitude", ctypes.c_uint32), ("phase", ctypes.c_uint32)]
+
+
+class _Strides(ctypes.Structure):
+    _fields_ = [(name, ctypes.c_uint32) for name in Strides._fields]
 
 
 class _Counts(ctypes.Structure):
@@ -141,7 +158,7 @@ def _load() -> ctypes.PyDLL:
         ("new", None, [clock]),
         ("load_cards", _Verdict, [clock, *lent]),
         ("names", _TableNames, [clock]),
-        ("set_station", _Verdict, [clock, ctypes.c_int32, *lent]),
+        ("set_station", _Verdict, [clock, ctypes.c_int32, _Strides, *lent]),
         ("set_date", _Verdict, [clock, u32, u32]),
         ("height", _Reading, [clock, u32]),
         ("series", _Verdict, [clock, u32, u32, *lent]),
@@ -274,11 +291,16 @@ class Clock:
         places = {each.ljust(NAME_SIZE): place for place, each in enumerate(self.names())}
         return places.get(name.ljust(NAME_SIZE))
 
-    def set_station(self, latitude: SupportsIndex, records: Iterable[Tuple[SupportsIndex, SupportsIndex, SupportsIndex]]) -> None:
-        """Takes a station, at most 146 records (place, amplitude, phase), in place of the old one. The table stays; the month goes."""
+    def set_station(self, latitude: SupportsIndex, records: Iterable[Tuple[SupportsIndex, SupportsIndex, SupportsIndex]],
+                    strides: Tuple[SupportsIndex, SupportsIndex, SupportsIndex] = USUAL_STRIDES) -> None:
+        """Takes a station, at most 146 records (place, amplitude, phase) and its strides (semidiurnal, mixed, diurnal), in place of the old one. The
+        table stays; the month goes. The usual strides step over a double high water where its parts are near each other; shorter ones find it,
+        and take longer."""
         row = [(_fits(place, 0, 255), _u32(amplitude), _u32(phase)) for place, amplitude, phase in records]
         lent = (_Record * len(row))(*row)
-        _accept(_library.cuvalimodo_set_station(self._memory, _fits(latitude, -(2**31), 2**31 - 1), *_lent(lent)))
+        semidiurnal, mixed, diurnal = strides
+        lengths = _Strides(_u32(semidiurnal), _u32(mixed), _u32(diurnal))
+        _accept(_library.cuvalimodo_set_station(self._memory, _fits(latitude, -(2**31), 2**31 - 1), lengths, *_lent(lent)))
 
     def set_date(self, year: SupportsIndex, month: SupportsIndex) -> None:
         """Prepares a month, in place of the old one. Table and station stay."""

@@ -79,8 +79,8 @@ class Guarded:
             assert checked == (refusal.number, refusal.place), "check_cards and load_cards differ"
             raise
 
-    def set_station(self, latitude, records):
-        self.call(self.clock.set_station, latitude, records, changes=True)
+    def set_station(self, latitude, records, strides):
+        self.call(self.clock.set_station, latitude, records, strides, changes=True)
 
     def set_date(self, year, month):
         self.call(self.clock.set_date, year, month, changes=True)

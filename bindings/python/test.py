@@ -16,7 +16,7 @@ ROOT = os.path.join(os.path.dirname(os.path.abspath(__file__)), "..", "..")
 sys.path.insert(0, os.path.join(ROOT, "second"))
 
 from cards import read_card_file  # noqa: E402
-from cuvalimodo import HOURLY_SIZE, Clock, Counts, Refusal, Refused, Turn, check_cards, refusal_text  # noqa: E402
+from cuvalimodo import HOURLY_SIZE, USUAL_STRIDES, Clock, Counts, Refusal, Refused, Strides, Turn, check_cards, refusal_text  # noqa: E402
 from incident import LATITUDE, VICTORIA  # noqa: E402
 
 LAST = 31 * 1440
@@ -174,6 +174,78 @@ class Buffers(unittest.TestCase):
         self.assertEqual(self.clock.series(0, 60, 4), self.wanted)
 
 
+class Stations(unittest.TestCase):
+    """The strides of a station, at a berth with a double high water: its turns are 120 by the usual strides, 240 by shorter ones."""
+
+    def setUp(self):
+        self.clock = victoria()
+        self.double = [(self.clock.place_of("M2"), 9000, 0), (self.clock.place_of("M4"), 2500, 18000)]
+
+    def turns(self, records, *strides):
+        self.clock.set_station(LATITUDE, records, *strides)
+        self.clock.set_date(1976, 7)
+        return self.clock.turns(0, LAST)
+
+    def refused(self, number, place, latitude, records, *strides):
+        before = bytes(self.clock)
+        with self.assertRaises(Refused) as caught:
+            self.clock.set_station(latitude, records, *strides)
+        self.assertEqual((caught.exception.number, caught.exception.place), (number, place))
+        self.assertEqual(bytes(self.clock), before)
+
+    def test_the_usual_ones(self):
+        self.assertEqual((USUAL_STRIDES, USUAL_STRIDES.mixed), ((180, 30, 360), 30))
+        for kind in ([("M2", 9000), ("M4", 2500)], [("K1", 5000), ("M2", 4000), ("M4", 3000)], [("K1", 9000), ("M2", 2000), ("M4", 2000)]):
+            records = [(self.clock.place_of(name), amplitude, 0) for name, amplitude in kind]
+            self.assertEqual(self.turns(records), self.turns(records, Strides(180, 30, 360)))
+        self.assertEqual(len(self.turns(self.double)), 120)
+
+    def test_others(self):
+        self.assertEqual(len(self.turns(self.double, USUAL_STRIDES._replace(semidiurnal=20))), 240)
+        found = self.turns(self.double, (1, 720, 720))[:4]
+        self.assertEqual(found, [Turn(129, 6697, True), Turn(189, 6614, False), Turn(249, 6697, True), Turn(562, -11907, False)])
+        self.assertEqual(len(self.turns(self.double, [Index(20), Index(30), Index(360)])), 240)
+        # The tides are semidiurnal: the other two are not taken.
+        self.assertEqual(len(self.turns(self.double, (180, 20, 20))), 120)
+        self.assertEqual(len(self.turns(self.double)), 120)
+
+    def test_each_is_that_of_its_tides(self):
+        for kind, at in (([("M2", 9000)], 0), ([("K1", 4000), ("M2", 4000)], 1), ([("K1", 9000), ("M2", 1000)], 2)):
+            records = [(self.clock.place_of(name), amplitude, 0) for name, amplitude in kind]
+            for stride in (1, 720):
+                strides = [7, 7, 7]
+                strides[at] = stride
+                # A search over a minute has room for a stride of 1, and finds a turn where one is.
+                first = self.turns(records, strides[:at] + [1] + strides[at + 1 :])[0].minute
+                self.turns(records, strides)
+                found = [self.clock.turns(minute, minute + 1) for minute in (first - 1, first)]
+                self.assertEqual(sum(map(len, found)), 1 if stride == 1 else 0, (kind, stride))
+
+    def test_ranges(self):
+        self.turns(self.double, (20, 20, 20))
+        before = self.clock.turns(0, LAST)
+        for at in range(3):
+            for wrong in (0, 721, 65536 + 20, 2**31, 2**32 - 1):
+                strides = [20, 20, 20]
+                strides[at] = wrong
+                self.refused(Refusal.BAD_STRIDE, 0, LATITUDE, self.double, strides)
+                self.assertEqual(self.clock.turns(0, LAST), before)
+            for right in (1, 720):
+                strides = [20, 20, 20]
+                strides[at] = right
+                self.clock.copy().set_station(LATITUDE, self.double, strides)
+
+    def test_the_order_of_refusals(self):
+        many = [(0, 1, 2)] * 147
+        self.refused(Refusal.OUT_OF_RANGE, 0, 5401, many, (0, 30, 360))
+        self.refused(Refusal.BAD_STRIDE, 0, 5400, many, (180, 30, 721))
+        self.refused(Refusal.TOO_MANY, 147, 5400, many, (180, 30, 720))
+        self.refused(Refusal.BAD_STRIDE, 0, 0, [(255, 70000, 36000)], (180, 0, 360))
+        with self.assertRaises(Refused) as caught:
+            Clock().set_station(5401, many, (0, 0, 0))
+        self.assertEqual(caught.exception.number, Refusal.NO_TABLE)
+
+
 class Numbers(unittest.TestCase):
     """Numbers that ctypes alone would cut to 32 or 8 bits, and so take for others."""
 
@@ -189,6 +261,8 @@ class Numbers(unittest.TestCase):
             self.overflows(clock.set_station, latitude, [])
         for record in ((256, 1, 2), (-1, 1, 2), (0, 2**32, 2), (0, -1, 2), (0, 1, 2**32)):
             self.overflows(clock.set_station, 0, [record])
+        for strides in ((2**32 + 180, 30, 360), (180, -1, 360), (180, 30, 2**64 + 360)):
+            self.overflows(clock.set_station, 0, [], strides)
         for wrong in (2**32, -1, 2**64 + 7):
             for call in (clock.height, lambda n: clock.set_date(n, 7), lambda n: clock.set_date(1976, n), lambda n: clock.series(n, 60, 1)):
                 self.overflows(call, wrong)
@@ -207,6 +281,11 @@ class Numbers(unittest.TestCase):
                 clock.height(wrong)
             with self.assertRaises(TypeError):
                 clock.bookings([0, wrong])
+            with self.assertRaises(TypeError):
+                clock.set_station(0, [], (180, wrong, 360))
+        for wrong in ((180, 30), (180, 30, 360, 1), ()):
+            with self.assertRaises(ValueError):
+                clock.set_station(0, [], wrong)
 
 
 class Others(unittest.TestCase):

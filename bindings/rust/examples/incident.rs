@@ -1,7 +1,7 @@
 //! A clock runs, an update is refused, and the clock goes on: Victoria, the manual's sample station, in July 1976.
 //! Usage: incident CARDS, where CARDS is a card file (data/standard-cards.txt).
 
-use cuvalimodo::{check_cards, Clock, Record, Refusal, Turns};
+use cuvalimodo::{check_cards, Clock, Record, Refusal, Strides, Turns};
 use std::error::Error;
 
 /// The sample's constituents (001, appendix 7.4): name, amplitude, phase lag. Amplitudes are 10^-4 of the sample's unit, feet by their size, so the
@@ -62,14 +62,14 @@ fn main() -> Result<(), Box<dyn Error>> {
         let place = berth.place_of(name).ok_or(format!("the card file has no {name}"))?;
         records.push(Record { place, amplitude, phase });
     }
-    berth.set_station(LATITUDE, &records)?;
+    berth.set_station(LATITUDE, Strides::USUAL, &records)?;
     berth.set_date(1976, 7)?;
     let before = read_month(&berth)?;
     print_first_day(&before);
     println!("the water stands at {:.4} at 08:30 on the 14th", berth.height(ASKED)? as f64 / 10000.0);
 
     let update: Vec<_> = (0..147).map(|place| Record { place, amplitude: 500, phase: 0 }).collect();
-    let refusal = berth.set_station(LATITUDE, &update).err().ok_or("the update is accepted")?;
+    let refusal = berth.set_station(LATITUDE, Strides::USUAL, &update).err().ok_or("the update is accepted")?;
     println!("an update with {} records: refusal {} at {}, {}", update.len(), refusal.number, refusal.place, refusal.text());
 
     let after = read_month(&berth)?;

@@ -4,7 +4,7 @@
 //! The clock and every lent buffer stand between guards. After each call the guards must be as they were, and so must all that the call may not
 //! change: after a refused call the clock and the buffers. Otherwise the program panics.
 
-use cuvalimodo::{check_cards, Clock, Record, Refusal, Sheet, Turns};
+use cuvalimodo::{check_cards, Clock, Record, Refusal, Sheet, Strides, Turns};
 use std::hint::black_box;
 use std::io::{self, Read, Write};
 
@@ -106,6 +106,15 @@ fn word(bytes: &[u8]) -> Option<u32> {
     number(bytes, 0, i64::from(u32::MAX))?.try_into().ok()
 }
 
+/// The last numbers of a station's line; those of a line that ends before them are the usual ones.
+fn strides(words: &[&[u8]]) -> Option<Strides> {
+    match *words {
+        [] => Some(Strides::USUAL),
+        [semidiurnal, mixed, diurnal] => Some(Strides { semidiurnal: word(semidiurnal)?, mixed: word(mixed)?, diurnal: word(diurnal)? }),
+        _ => None,
+    }
+}
+
 fn place(bytes: &[u8]) -> Option<usize> {
     word(bytes)?.try_into().ok()
 }
@@ -166,10 +175,10 @@ fn cards(held: &mut Held, file: &[u8]) -> Result<String, Refusal> {
     said
 }
 
-fn station(held: &mut Held, latitude: i32, records: &[Record]) -> Result<String, Refusal> {
+fn station(held: &mut Held, latitude: i32, strides: Strides, records: &[Record]) -> Result<String, Refusal> {
     let paint = Record { place: 0xa5, amplitude: 0xa5a5_a5a5, phase: 0xa5a5_a5a5 };
     let lent = Lent::new(records, paint);
-    let said = held.set(|clock| clock.set_station(latitude, &lent.space[GUARD..GUARD + records.len()]));
+    let said = held.set(|clock| clock.set_station(latitude, strides, &lent.space[GUARD..GUARD + records.len()]));
     lent.stands(0);
     said
 }
@@ -240,11 +249,11 @@ fn play_call(held: &mut Held, script: &mut Script) -> Option<Result<String, Refu
             script.line += 1;
             cards(held, script.card_file(size)?)
         }
-        [b"station", latitude, count] => {
+        [b"station", latitude, count, ref lengths @ ..] => {
             let latitude = number(latitude, i64::from(i32::MIN), i64::from(i32::MAX))?.try_into().ok()?;
-            let count = word(count)?;
+            let (count, strides) = (word(count)?, strides(lengths)?);
             script.line += 1;
-            station(held, latitude, &script.records(count)?)
+            station(held, latitude, strides, &script.records(count)?)
         }
         [b"date", year, month] => {
             let (year, month) = (word(year)?, word(month)?);

@@ -7,18 +7,18 @@
 //! minutes after 00:00 GMT on the 1st of the month, for a year's sheet on 1 January.
 //!
 //! ```
-//! use cuvalimodo::{Clock, Record, Refusal};
+//! use cuvalimodo::{Clock, Record, Refusal, Strides};
 //! # fn main() -> Result<(), Refusal> {
 //! let cards = include_bytes!(concat!(env!("CARGO_MANIFEST_DIR"), "/../../data/standard-cards.txt"));
 //! let mut clock = Clock::new();
 //! clock.load_cards(cards)?;
 //! let mean = Record { place: clock.place_of("Z0").unwrap(), amplitude: 6067, phase: 0 };
-//! clock.set_station(2905, &[mean])?;
+//! clock.set_station(2905, Strides::USUAL, &[mean])?;
 //! clock.set_date(1976, 7)?;
 //! assert_eq!(clock.height(510), Ok(6067));
 //!
 //! // An update that is refused leaves the clock as it was: station, month and heights.
-//! let refused = clock.set_station(2905, &[mean; 147]).unwrap_err();
+//! let refused = clock.set_station(2905, Strides::USUAL, &[mean; 147]).unwrap_err();
 //! assert_eq!(refused, Refusal { number: Refusal::TOO_MANY, place: 147 });
 //! assert_eq!(clock.height(510), Ok(6067));
 //! # Ok(())
@@ -31,7 +31,7 @@
 mod sys;
 
 use std::fmt;
-pub use sys::{Record, Sheet, CLOCK_SIZE, HOURLY_SIZE};
+pub use sys::{Record, Sheet, Strides, CLOCK_SIZE, HOURLY_SIZE};
 
 /// A refused call: why, by document 01's number, and its place (a card's line, a station's record, a booked minute or an hourly card, from 1;
 /// else 0).
@@ -80,6 +80,8 @@ impl Refusal {
     pub const BAD_HEIGHT: u32 = 33;
     /// The lent buffer is too short for the month's hourly cards.
     pub const SHORT_BUFFER: u32 = 34;
+    /// A station's stride outside 1 to 720 minutes.
+    pub const BAD_STRIDE: u32 = 35;
 
     /// The library's words for it.
     ///
@@ -122,6 +124,24 @@ pub struct Counts {
     pub satellites: usize,
     /// Shallow-water constituents.
     pub shallows: usize,
+}
+
+impl Strides {
+    /// The usual lengths, document 01's; the default too.
+    ///
+    /// ```
+    /// use cuvalimodo::Strides;
+    /// assert_eq!(Strides::USUAL, Strides { semidiurnal: 180, mixed: 30, diurnal: 360 });
+    /// assert_eq!(Strides::default(), Strides::USUAL);
+    /// ```
+    pub const USUAL: Strides = Strides { semidiurnal: 180, mixed: 30, diurnal: 360 };
+}
+
+/// The usual lengths.
+impl Default for Strides {
+    fn default() -> Strides {
+        Strides::USUAL
+    }
 }
 
 /// How many turns were written, and whether the first is a high water; they alternate.
@@ -224,9 +244,34 @@ impl Clock {
         u8::try_from(place).ok()
     }
 
-    /// Takes a station, at most 146 records, in place of the old one. The table stays; the month goes.
-    pub fn set_station(&mut self, latitude: i32, records: &[Record]) -> Result<(), Refusal> {
-        let said = sys::set_station(&mut self.0, latitude, records);
+    /// Takes a station, its strides and at most 146 records, in place of the old one. The table stays; the month goes. The usual strides step over a
+    /// double high water where its parts are near each other; shorter ones find it, and take longer.
+    ///
+    /// ```
+    /// use cuvalimodo::{Clock, Record, Refusal, Strides};
+    /// let cards = include_bytes!(concat!(env!("CARGO_MANIFEST_DIR"), "/../../data/standard-cards.txt"));
+    /// let mut clock = Clock::new();
+    /// clock.load_cards(cards)?;
+    /// let tide = |name, amplitude, phase| Record { place: clock.place_of(name).unwrap(), amplitude, phase };
+    /// let double = [tide("M2", 9000, 0), tide("M4", 2500, 18000)];
+    /// let (mut minutes, mut heights) = ([0; 250], [0; 250]);
+    ///
+    /// clock.set_station(2905, Strides::USUAL, &double)?;
+    /// clock.set_date(1976, 7)?;
+    /// assert_eq!(clock.turns(0, 44640, &mut minutes, &mut heights)?.count, 120);
+    ///
+    /// clock.set_station(2905, Strides { semidiurnal: 20, ..Strides::USUAL }, &double)?;
+    /// clock.set_date(1976, 7)?;
+    /// assert_eq!(clock.turns(0, 44640, &mut minutes, &mut heights)?.count, 240);
+    ///
+    /// // A station that is refused leaves the old one, with its strides.
+    /// let refused = clock.set_station(2905, Strides { diurnal: 721, ..Strides::USUAL }, &double);
+    /// assert_eq!(refused, Err(Refusal { number: Refusal::BAD_STRIDE, place: 0 }));
+    /// assert_eq!(clock.turns(0, 44640, &mut minutes, &mut heights)?.count, 240);
+    /// # Ok::<(), Refusal>(())
+    /// ```
+    pub fn set_station(&mut self, latitude: i32, strides: Strides, records: &[Record]) -> Result<(), Refusal> {
+        let said = sys::set_station(&mut self.0, latitude, strides, records);
         accepted(said.number, said.place)
     }
 
@@ -253,11 +298,11 @@ impl Clock {
     /// two are of one length. A refused list writes nothing; the place of the first minute outside the month is the refusal's.
     ///
     /// ```
-    /// use cuvalimodo::{Clock, Record, Refusal};
+    /// use cuvalimodo::{Clock, Record, Refusal, Strides};
     /// let cards = include_bytes!(concat!(env!("CARGO_MANIFEST_DIR"), "/../../data/standard-cards.txt"));
     /// let mut clock = Clock::new();
     /// clock.load_cards(cards)?;
-    /// clock.set_station(2905, &[Record { place: clock.place_of("M2").unwrap(), amplitude: 12130, phase: 8700 }])?;
+    /// clock.set_station(2905, Strides::USUAL, &[Record { place: clock.place_of("M2").unwrap(), amplitude: 12130, phase: 8700 }])?;
     /// clock.set_date(1976, 7)?;
     /// let mut heights = [0; 3];
     /// clock.bookings(&[510, 0, 510], &mut heights)?;
@@ -286,11 +331,11 @@ impl Clock {
     /// refusal. Each month has its own weights. No month need be prepared, and one that is stays. 3,000 turns are plenty for a year.
     ///
     /// ```
-    /// use cuvalimodo::{Clock, Record, Refusal, Sheet};
+    /// use cuvalimodo::{Clock, Record, Refusal, Sheet, Strides};
     /// let cards = include_bytes!(concat!(env!("CARGO_MANIFEST_DIR"), "/../../data/standard-cards.txt"));
     /// let mut clock = Clock::new();
     /// clock.load_cards(cards)?;
-    /// clock.set_station(2905, &[Record { place: clock.place_of("M2").unwrap(), amplitude: 12130, phase: 8700 }])?;
+    /// clock.set_station(2905, Strides::USUAL, &[Record { place: clock.place_of("M2").unwrap(), amplitude: 12130, phase: 8700 }])?;
     /// let whole = Sheet { year: 1976, start: 0, step: 1440, first: 0, last: 366 * 1440 };
     /// let (mut daily, mut minutes, mut heights) = ([0; 367], [0; 3000], [0; 3000]);
     /// let found = clock.year(whole, &mut daily, &mut minutes, &mut heights)?;
@@ -312,11 +357,11 @@ impl Clock {
     /// stays. How many bytes they take: 138 for each day of the month, so that [`HOURLY_SIZE`] are enough.
     ///
     /// ```
-    /// use cuvalimodo::{Clock, Record, Refusal, HOURLY_SIZE};
+    /// use cuvalimodo::{Clock, Record, Refusal, Strides, HOURLY_SIZE};
     /// let cards = include_bytes!(concat!(env!("CARGO_MANIFEST_DIR"), "/../../data/standard-cards.txt"));
     /// let mut clock = Clock::new();
     /// clock.load_cards(cards)?;
-    /// clock.set_station(2905, &[Record { place: clock.place_of("Z0").unwrap(), amplitude: 18450, phase: 0 }])?;
+    /// clock.set_station(2905, Strides::USUAL, &[Record { place: clock.place_of("Z0").unwrap(), amplitude: 18450, phase: 0 }])?;
     /// clock.set_date(1976, 2)?;
     /// let mut hourly = [b'.'; HOURLY_SIZE];
     /// let bytes = clock.hourly(7120, &mut hourly)?;

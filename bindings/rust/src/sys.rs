@@ -6,7 +6,7 @@
 //! nothing outside this module can write to one.
 
 /// How many bytes a clock has.
-pub const CLOCK_SIZE: usize = 20928;
+pub const CLOCK_SIZE: usize = 20936;
 
 /// How many bytes the hourly cards of 31 days take.
 pub const HOURLY_SIZE: usize = 4278;
@@ -41,6 +41,19 @@ pub struct Record {
     pub amplitude: u32,
     /// Phase lag in hundredths of a degree, 0 to 35,999.
     pub phase: u32,
+}
+
+/// The lengths of the strides by which turns are looked for, in minutes, 1 to 720 each. Which one is taken, the station's amplitudes say:
+/// (K1 + O1) / (M2 + S2).
+#[repr(C)]
+#[derive(Clone, Copy, Debug, PartialEq, Eq, Hash)]
+pub struct Strides {
+    /// Up to 0.25.
+    pub semidiurnal: u32,
+    /// Between them.
+    pub mixed: u32,
+    /// Over 3.
+    pub diurnal: u32,
 }
 
 /// What a year's sheet is asked for; minutes after 00:00 GMT on 1 January.
@@ -112,7 +125,7 @@ extern "C" {
     fn cuvalimodo_new(clock: &mut Clock);
     fn cuvalimodo_load_cards(clock: &mut Clock, file: *const u8, file_length: usize) -> Verdict;
     fn cuvalimodo_names(clock: &Clock) -> TableNames;
-    fn cuvalimodo_set_station(clock: &mut Clock, latitude: i32, records: *const Record, records_length: usize) -> Verdict;
+    fn cuvalimodo_set_station(clock: &mut Clock, latitude: i32, strides: Strides, records: *const Record, records_length: usize) -> Verdict;
     fn cuvalimodo_set_date(clock: &mut Clock, year: u32, month: u32) -> Verdict;
     fn cuvalimodo_height(clock: &Clock, minute: u32) -> Reading;
     fn cuvalimodo_series(clock: &Clock, start: u32, step: u32, heights: *mut i64, heights_length: usize) -> Verdict;
@@ -164,9 +177,9 @@ pub fn names(clock: &Clock) -> TableNames {
     unsafe { cuvalimodo_names(clock) }
 }
 
-pub fn set_station(clock: &mut Clock, latitude: i32, records: &[Record]) -> Verdict {
+pub fn set_station(clock: &mut Clock, latitude: i32, strides: Strides, records: &[Record]) -> Verdict {
     // SAFETY: see the head of this file.
-    unsafe { cuvalimodo_set_station(clock, latitude, records.as_ptr(), records.len()) }
+    unsafe { cuvalimodo_set_station(clock, latitude, strides, records.as_ptr(), records.len()) }
 }
 
 pub fn set_date(clock: &mut Clock, year: u32, month: u32) -> Verdict {
