@@ -3,16 +3,30 @@ use Prim.{Unit}
 use mathlib.Core.Path.{_≡_, refl}
 use Prim.Native.Nat.{ℕ}
 use mathlib.Core.Bool.{Bool, true, false}
+use lib.IntN.{pos, negℤ}
 use lib.ListN.{length}
-use Rattle.refusals.specs.Outcome.{Outcome, accepted, refused}
+use lib.Signed.{ltZ}
+use Rattle.limits.specs.Limits.{mostLatitude}
+use Rattle.refusals.specs.Outcome.{Outcome, accepted, refused, refuseIf}
 use Rattle.refusals.proofs.Laws.{not-both}
 use Rattle.table.specs.Table.{Table}
-use Rattle.station.specs.Station.{Station}
+use Rattle.station.specs.Station.{Station, stationOutcome}
 use Rattle.station.specs.Strides.{stridesOutside}
-use Rattle.station.proofs.Laws.{strides-fit}
 use Rattle.calls.specs.State.{Dated, State}
 use Rattle.calls.specs.inner.Flags.{stateOf, tabledOnly}
 use Rattle.calls.specs.Calls.{stationReturns, stationLeaves}
+
+-- an accepted station's strides are in range
+strides-fit : (frequencies : ℕ) (station : Station) → stationOutcome frequencies station ≡ accepted tt → stridesOutside (station .strides) ≡ false
+unfolding stationOutcome
+strides-fit frequencies station =
+    tests (ltZ (station .latitude) (negℤ (pos mostLatitude))) (ltZ (pos mostLatitude) (station .latitude)) (stridesOutside (station .strides)) _
+  where
+    tests : (a b c : Bool) (next : Outcome Unit) → _≡_ {A = Outcome Unit} (refuseIf a 3 0 (refuseIf b 3 0 (refuseIf c 35 0 next))) (accepted tt) → c ≡ false
+    tests true b c next e = not-both e
+    tests false true c next e = not-both e
+    tests false false true next e = not-both e
+    tests false false false next e = refl
 
 module _ (table : Table) (s : Bool) (station : Station) (d : Bool) (month : Dated) (new : Station) where
   abbrev before : Bool → State

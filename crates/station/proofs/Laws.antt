@@ -10,10 +10,8 @@ use native.Mathlib.Numerals.{sub-one, add-one}
 use native.Mathlib.Omega.{arith}
 use lib.ListN.{getD}
 use lib.Dec.{eqb, leb, ltb}
-use lib.IntN.{pos, negℤ}
-use lib.Signed.{ltZ}
 use borrow.Author.Tests.{ltb-false}
-use Rattle.limits.specs.Limits.{mostAmplitude, mostLatitude, mostPhase}
+use Rattle.limits.specs.Limits.{mostAmplitude, mostPhase}
 use Rattle.refusals.specs.Outcome.{Outcome, accepted, refused, refuseIf, _>>=_, _>>_, numberOf, outcomeOf}
 use Rattle.refusals.proofs.Laws.{not-both}
 use Rattle.refusals.specs.declared.Answer.{Answer}
@@ -22,8 +20,7 @@ use Rattle.refusals.specs.declared.Refusal.{Refusal}
 use Rattle.station.specs.declared.records.Record.{Record}
 use Rattle.station.specs.declared.records.Rows.{Rows}
 use Rattle.station.specs.declared.Station as code
-use Rattle.station.specs.Station.{Station, recordOutcome, recordsOutcome, stationOutcome}
-use Rattle.station.specs.Strides.{stridesOutside}
+use Rattle.station.specs.Station.{recordOutcome, recordsOutcome}
 use Rattle.refusals.specs.Places.{isAmong}
 use Rattle.station.specs.inner.Station.{placesBefore, stationUpto, putRecord}
 use Rattle.station.specs.Records.{recordAt, recordsFrom}
@@ -72,18 +69,6 @@ record-fits frequencies earlier k r =
     tests false false true d p q e = not-both e
     tests false false false true p q e = not-both e
     tests false false false false p q e = (p refl, q refl)
-
--- an accepted station's strides are in range
-pub strides-fit : (frequencies : ℕ) (station : Station) → stationOutcome frequencies station ≡ accepted tt → stridesOutside (station .strides) ≡ false
-unfolding stationOutcome
-strides-fit frequencies station =
-    tests (ltZ (station .latitude) (negℤ (pos mostLatitude))) (ltZ (pos mostLatitude) (station .latitude)) (stridesOutside (station .strides)) _
-  where
-    tests : (a b c : Bool) (next : Outcome Unit) → _≡_ {A = Outcome Unit} (refuseIf a 3 0 (refuseIf b 3 0 (refuseIf c 35 0 next))) (accepted tt) → c ≡ false
-    tests true b c next e = not-both e
-    tests false true c next e = not-both e
-    tests false false true next e = not-both e
-    tests false false false next e = refl
 
 -- the station with one record more
 pub upto-more : (empty : code.Station) (rows : Rows) (k : ℕ)
