@@ -64,6 +64,7 @@ module _ (c : Clock) (year month : ℕ) (p : Prepared) (answer : Answer) (sound 
           count = omega arith;
           last = minutes-short year month;
           month = λ k h. rw (frequency-at (m .arguments) (m .lags) (m .frequencies) (m .ps) (m .qs) 0 (min (m .count) mostRecords) k none h, zero-add k) at (prepared-in-range _ _ year month _ none refl (frequencies-within (c .table) (sound .table)) ready k);
+          strides = sound .strides;
         };
         returns = rw ready;
         leaves = rw ready;

@@ -6,6 +6,7 @@ use mathlib.Core.Bool.{true, false}
 use mathlib.Core.List.{List}
 use lib.IntN.{ℤ}
 use lib.ListN.{length}
+use Rattle.limits.specs.Limits.{mostStride}
 use Rattle.refusals.specs.Outcome.{Outcome, accepted, refused, numberOf}
 use Rattle.refusals.specs.declared.Refusal.the-variants as refusal
 use Rattle.calendar.specs.Calendar.{yearInRange}
@@ -70,7 +71,7 @@ module _ (table : Table) (station : Station) (sheet : Sheet) (inside : yearInRan
         frequencies = rw (is .is .constituents) (post .within within ready);
       }
 
-  pub sheet-inside : (places : ℕ) → sheetOutside sheet places ≡ false → (stride : ℕ) → (0 < stride) × (stride ≤ 720) → SheetWithin (lastOf months) stride sheet places
+  pub sheet-inside : (places : ℕ) → sheetOutside sheet places ≡ false → (stride : ℕ) → (0 < stride) × (stride ≤ mostStride) → SheetWithin (lastOf months) stride sheet places
   sheet-inside places e stride strides =
       let w = sheet-within sheet places e in
       rw (is .last) (record { series = w .0; search = record { some = strides .0; short = strides .1; order = w .2; within = w .1 } })

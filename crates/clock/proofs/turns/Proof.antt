@@ -18,7 +18,11 @@ enum-told : tie.Need-enum-told
 enum-told c = search needs
 
 station-stride-requires : tie.Need-station-stride-requires
-station-stride-requires c κs = search needs
+station-stride-requires c κs =
+    let s = c .before .before .before .before .before .before in
+    let k = s .args .t1 in
+    let w = turns-within (k .tabled) (k .stationed) (k .dated) (k .last) (s .args .first) (s .args .last) (sym (c .before .before .before .before .turns-answer .ensures) ∙ ap outcomeOf (c .before .before .enum-told .given .1)) in
+    s .pre (w .0) .strides
 
 one-month-requires : tie.Need-one-month-requires
 one-month-requires c κs = search needs

@@ -22,7 +22,7 @@ sheet-requires c κs =
     let k = s .args .t1 in
     let on = year-passed (k .tabled) (k .stationed) (s .args .sheet .year) (sym (c .before .before .before .before .before .before .before .before .before .year-answer .ensures) ∙ ap outcomeOf (c .before .before .before .before .before .before .before .enum-told .given .1)) in
     let sound = s .pre (on .0) in
-    (sound .cosines, (sound .table, on .2))
+    ((sound .cosines, (sound .table, on .2)), sound .strides)
 
 same-length : tie.Need-same-length
 same-length c = search needs

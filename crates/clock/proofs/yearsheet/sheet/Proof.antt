@@ -27,7 +27,7 @@ returns c =
     let is : YearMonths (a .sheet .year) (heldBy (a .t3)) (months .result) = rw (c .before .before .before .before .before .before .before .before .before .held .ensures) at (months .ensures) in
     let prepared = c .before .before .before .prepare in
     let g = c .before .prepared .given in
-    sheet-refused (a .table) (a .t3) (a .sheet) (s .pre .1 .1) (months .result) is (prepared .result) (prepared .ensures) (now (a .series)) (now (a .minutes)) (now (a .heights)) (g .0 .0) (g .1)
+    sheet-refused (a .table) (a .t3) (a .sheet) (s .pre .0 .1 .1) (months .result) is (prepared .result) (prepared .ensures) (now (a .series)) (now (a .minutes)) (now (a .heights)) (g .0 .0) (g .1)
 
 enum-told : tie.Need-enum-told
 enum-told c = search needs
@@ -42,7 +42,7 @@ returns-2 c =
     let months = c .before .before .before .before .before .before .before .before .before .months-of in
     let is : YearMonths (a .sheet .year) (heldBy (a .t3)) (months .result) = rw (c .before .before .before .before .before .before .before .before .before .before .held .ensures) at (months .ensures) in
     let prepared = c .before .before .before .before .prepare in
-    minutes-refused (a .table) (a .t3) (a .sheet) (s .pre .1 .1) (months .result) is (prepared .result) (prepared .ensures) (now (a .series)) (now (a .minutes)) (now (a .heights)) (c .before .before .enum-told .given .1) (sym (c .before .sheet-outside .ensures) ∙ c .if1 .taken)
+    minutes-refused (a .table) (a .t3) (a .sheet) (s .pre .0 .1 .1) (months .result) is (prepared .result) (prepared .ensures) (now (a .series)) (now (a .minutes)) (now (a .heights)) (c .before .before .enum-told .given .1) (sym (c .before .sheet-outside .ensures) ∙ c .if1 .taken)
 
 station-stride-requires : tie.Need-station-stride-requires
 station-stride-requires c κs = search needs
@@ -65,7 +65,7 @@ written-requires c κs =
     let prepared = c .before .before .before .before .before .before .before .before .before .before .before .before .before .before .prepare in
     let stride = c .before .before .before .before .before .before .before .before .before .station-stride in
     let within = sym (c .before .before .before .before .before .before .before .before .before .before .before .sheet-outside .ensures) ∙ c .before .before .before .before .before .before .before .before .before .before .if1 .left in
-    (sheet-rows (a .table) (a .t3) (a .sheet) (s .pre .1 .1) (months .result) is (prepared .result) (prepared .ensures) (c .before .before .before .before .before .before .before .before .before .before .before .before .enum-told .given .1) (s .pre .0) (s .pre .1 .0), sheet-inside (a .table) (a .t3) (a .sheet) (s .pre .1 .1) (months .result) is (prepared .result) (prepared .ensures) _ within (stride .result) (stride .ensures .1))
+    (sheet-rows (a .table) (a .t3) (a .sheet) (s .pre .0 .1 .1) (months .result) is (prepared .result) (prepared .ensures) (c .before .before .before .before .before .before .before .before .before .before .before .before .enum-told .given .1) (s .pre .0 .0) (s .pre .0 .1 .0), sheet-inside (a .table) (a .t3) (a .sheet) (s .pre .0 .1 .1) (months .result) is (prepared .result) (prepared .ensures) _ within (stride .result) (stride .ensures .1))
 
 same-length : tie.Need-same-length
 same-length c = search needs
@@ -85,7 +85,7 @@ returns-3 c =
     let prepared = c .before .before .before .before .before .before .before .before .before .before .before .before .before .before .before .before .before .before .before .prepare in
     let stride = c .before .before .before .before .before .before .before .before .before .before .before .before .before .before .station-stride in
     let within = sym (c .before .before .before .before .before .before .before .before .before .before .before .before .before .before .before .before .sheet-outside .ensures) ∙ c .before .before .before .before .before .before .before .before .before .before .before .before .before .before .before .if1 .left in
-    sheet-written (a .table) (a .t3) (a .sheet) (s .pre .1 .1) (months .result) is (prepared .result) (prepared .ensures) (now (a .series)) (now (a .minutes)) (now (a .heights)) (c .before .before .before .before .before .before .before .before .before .before .before .before .before .before .before .before .before .enum-told .given .1) within (stride .result) (stride .ensures .0) (c .before .before .before .before .written .ensures)
+    sheet-written (a .table) (a .t3) (a .sheet) (s .pre .0 .1 .1) (months .result) is (prepared .result) (prepared .ensures) (now (a .series)) (now (a .minutes)) (now (a .heights)) (c .before .before .before .before .before .before .before .before .before .before .before .before .before .before .before .before .before .enum-told .given .1) within (stride .result) (stride .ensures .0) (c .before .before .before .before .written .ensures)
 
 pub sheet-spec : {M : Type 1} → statement M
 sheet-spec =
