@@ -1,3 +1,4 @@
 pub mod Words
 pub mod Times
+pub mod Lengths
 pub mod Days

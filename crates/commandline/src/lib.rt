@@ -6,13 +6,19 @@ ghost use mathlib.Core.Path.{_≡_};
 ghost use Prim.Native.Nat.{_+_};
 ghost use lib.ListN.{length};
 ghost use Rattle.commandline.specs.Days.{DayAsked, hourlyAsked};
+ghost use Rattle.commandline.specs.Lengths.{lengthsAt};
 ghost use Rattle.commandline.specs.Words.{defaultByte, wordAt};
+use crate::lengths::Lengths;
+use crate::lengths::lengths_of;
 use crate::times::Time;
 use crate::times::time_of;
 use digits::texts;
 use fields::Format;
 use fields::Narrow;
+use station::strides;
+use station::strides::Strides;
 
+pub mod lengths; // a station's stride lengths
 pub mod times; // a time of day
 
 // What is asked: a view with its year, month and so on, bookings also with where their file's name begins; or what is wrong and the word that is.
@@ -43,14 +49,18 @@ pub enum Wrong {
     NotNumber,
     NotTime,
     NotDay,
+    NotLengths,
 }
 
-// What is asked, and where the words begin that name the card file, the station file and the unit.
+// What is asked, where the words begin that name the card file, the station file and the unit, and the station's strides, with where their
+// word begins, 0 where they are the usual ones.
 pub struct Request {
     pub asked: Asked,
     pub cards: usize,
     pub station: usize,
     pub unit: usize,
+    pub strides: Strides,
+    pub lengths: usize,
 }
 
 // What a word is.
@@ -58,6 +68,7 @@ enum Kind {
     Cards,
     Station,
     Unit,
+    Strides,
     Csv,
     Help,
     Unknown,
@@ -76,6 +87,7 @@ struct Parsed {
     cards: usize,
     station: usize,
     unit: usize,
+    lengths: usize,
     csv: usize,
     help: bool,
     unknown: usize,
@@ -161,6 +173,9 @@ fn kind_of(word: &[u8]) -> Kind {
     if texts::same(word, b"--unit") {
         return Kind::Unit;
     }
+    if texts::same(word, b"--strides") {
+        return Kind::Strides;
+    }
     if columns::column(word, 0) == b'-' {
         return other_option(word);
     }
@@ -192,6 +207,7 @@ fn nothing() -> Parsed {
         cards: 0,
         station: 0,
         unit: 0,
+        lengths: 0,
         csv: 0,
         help: false,
         unknown: 0,
@@ -238,6 +254,9 @@ fn with_value(parsed: Parsed, kind: Kind, value: usize) -> Parsed {
         Kind::Unit => {
             next.unit = value;
         }
+        Kind::Strides => {
+            next.lengths = value;
+        }
         Kind::Csv => {
             next.csv = parsed.at;
         }
@@ -264,6 +283,7 @@ fn has_value(kind: Kind) -> bool {
         Kind::Cards => true,
         Kind::Station => true,
         Kind::Unit => true,
+        Kind::Strides => true,
         Kind::Csv => false,
         Kind::Help => false,
         Kind::Unknown => false,
@@ -277,6 +297,7 @@ fn is_plain(kind: Kind) -> bool {
         Kind::Cards => false,
         Kind::Station => false,
         Kind::Unit => false,
+        Kind::Strides => false,
         Kind::Csv => false,
         Kind::Help => false,
         Kind::Unknown => false,
@@ -534,8 +555,26 @@ fn as_table(asked: Asked, csv: usize) -> Asked
     }
 }
 
-// What the words ask.
-fn asked_by(words: &[u8], parsed: Parsed) -> Asked
+// The station's stride lengths: those of the word that begins at a byte, the usual ones where there is none, at 0.
+fn lengths_at(words: &[u8], at: usize) -> Lengths
+    ensures { λ r. ⌜ r ≡ lengthsAt (now (words .entry)) at ⌝ }
+{
+    if at == 0 {
+        return Lengths::Three(strides::usual());
+    }
+    lengths_of(word(words, at))
+}
+
+// The strides that are asked for; the usual ones where what is asked is wrong.
+fn strides_in(lengths: Lengths) -> Strides {
+    match lengths {
+        Lengths::Three(strides) => strides,
+        Lengths::NoLengths => strides::usual(),
+    }
+}
+
+// What the words ask, with these stride lengths.
+fn asked_by(words: &[u8], parsed: Parsed, lengths: Lengths) -> Asked
     ensures { λ r. ⌜ DayAsked r ⌝ }
 {
     if parsed.help {
@@ -546,6 +585,9 @@ fn asked_by(words: &[u8], parsed: Parsed) -> Asked
     }
     if 0 < parsed.missing {
         return Asked::Wrong(Wrong::NoValue, parsed.missing);
+    }
+    if let Lengths::NoLengths = lengths {
+        return Asked::Wrong(Wrong::NotLengths, parsed.lengths);
     }
     if parsed.plain < 1 {
         return Asked::Help;
@@ -569,15 +611,18 @@ fn default_unit(station: usize) -> usize {
     if station == 0 { FEET } else { METRES }
 }
 
-// What the words ask, and their files and unit. With no word it is the help. A day that is asked is at least the first.
+// What the words ask, and their files, unit and strides. With no word it is the help. A day that is asked is at least the first.
 pub fn parse(words: &[u8]) -> Request
     ensures { λ r. ⌜ DayAsked (r .asked) ⌝ }
 {
     let parsed = all_words(words);
+    let lengths = lengths_at(words, parsed.lengths);
     Request {
-        asked: asked_by(words, parsed),
+        asked: asked_by(words, parsed, lengths),
         cards: or(parsed.cards, CARDS),
         station: or(parsed.station, STATION),
         unit: or(parsed.unit, default_unit(parsed.station)),
+        strides: strides_in(lengths),
+        lengths: parsed.lengths,
     }
 }

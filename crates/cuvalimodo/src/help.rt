@@ -42,6 +42,12 @@ fn options() {
         b"  --station FILE    the station's constituents (data/victoria.txt, the manual's sample)",
     );
     line(b"  --unit WORD       the unit of the station's amplitudes (metres; feet for the sample)");
+    line(
+        b"  --strides S,M,D   the station's strides in the search for turns, for semidiurnal, mixed and",
+    );
+    line(
+        b"                    diurnal tides, each 1 to 720 minutes (180,30,360); no file has them",
+    );
     line(b"  --help            this help\n");
     line(
         b"Cards and station are in the columns of Foreman's manual; no file is over 65536 bytes long.",

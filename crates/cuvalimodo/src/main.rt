@@ -12,13 +12,16 @@ use commandline::Asked;
 use commandline::Request;
 use files::End;
 use files::checksum;
+use messages::matters;
 use page::face;
 use page::face::Face;
 use page::face::Ground;
 use page::shown::Date;
+use page::shown::YEAR_TURNS;
 use refusals::Answer;
 use refusals::Refusal;
 use station::records::Rows;
+use station::strides::Strides;
 use station_file::stationcards;
 use station_file::stationfaults;
 use station_file::stationfile;
@@ -221,7 +224,7 @@ fn say_date(path: &[u8], date: Date, refusal: Refusal, place: usize) {
         return;
     }
     if calendar::in_range(1976, date.month) {
-        messages::refused_number(b"year", date.year as u64, refusal);
+        messages::refused_turns(b"year", date.year as u64, YEAR_TURNS, refusal);
         return;
     }
     messages::refused_month(date.month, refusal)
@@ -284,17 +287,32 @@ fn line_of(place: usize) -> usize {
     if place < 1_000_000 { place + 1 } else { place }
 }
 
-// Says the clock's refusal of a station that was read.
-fn say_station(path: &[u8], rows: Rows, refusal: Refusal, place: usize) {
+// Says the clock's refusal of a station that was read: of its strides, or at a line of its file.
+fn say_station(words: &[u8], request: Request, rows: Rows, refusal: Refusal, place: usize) {
+    if matters::of_strides(refusal) {
+        messages::refused_strides(commandline::word(words, request.lengths), refusal);
+        return;
+    }
+    say_records(station_path(words, request), rows, refusal, place)
+}
+
+// Says the clock's refusal of a station's latitude or records.
+fn say_records(path: &[u8], rows: Rows, refusal: Refusal, place: usize) {
     let fault = stationfaults::station_fault(refusal, place, rows);
     messages::refused(path, line_of(place), fault, refusal)
 }
 
-// What the sheets of a station stand on: what was read of it, and the two files' checksums.
-fn ground_of<'a>(read: StationCards, cards: &'a [u8], station: &'a [u8]) -> Ground {
+// What the sheets of a station stand on: what was read of it, its strides, and the two files' checksums.
+fn ground_of<'a>(
+    read: StationCards,
+    strides: Strides,
+    cards: &'a [u8],
+    station: &'a [u8],
+) -> Ground {
     Ground {
         latitude: read.latitude,
         constituents: read.count,
+        strides,
         cards: checksum::crc32(cards),
         station: checksum::crc32(station),
     }
@@ -318,7 +336,7 @@ fn with_clock(after: After, rows: Rows, face: Face, words: &[u8], request: Reque
     match answer {
         Answer::Accepted => with_asked(after.clock, face, words, request),
         Answer::Refused(refusal, place) => {
-            say_station(station_path(words, request), rows, refusal, place)
+            say_station(words, request, rows, refusal, place)
         }
     }
 }
@@ -328,7 +346,7 @@ fn with_station(clock: Clock, read: StationCards, face: Face, words: &[u8], requ
     requires { ⌜ Made clock ⌝ }
 {
     let rows = read.rows;
-    let after = clock::place_station(clock, read.latitude, read.count, rows);
+    let after = clock::place_station(clock, read.latitude, request.strides, read.count, rows);
     with_clock(after, rows, face, words, request)
 }
 
@@ -358,7 +376,7 @@ fn with_table<'a>(
             clock,
             read,
             face_of(
-                ground_of(read, cards, station),
+                ground_of(read, request.strides, cards, station),
                 station,
                 commandline::word(words, request.unit),
             ),

@@ -17,8 +17,10 @@ use monthturns::yearturns;
 use page::face::Face;
 use page::shown;
 use page::shown::Date;
+use page::shown::TURNS;
 use page::shown::Turns;
 use refusals::Answer;
+use refusals::Refusal;
 use swings::months;
 
 // Room for a day's heights, five minutes apart. (Each a function's result, so that its length is known as a fact.)
@@ -94,15 +96,20 @@ fn write_month(face: Face, date: Date, heights: &[i64], turns: Turns) {
     end_turns(&mut page, b, foot, face);
 }
 
+// Says that the clock refused the month's turns.
+fn say_turns(date: Date, refusal: Refusal) {
+    messages::refused_turns(b"month", date.month as u64, TURNS, refusal)
+}
+
 // The drawing of a day whose heights are there.
 fn day_turns(clock: Clock, face: Face, date: Date, heights: &[i64])
     requires { ⌜ Made clock ⌝ }
 {
-    let found = monthturns::turns_of(clock, shown::last_minute(date));
+    let found = monthturns::turns_of(clock, shown::last_minute(date), face.ground.strides);
     let answer = found.answer;
     match answer {
         Answer::Accepted => write_day(face, date, heights, found.turns),
-        Answer::Refused(refusal, _) => messages::refused_month(date.month, refusal),
+        Answer::Refused(refusal, _) => say_turns(date, refusal),
     }
 }
 
@@ -148,11 +155,11 @@ fn month_curve(clock: Clock, face: Face, date: Date, turns: Turns)
 pub fn month(clock: Clock, face: Face, date: Date)
     requires { ⌜ Made clock ⌝ }
 {
-    let found = monthturns::turns_of(clock, shown::last_minute(date));
+    let found = monthturns::turns_of(clock, shown::last_minute(date), face.ground.strides);
     let answer = found.answer;
     match answer {
         Answer::Accepted => month_curve(clock, face, date, found.turns),
-        Answer::Refused(refusal, _) => messages::refused_month(date.month, refusal),
+        Answer::Refused(refusal, _) => say_turns(date, refusal),
     }
 }
 
@@ -183,7 +190,15 @@ fn year_turns(clock: Clock, face: Face, date: Date, hourly: &mut [i64]) -> Answe
 {
     let mut minutes = shown::minute_places();
     let mut heights = shown::height_places();
-    let answer = yearturns::turns_of(clock, date.year, 60, hourly, &mut minutes, &mut heights);
+    let answer = yearturns::turns_of(
+        clock,
+        date.year,
+        60,
+        face.ground.strides,
+        hourly,
+        &mut minutes,
+        &mut heights,
+    );
     match answer {
         TurnsAnswer::Turns(count, _) => {
             let turns = bands::part(&heights, 0, count);

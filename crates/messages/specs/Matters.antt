@@ -1,4 +1,5 @@
--- What a refusal of minutes, 01's 9, is about, by the definitions that the calls go by; and what the place of a card, 02's 33, is. Assumes nothing.
+-- What a refusal of minutes, 01's 9, is about, by the definitions that the calls go by; which refusals have words of their own; and what the place of a
+-- card, 02's 33, is. Assumes nothing.
 use Prim.Native.Nat.{ℕ, _+_, _-_, _/_, _%_}
 use mathlib.Core.Bool.{Bool, _&&_, cond}
 use lib.Dec.{eqb, ltb}
@@ -12,6 +13,14 @@ use Rattle.calls.specs.declared.reasons.Reason.the-variants.{Within}
 -- 9, "minutes outside the month or reversed, or step out of range"
 abbrev pub ofMinutes : Refusal → Bool
 ofMinutes refusal = eqb (numberOf refusal) 9
+
+-- 10, "more turns than the lent buffers hold"
+abbrev pub ofRoom : Refusal → Bool
+ofRoom refusal = eqb (numberOf refusal) 10
+
+-- 35, "a stride outside its range"
+abbrev pub ofStrides : Refusal → Bool
+ofStrides refusal = eqb (numberOf refusal) 35
 
 -- a day that its month lacks
 unfoldable pub lacksDay : Refusal → ℕ → ℕ → ℕ → Bool

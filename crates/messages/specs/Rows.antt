@@ -67,3 +67,4 @@ wrongRow wrong.TooMany = 4
 wrongRow wrong.NotNumber = 5
 wrongRow wrong.NotTime = 6
 wrongRow wrong.NotDay = 7
+wrongRow wrong.NotLengths = 8

@@ -88,6 +88,28 @@ pub fn refused_month(month: u32, refusal: Refusal) {
     refused_number(b"month", month as u64, refusal)
 }
 
+// SUBJECT NUMBER: more than so many high and low waters (refusal 10), for a month or a year of which the clock refuses the turns.
+pub fn refused_turns(subject: &[u8], number: u64, room: usize, refusal: Refusal) {
+    if !matters::of_room(refusal) {
+        refused_number(subject, number, refusal);
+        return;
+    }
+    say_subject(subject, number);
+    say(b"more than ");
+    say_number(room as u64);
+    say(b" high and low waters, the most that it has room for");
+    say_refusal(refusal);
+}
+
+// --strides WORD: words (refusal n), for strides that the clock refuses.
+pub fn refused_strides(word: &[u8], refusal: Refusal) {
+    say(b"--strides ");
+    say(word);
+    say(b": ");
+    pieces::write_general(STDERR_FILENO, refusal);
+    say_refusal(refusal);
+}
+
 // Says a month and its year, as February 2026.
 fn say_month(year: u32, month: u32) {
     let name = dates::month_name(month);

@@ -1,6 +1,6 @@
-// What a refusal is about: a day that its month lacks, which question of 9 turns a series down, or which day's card has no room for a height.
+// What a refusal is about: a stride, the room for turns, a day that its month lacks, which question of 9 turns a series down, or which day's card has no room for a height.
 ghost use mathlib.Core.Path.{_≡_};
-ghost use Rattle.messages.specs.Matters.{ofMinutes, lacksDay, seriesMatter, cardDay, cardNumber};
+ghost use Rattle.messages.specs.Matters.{ofMinutes, ofStrides, ofRoom, lacksDay, seriesMatter, cardDay, cardNumber};
 use calls::reasons;
 use calls::reasons::Reason;
 use refusals::Refusal;
@@ -10,6 +10,20 @@ pub fn of_minutes(refusal: Refusal) -> bool
     ensures { λ r. ⌜ r ≡ ofMinutes refusal ⌝ }
 {
     refusals::number_of(refusal) == refusals::number_of(Refusal::BadMinutes)
+}
+
+// Whether a refusal is that of a stride.
+pub fn of_strides(refusal: Refusal) -> bool
+    ensures { λ r. ⌜ r ≡ ofStrides refusal ⌝ }
+{
+    refusals::number_of(refusal) == refusals::number_of(Refusal::BadStride)
+}
+
+// Whether a refusal is that of more turns than there is room for.
+pub fn of_room(refusal: Refusal) -> bool
+    ensures { λ r. ⌜ r ≡ ofRoom refusal ⌝ }
+{
+    refusals::number_of(refusal) == refusals::number_of(Refusal::TooManyTurns)
 }
 
 // Whether a day is refused because its month lacks it.

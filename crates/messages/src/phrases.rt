@@ -103,6 +103,7 @@ fn wrong_row(wrong: Wrong) -> usize
         Wrong::NotNumber => 5,
         Wrong::NotTime => 6,
         Wrong::NotDay => 7,
+        Wrong::NotLengths => 8,
     }
 }
 

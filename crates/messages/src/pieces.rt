@@ -119,7 +119,7 @@ pub fn write_general(fd: i32, refusal: Refusal) {
 }
 
 // The rows of what is wrong with a word of the command line.
-fn wrong_text() -> [u8; 164] {
+fn wrong_text() -> [u8; 216] {
     *b": no such command\n\
        : no such option\n\
        : its value is missing\n\
@@ -127,7 +127,8 @@ fn wrong_text() -> [u8; 164] {
        : one word too many\n\
        : not a whole number\n\
        : not a time HH:MM\n\
-       : not a day of a month"
+       : not a day of a month\n\
+       : not three lengths in whole minutes, as 180,30,360"
 }
 
 // What is wrong with a word of the command line.

@@ -1,3 +1,4 @@
 pub mod Kept
 pub mod Month
 pub mod Year
+pub mod UsualWidths

@@ -1,3 +1,4 @@
 pub mod Month
+pub mod Widths
 pub mod Year
 pub mod inner

@@ -2,20 +2,28 @@
 //
 // 01's search ends where a stride would pass the last minute asked. From the month's first minute on it so leaves out a turn in what is left
 // of the month behind its last whole stride, and a sheet without that turn would name a later one as the next. Searches over the month's last
-// minutes alone, as long as each of 01's strides, find it.
+// minutes alone, as long as each of the station's strides, find it.
 ghost use Prim.Native.Nat.{_+_, _≤_};
 ghost use Rattle.clock.specs.View.{Made};
 ghost use Rattle.monthturns.specs.inner.Kept.{Kept};
 ghost use Rattle.monthturns.specs.Month.{MonthTurns, FoundTurns};
 
+mod widths; // how wide the searches at the end are
 pub mod yearturns; // the turns of a year
 
+use crate::widths::Widths;
+use crate::widths::widest_first;
 use clock::Clock;
 use clock::TurnsAnswer;
+use limits::STRIDE;
 use page::shown::Known;
 use page::shown::TURNS;
 use page::shown::Turns;
 use refusals::Answer;
+use station::strides::Strides;
+
+// The most turns that so short a search finds: one at each minute of the widest stride.
+const ENDS: usize = STRIDE as usize;
 
 // One turn, or none.
 struct Turn {
@@ -71,8 +79,8 @@ fn end_from(last: u32, width: u32) -> u32 {
 fn turn_at_end(clock: Clock, last: u32, width: u32) -> Turn
     requires { ⌜ Made clock ⌝ }
 {
-    let mut minutes = [0u32; 16];
-    let mut heights = [0i64; 16];
+    let mut minutes = [0u32; ENDS];
+    let mut heights = [0i64; ENDS];
     let from = end_from(last, width);
     let answer = clock::turns(clock, from, last, &mut minutes, &mut heights);
     last_found(answer, &minutes, &heights)
@@ -167,17 +175,23 @@ fn with_ends(
 }
 
 // The turns of the month that a clock has prepared, whose last minute is given, from the front of the buffers: 01's search over the whole
-// month, and what 01's three strides find behind its last one at the month's end. A refusal is the clock's.
-fn month_turns(clock: Clock, last: u32, minutes: &mut [u32], heights: &mut [i64]) -> TurnsAnswer
+// month, and what searches of three widths find behind its last stride at the month's end. A refusal is the clock's.
+fn month_turns(
+    clock: Clock,
+    last: u32,
+    widths: Widths,
+    minutes: &mut [u32],
+    heights: &mut [i64],
+) -> TurnsAnswer
     requires { ⌜ Made clock ⌝ }
     ensures { λ r. ⌜ MonthTurns clock last (now (minutes .entry)) (now (minutes .exit)) (now (heights .entry)) (now (heights .exit)) r ⌝ }
 {
     let answer = clock::turns(clock, 0, last, minutes, heights);
     match answer {
         TurnsAnswer::Turns(count, first) => {
-            let far = turn_at_end(clock, last, 360);
-            let near = turn_at_end(clock, last, 180);
-            let end = turn_at_end(clock, last, 30);
+            let far = turn_at_end(clock, last, widths.far);
+            let near = turn_at_end(clock, last, widths.near);
+            let end = turn_at_end(clock, last, widths.end);
             let known = with_ends(count, first, far, near, end, minutes, heights);
             TurnsAnswer::Turns(known.count, known.first)
         }
@@ -185,14 +199,15 @@ fn month_turns(clock: Clock, last: u32, minutes: &mut [u32], heights: &mut [i64]
     }
 }
 
-// The turns of the month that a clock has prepared, whose last minute is given, or the clock's refusal.
-pub fn turns_of(clock: Clock, last: u32) -> Found
+// The turns of the month that a clock has prepared, whose last minute is given, at a station with these strides, or the clock's refusal.
+pub fn turns_of(clock: Clock, last: u32, strides: Strides) -> Found
     requires { ⌜ Made clock ⌝ }
     ensures { λ r. ⌜ FoundTurns clock last r ⌝ }
 {
+    let widths = widest_first(strides);
     let mut minutes = [0u32; TURNS];
     let mut heights = [0i64; TURNS];
-    let answer = month_turns(clock, last, &mut minutes, &mut heights);
+    let answer = month_turns(clock, last, widths, &mut minutes, &mut heights);
     match answer {
         TurnsAnswer::Turns(count, first) => Found {
             answer: Answer::Accepted,

@@ -1,24 +1,29 @@
 // What every sheet says on its face, and the pieces of text that all views share.
 //
 // A function that puts text takes a lent page and a place on it, as those of `output` do, and gives the place behind the text.
+ghost use mathlib.Core.Bool.{_&&_};
 ghost use mathlib.Core.Path.{_≡_};
 ghost use Prim.Native.Nat.{_≤_};
+ghost use lib.Dec.{eqb};
 ghost use lib.ListN.{length, take};
 ghost use Rattle.columns.specs.Columns.{columns};
+ghost use Rattle.station.specs.Strides.{usualStrides};
 use crate::shown::Date;
 use digits::dates;
 use digits::texts;
 pub use digits::texts::is_greenwich;
 pub use digits::texts::trimmed;
+use station::strides::Strides;
 
 // The longest unit: a word of the command line is shorter.
 pub const UNIT: usize = 4_096;
 
-// What a sheet stands on: the station's latitude in minutes, north positive, how many constituents it has, and the CRC-32 of the card
-// file and of the station file.
+// What a sheet stands on: the station's latitude in minutes, north positive, how many constituents it has, its strides, and the CRC-32 of the
+// card file and of the station file.
 pub struct Ground {
     pub latitude: i32,
     pub constituents: usize,
+    pub strides: Strides,
     pub cards: u32,
     pub station: u32,
 }
@@ -141,24 +146,62 @@ fn put_station(page: &mut [u8], at: usize, latitude: i32, constituents: usize) -
     let word = output::put_bytes(page, at, b"latitude ");
     let comma = put_latitude(page, word, latitude);
     let next = output::put_bytes(page, comma, b", ");
-    output::put_number(page, next, constituents as u64)
+    let number = output::put_number(page, next, constituents as u64);
+    output::put_bytes(page, number, b" constituents")
+}
+
+// Whether strides are the usual ones, of which no sheet speaks.
+fn are_usual(strides: Strides) -> bool
+    ensures { λ r. ⌜ r ≡ (eqb (strides .semidiurnal) (usualStrides .semidiurnal) && (eqb (strides .mixed) (usualStrides .mixed) && eqb (strides .diurnal) (usualStrides .diurnal))) ⌝ }
+{
+    if strides.semidiurnal != 180 {
+        return false;
+    }
+    if strides.mixed != 30 {
+        return false;
+    }
+    strides.diurnal == 360
+}
+
+// Puts three lengths, as 20,30,360.
+fn put_lengths(page: &mut [u8], at: usize, strides: Strides) -> usize
+    ensures { λ r. ⌜ r ≤ length (now (page .entry)) ⌝ }
+{
+    let a = output::put_number(page, at, strides.semidiurnal as u64);
+    let b = output::put(page, a, b',');
+    let c = output::put_number(page, b, strides.mixed as u64);
+    let d = output::put(page, c, b',');
+    output::put_number(page, d, strides.diurnal as u64)
+}
+
+// Puts a station's strides where they are not the usual ones: two clocks that differ must show it.
+fn put_strides(page: &mut [u8], at: usize, strides: Strides) -> usize
+    ensures { λ r. ⌜ r ≤ length (now (page .entry)) ⌝ }
+{
+    if are_usual(strides) {
+        return output::on_page(page.len(), at);
+    }
+    let next = output::put_bytes(page, at, b", strides ");
+    let end = put_lengths(page, next, strides);
+    output::put_bytes(page, end, b" min")
 }
 
 // Puts the checksums of the two files.
 fn put_sums(page: &mut [u8], at: usize, cards: u32, station: u32) -> usize
     ensures { λ r. ⌜ r ≤ length (now (page .entry)) ⌝ }
 {
-    let word = output::put_bytes(page, at, b" constituents; CRC-32 of the cards ");
+    let word = output::put_bytes(page, at, b"; CRC-32 of the cards ");
     let comma = put_hex8(page, word, cards);
     let next = output::put_bytes(page, comma, b", of the station ");
     put_hex8(page, next, station)
 }
 
-// Puts what a sheet stands on: latitude, constituents and the two checksums, on one line with no line end.
+// Puts what a sheet stands on: latitude, constituents, strides that are not the usual ones, and the two checksums, on one line with no line end.
 pub fn put_ground(page: &mut [u8], at: usize, ground: Ground) -> usize
     ensures { λ r. ⌜ r ≤ length (now (page .entry)) ⌝ }
 {
-    let next = put_station(page, at, ground.latitude, ground.constituents);
+    let station = put_station(page, at, ground.latitude, ground.constituents);
+    let next = put_strides(page, station, ground.strides);
     put_sums(page, next, ground.cards, ground.station)
 }
 

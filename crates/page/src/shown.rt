@@ -3,10 +3,10 @@ ghost use mathlib.Core.Path.{_≡_};
 ghost use lib.ListN.{length};
 ghost use Rattle.calendar.specs.Calendar.{monthMinutes};
 
-// How many turns a month has room for, and how many a year.
+// How many turns a month has room for, and how many a year: 16 a day and some more, for a tide that rises and falls four times in twelve hours.
 pub const TURNS: usize = 512;
 
-pub const YEAR_TURNS: usize = 4_096;
+pub const YEAR_TURNS: usize = 6_144;
 
 // A day of a month, or day 0 for the whole month; month 0 for the whole year.
 pub struct Date {
@@ -31,14 +31,14 @@ pub struct Known {
 
 // Room for the minutes of a year's turns. (Each a function's result, so that its length is known as a fact.)
 pub fn minute_places() -> [u32; YEAR_TURNS]
-    ensures { λ r. ⌜ 4_096 ≡ length r ⌝ }
+    ensures { λ r. ⌜ 6_144 ≡ length r ⌝ }
 {
     [0; YEAR_TURNS]
 }
 
 // Room for their heights.
 pub fn height_places() -> [i64; YEAR_TURNS]
-    ensures { λ r. ⌜ 4_096 ≡ length r ⌝ }
+    ensures { λ r. ⌜ 6_144 ≡ length r ⌝ }
 {
     [0; YEAR_TURNS]
 }

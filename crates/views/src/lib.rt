@@ -17,6 +17,7 @@ use digits::dates;
 use page::face::Face;
 use page::shown;
 use page::shown::Date;
+use page::shown::TURNS;
 use page::shown::Turns;
 use refusals::Answer;
 use refusals::Refusal;
@@ -24,10 +25,16 @@ use sheets::daysheet;
 use sheets::daysheet::Next;
 use sheets::daysheet::Water;
 use sheets::monthsheet;
+use station::strides::Strides;
 
 // Says that the clock refused the day.
 fn say_day(date: Date, refusal: Refusal) {
     messages::refused_day(date.year, date.month, date.day, refusal)
+}
+
+// Says that the clock refused the month's turns.
+fn say_turns(date: Date, refusal: Refusal) {
+    messages::refused_turns(b"month", date.month as u64, TURNS, refusal)
 }
 
 // Writes the sheet of a month's turns.
@@ -41,11 +48,11 @@ fn write_month(face: Face, date: Date, turns: Turns) {
 pub fn month(clock: Clock, face: Face, date: Date)
     requires { ⌜ Made clock ⌝ }
 {
-    let found = monthturns::turns_of(clock, shown::last_minute(date));
+    let found = monthturns::turns_of(clock, shown::last_minute(date), face.ground.strides);
     let answer = found.answer;
     match answer {
         Answer::Accepted => write_month(face, date, found.turns),
-        Answer::Refused(refusal, _) => messages::refused_month(date.month, refusal),
+        Answer::Refused(refusal, _) => say_turns(date, refusal),
     }
 }
 
@@ -77,27 +84,39 @@ fn first_turn(high: bool, from: usize, later: bool, turns: Turns) -> Next {
 }
 
 // The first high or low water of the month that a clock has prepared, whose last minute is given; none where the clock refuses it.
-fn month_turn(clock: Clock, high: bool, last: u32) -> Next
+fn month_turn(clock: Clock, strides: Strides, high: bool, last: u32) -> Next
     requires { ⌜ Made clock ⌝ }
 {
-    let found = monthturns::turns_of(clock, last);
+    let found = monthturns::turns_of(clock, last, strides);
     first_turn(high, 0, true, found.turns)
 }
 
 // The first high or low water of a month; none where the clock refuses that month.
-fn turn_behind(clock: Clock, high: bool, year: u32, month: u32) -> Next
+fn turn_behind(clock: Clock, strides: Strides, high: bool, year: u32, month: u32) -> Next
     requires { ⌜ Made clock ⌝ }
 {
     let after = clock::set_date(clock, year, month);
     let answer = after.answer;
     match answer {
-        Answer::Accepted => month_turn(after.clock, high, calendar::month_minutes(year, month)),
+        Answer::Accepted => month_turn(
+            after.clock,
+            strides,
+            high,
+            calendar::month_minutes(year, month),
+        ),
         Answer::Refused(_, _) => no_turn(),
     }
 }
 
 // The next high or low water behind a minute of the month that a clock has prepared, with its turns.
-fn next_turn(clock: Clock, high: bool, date: Date, minute: u32, turns: Turns) -> Next
+fn next_turn(
+    clock: Clock,
+    strides: Strides,
+    high: bool,
+    date: Date,
+    minute: u32,
+    turns: Turns,
+) -> Next
     requires { ⌜ Made clock ⌝ }
 {
     let from = swings::turn_from(&turns.minutes, 0, turns.count, minute as u64 + 1);
@@ -107,6 +126,7 @@ fn next_turn(clock: Clock, high: bool, date: Date, minute: u32, turns: Turns) ->
     }
     turn_behind(
         clock,
+        strides,
         high,
         dates::year_behind(date.year, date.month),
         dates::month_behind(date.month),
@@ -114,14 +134,21 @@ fn next_turn(clock: Clock, high: bool, date: Date, minute: u32, turns: Turns) ->
 }
 
 // What is to be known at a minute: its height, and the next high and low water.
-fn water_at(clock: Clock, date: Date, minute: u32, height: i64, turns: Turns) -> Water
+fn water_at(
+    clock: Clock,
+    strides: Strides,
+    date: Date,
+    minute: u32,
+    height: i64,
+    turns: Turns,
+) -> Water
     requires { ⌜ Made clock ⌝ }
 {
     Water {
         minute,
         height,
-        high: next_turn(clock, true, date, minute, turns),
-        low: next_turn(clock, false, date, minute, turns),
+        high: next_turn(clock, strides, true, date, minute, turns),
+        low: next_turn(clock, strides, false, date, minute, turns),
     }
 }
 
@@ -136,17 +163,17 @@ fn write_day(face: Face, date: Date, water: Water, hourly: &[i64], turns: Turns)
 fn day_turns(clock: Clock, face: Face, date: Date, minute: u32, height: i64, hourly: &[i64])
     requires { ⌜ Made clock ⌝ }
 {
-    let found = monthturns::turns_of(clock, shown::last_minute(date));
+    let found = monthturns::turns_of(clock, shown::last_minute(date), face.ground.strides);
     let answer = found.answer;
     match answer {
         Answer::Accepted => write_day(
             face,
             date,
-            water_at(clock, date, minute, height, found.turns),
+            water_at(clock, face.ground.strides, date, minute, height, found.turns),
             hourly,
             found.turns,
         ),
-        Answer::Refused(refusal, _) => messages::refused_month(date.month, refusal),
+        Answer::Refused(refusal, _) => say_turns(date, refusal),
     }
 }
 

@@ -10,6 +10,7 @@ use page::shown::Known;
 use refusals::Answer;
 use sheets::csv;
 use sheets::yearsheet;
+use station::strides::Strides;
 
 // Writes a year's sheet.
 fn write_sheet<'a>(face: Face, date: Date, known: Known, minutes: &'a [u32], heights: &'a [i64]) {
@@ -26,11 +27,17 @@ fn write_rows<'a>(face: Face, date: Date, known: Known, minutes: &'a [u32], heig
 }
 
 // A year's turns into lent places; no height beside them.
-fn turns_of(clock: Clock, year: u32, minutes: &mut [u32], heights: &mut [i64]) -> TurnsAnswer
+fn turns_of(
+    clock: Clock,
+    year: u32,
+    strides: Strides,
+    minutes: &mut [u32],
+    heights: &mut [i64],
+) -> TurnsAnswer
     requires { ⌜ Made clock ⌝ }
 {
     let mut series = [0i64; 0];
-    yearturns::turns_of(clock, year, 1, &mut series, minutes, heights)
+    yearturns::turns_of(clock, year, 1, strides, &mut series, minutes, heights)
 }
 
 // year YEAR: the high and low waters of each day, or the clock's refusal.
@@ -39,7 +46,8 @@ pub fn year(clock: Clock, face: Face, date: Date) -> Answer
 {
     let mut minutes = shown::minute_places();
     let mut heights = shown::height_places();
-    let answer = turns_of(clock, date.year, &mut minutes, &mut heights);
+    let strides = face.ground.strides;
+    let answer = turns_of(clock, date.year, strides, &mut minutes, &mut heights);
     match answer {
         TurnsAnswer::Turns(count, first) => {
             write_sheet(face, date, Known { count, first }, &minutes, &heights);
@@ -55,7 +63,8 @@ pub fn year_table(clock: Clock, face: Face, date: Date) -> Answer
 {
     let mut minutes = shown::minute_places();
     let mut heights = shown::height_places();
-    let answer = turns_of(clock, date.year, &mut minutes, &mut heights);
+    let strides = face.ground.strides;
+    let answer = turns_of(clock, date.year, strides, &mut minutes, &mut heights);
     match answer {
         TurnsAnswer::Turns(count, first) => {
             write_rows(face, date, Known { count, first }, &minutes, &heights);
