@@ -139,10 +139,6 @@ def hourly():
     yield from levels()
 
 
-def strides_station(latitude, records, strides):
-    return call(b"station", latitude, len(records), *strides) + b"".join(call(b"%d" % place, *rest) for place, *rest in records)
-
-
 def each_with(strides, lengths):
     """Copies of three strides with each of some lengths at each of the three places."""
     return [(*strides[:place], length, *strides[place + 1 :]) for length in lengths for place in range(3)]
@@ -155,15 +151,15 @@ def berths():
     latitude, records = victoria()
     double = [(PLACES["M2"], 9_000, 0), (PLACES["M4"], 2_500, 18_000)]
     search, whole = call(b"turns", 0, 4_320, 99, 99), call(b"turns", 0, LAST, 300, 300)
-    early = [strides_station(latitude, double, (20, 30, 360)), strides_station(5_401, double, (0, 0, 0)), station(latitude, double)]
+    early = [station(latitude, double, 20, 30, 360), station(5_401, double, 0, 0, 0), station(latitude, double)]
     yield from (*early, cards_call(CARDS))
-    for set_berth in (station(latitude, double), *(strides_station(latitude, double, (length, 30, 360)) for length in (180, 20, 1))):
+    for set_berth in (station(latitude, double), *(station(latitude, double, length, 30, 360) for length in (180, 20, 1))):
         yield from (set_berth, call(b"date", 1976, 7), whole, call(b"year", 1976, 0, 60, 9, 300_000, 309_000, 99, 99))
     for strides in each_with((20, 30, 360), (0, 721, 722, 1_440, 65_536 + 20, 2**31 + 20, LARGEST)):
-        yield strides_station(latitude, double, strides) + search
+        yield station(latitude, double, *strides) + search
     for faulty in ((5_401, double), (latitude, [(0, 1, 2)] * 147), (latitude, double[:1] * 2), (latitude, [(255, 65_536, 36_000)])):
         for strides in ((20, 30, 360), (0, 30, 360), (20, 721, 360), (20, 30, LARGEST), (0, 0, 0)):
-            yield strides_station(*faulty, strides) + search
+            yield station(*faulty, *strides) + search
     k1, m2 = PLACES["K1"], PLACES["M2"]
     for tides in (
         double, records, [(k1, 1_000, 0), (m2, 4_000, 0)], [(k1, 1_001, 0), (m2, 4_000, 0)], [(k1, 3_000, 0), (m2, 1_000, 0)],
@@ -171,7 +167,7 @@ def berths():
     ):
         yield station(latitude, tides) + call(b"date", 1976, 7) + whole
         for strides in ((180, 30, 360), (360, 180, 30), (30, 360, 180), (720, 720, 720), *each_with((60, 60, 60), (1, 720))):
-            yield strides_station(latitude, tides, strides) + call(b"date", 1976, 7) + search + call(b"turns", 0, 720, 9, 9)
+            yield station(latitude, tides, *strides) + call(b"date", 1976, 7) + search + call(b"turns", 0, 720, 9, 9)
 
 
 def updates():
