@@ -1,6 +1,7 @@
 """Random strides for the call `station`, at the ends of their range and past them, the overtides that strides of other lengths see
 differently, and station lines that are not of the form."""
 
+from decks import OVERTIDES
 from heights import LONGEST_STRIDE, SHORTEST_STRIDE, USUAL_STRIDES, Strides
 from years import LARGEST, chance
 
@@ -15,9 +16,6 @@ MALFORMED = [
     b"station 0 180 30 360\n0 0 0\n", b"station 0 2 180 30 360\n0 0 0\n", b"station 180 30 360\n", b"stations 0 0 180 30 360\n",
     b"station 0 1 180 30 360\n0 0 0 180 30 360\n", b"station 0 4294967296 180 30 360\n", b"station 2147483648 0 1 1 1\n",
 ]
-
-# Those of M2, and how many times its frequency they have.
-OVERTIDES = {b"M4   ": 2, b"M6   ": 3, b"M8   ": 4, b"M10  ": 5}
 
 
 def malformed(rng):

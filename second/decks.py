@@ -6,8 +6,6 @@ be damaged afterwards. Nothing here looks at the reader in cards.py.
 
 from collections import namedtuple
 
-from berths import OVERTIDES
-
 PRINTABLE = bytes(range(33, 127))
 NAME_BYTES = b"ABCDEFGHIJKLMNOPQRSTUVWXYZ0123456789"
 
@@ -356,6 +354,8 @@ STILLS = [b"ST%02d " % number for number in range(20)]
 SLOW, SWIFT = b"SLOW ", b"SWIFT"
 # Those that creep turn by a few degrees a year.
 CREEPERS = [b"CR%02d " % number for number in range(6)]
+# Overtides of M2, and how many times its frequency they have.
+OVERTIDES = {b"M4   ": 2, b"M6   ": 3, b"M8   ": 4, b"M10  ": 5}
 
 
 def still_file(rng):

@@ -320,7 +320,8 @@ class ScriptWriter:
     # Strides
 
     def berth(self):
-        """A berth with double high waters under several strides, refused stations between them, and the same search each time."""
+        """A berth with double high waters under several strides, refused stations between them, and the same search each time. The
+        tide stays, or one of another class comes."""
         rng = self.rng
         self.put_cards(self.standard if rng.random() < 0.2 else decks.double_file(rng))
         latitude, records, date = self.latitude(), self.double_records(), hours.pick_date(rng)
@@ -331,7 +332,10 @@ class ScriptWriter:
             self.berth_search(first, length)
             if rng.random() < 0.7:
                 self.put_station(*self.spoil_station(latitude, records, berths.pick_line(rng)))
+                if rng.random() < 0.3:
+                    self.put_date(*date)
                 self.berth_search(first, length)
+            records = rng.choice([records, self.double_records()])
 
     def berth_search(self, first, length):
         """By the month as a rule, at times on the year's sheet."""
