@@ -114,6 +114,10 @@ STATION_FAULTS = [
     (cut(0), 1, "the file has no station card", 7),
 ]
 
+# what is said of strides that are malformed or out of range
+NO_STRIDES = "not three strides in whole minutes, as 180,30,360, try --help"
+BAD_STRIDE = "a stride outside 1 to 720 minutes (refusal 35)"
+
 # arguments, words
 ASKED = [
     (["month", "1976", "13"], "month 13: year or month out of range (refusal 8)"),
@@ -167,6 +171,28 @@ ASKED = [
     (["month", "1976", "July"], "July: not a whole number, try --help"),
     (["day", "1976", "7", "1", "25:00"], "25:00: not a time HH:MM, try --help"),
     (["day", "1976", "7", "0"], "0: not a day of a month, try --help"),
+    (MONTH + ["--strides"], "--strides: its value is missing, try --help"),
+    (MONTH + ["--stride", "20,20,20"], "--stride: no such option, try --help"),
+    (MONTH + ["--strides", "180"], "180: " + NO_STRIDES),
+    (MONTH + ["--strides", "180,30"], "180,30: " + NO_STRIDES),
+    (MONTH + ["--strides", "180,30,360,20"], "180,30,360,20: " + NO_STRIDES),
+    (MONTH + ["--strides", "180,30,"], "180,30,: " + NO_STRIDES),
+    (MONTH + ["--strides", "180,,360"], "180,,360: " + NO_STRIDES),
+    (MONTH + ["--strides", ",30,360"], ",30,360: " + NO_STRIDES),
+    (MONTH + ["--strides", "180, 30,360"], "180, 30,360: " + NO_STRIDES),
+    (MONTH + ["--strides", "180;30;360"], "180;30;360: " + NO_STRIDES),
+    (MONTH + ["--strides", "180,30,six"], "180,30,six: " + NO_STRIDES),
+    (MONTH + ["--strides", "180,-30,360"], "180,-30,360: " + NO_STRIDES),
+    (MONTH + ["--strides", "180,30,4294967296"], "180,30,4294967296: " + NO_STRIDES),
+    (MONTH + ["--strides", "0,30,360"], "--strides 0,30,360: " + BAD_STRIDE),
+    (MONTH + ["--strides", "180,0,360"], "--strides 180,0,360: " + BAD_STRIDE),
+    (MONTH + ["--strides", "180,30,721"], "--strides 180,30,721: " + BAD_STRIDE),
+    (MONTH + ["--strides", "4294967295,30,360"], "--strides 4294967295,30,360: " + BAD_STRIDE),
+    (["year", "1976", "--strides", "721,30,360"], "--strides 721,30,360: " + BAD_STRIDE),
+    (["svg", "1976", "7", "1", "--strides", "180,721,360"], "--strides 180,721,360: " + BAD_STRIDE),
+    (["heights", "1976", "7", "--strides", "180,30,0"], "--strides 180,30,0: " + BAD_STRIDE),
+    (["hourly", "1976", "7", "7120", "--strides", "180,30,0"], "--strides 180,30,0: " + BAD_STRIDE),
+    (["month", "1976", "13", "--strides", "0,0,0"], "--strides 0,0,0: " + BAD_STRIDE),
     (MONTH + ["--cards", "no-such-file"], "no-such-file: No such file or directory"),
     (MONTH + ["--cards", "."], ".: Is a directory"),
 ]
@@ -189,6 +215,7 @@ REFUSALS = """1 line over 80 columns or a byte outside 32 to 126
 32 station number over 99999
 33 a height outside -999 to 9998
 34 buffer too short for the month
+35 a stride outside 1 to 720 minutes
 """
 
 # April's bookings: their lines, and what is said of the last one
@@ -308,8 +335,13 @@ def main():
         fast = list(CARDS)
         line(21, 13, "0.4999999999 ")(fast)
         m.write("cards.txt", fast)
-        m.expect(MONTH + ["--cards", "cards.txt"], "month 7: more turns than the lent buffers hold (refusal 10)\n")
-        m.expect(["year", "1976", "--cards", "cards.txt"], "year 1976: more turns than the lent buffers hold (refusal 10)\n")
+        for words in (MONTH, ["day", "1976", "7", "1"], ["svg", "1976", "7"], ["svg", "1976", "7", "1"]):
+            m.expect(words + ["--cards", "cards.txt"], "month 7: more than 512 high and low waters, the most that it has room for (refusal 10)\n")
+        for words in (["year", "1976"], ["year", "1976", "--csv"], ["svg", "1976"]):
+            m.expect(words + ["--cards", "cards.txt"], "year 1976: more than 6144 high and low waters, the most that it has room for (refusal 10)\n")
+        # strides so long that they step over most turns: there is room for the rest
+        got = m.run(MONTH + ["--cards", "cards.txt", "--strides", "180,720,360"])
+        m.expect(MONTH + ["--cards", "cards.txt", "--strides", "720,720,720"], "", got.stdout.replace(b"180,720,360", b"720,720,720"))
         # 11: a satellite of ratio 2 with the diurnal latitude factor at the equator
         large = list(CARDS)
         line(173, 25, " 2.0000R1")(large)

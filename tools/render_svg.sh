@@ -1,5 +1,5 @@
 #!/usr/bin/env bash
-# Draws a day, a month and a year of a semidiurnal, a mixed and a diurnal station, and renders each by a browser engine: target/drawings/*.png.
+# Draws a day, a month and a year of a semidiurnal, a mixed and a diurnal station, and a day of an estuary with both strides, and renders each by a browser engine: target/drawings/*.png.
 # It needs target/bin/cuvalimodo (rt check cuvalimodo) and chromium (Debian: apt-get install chromium).
 set -eu
 cd "$(dirname "$0")/.."
@@ -23,6 +23,8 @@ for kind in semidiurnal diurnal; do
     render "$kind-month" "data/examples/$kind.txt" 2026 11
     render "$kind-year" "data/examples/$kind.txt" 2026
 done
+render estuary-day data/examples/estuary.txt 2026 11 3 --strides 20,20,20
+render estuary-day-stepped-over data/examples/estuary.txt 2026 11 3
 render mixed-day data/victoria.txt --unit feet 1976 7 12
 render mixed-month data/victoria.txt --unit feet 1976 7
 render mixed-year data/victoria.txt --unit feet 1976

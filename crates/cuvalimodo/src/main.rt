@@ -335,9 +335,7 @@ fn with_clock(after: After, rows: Rows, face: Face, words: &[u8], request: Reque
     let answer = after.answer;
     match answer {
         Answer::Accepted => with_asked(after.clock, face, words, request),
-        Answer::Refused(refusal, place) => {
-            say_station(words, request, rows, refusal, place)
-        }
+        Answer::Refused(refusal, place) => { say_station(words, request, rows, refusal, place) }
     }
 }
 

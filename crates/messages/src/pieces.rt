@@ -128,7 +128,7 @@ fn wrong_text() -> [u8; 216] {
        : not a whole number\n\
        : not a time HH:MM\n\
        : not a day of a month\n\
-       : not three lengths in whole minutes, as 180,30,360"
+       : not three strides in whole minutes, as 180,30,360"
 }
 
 // What is wrong with a word of the command line.

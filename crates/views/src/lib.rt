@@ -169,7 +169,14 @@ fn day_turns(clock: Clock, face: Face, date: Date, minute: u32, height: i64, hou
         Answer::Accepted => write_day(
             face,
             date,
-            water_at(clock, face.ground.strides, date, minute, height, found.turns),
+            water_at(
+                clock,
+                face.ground.strides,
+                date,
+                minute,
+                height,
+                found.turns,
+            ),
             hourly,
             found.turns,
         ),
