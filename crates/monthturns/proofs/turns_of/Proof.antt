@@ -4,6 +4,9 @@ use Rattle.monthturns.proofs.Month.{found-turns, found-refusal}
 use Rattle.monthturns.proofs.turns_of.Statement.{statement}
 use Rattle.monthturns.proofs.turns_of.Tie as tie
 
+widest-first-requires : tie.Need-widest-first-requires
+widest-first-requires c κs = search needs
+
 slice-aggregate-month-turns : tie.Need-slice-aggregate-month-turns
 slice-aggregate-month-turns c = search needs
 
@@ -29,6 +32,7 @@ pub turns-of-spec : {M : Type 1} → statement M
 turns-of-spec =
     tie.close
     (tie.spec
+    widest-first-requires
     slice-aggregate-month-turns
     slice-aggregate-month-turns-2
     month-turns-requires

@@ -4,6 +4,9 @@ use borrow.Author.Needs.{needs}
 use Rattle.monthturns.proofs.yearturns.turns_of.Statement.{statement}
 use Rattle.monthturns.proofs.yearturns.turns_of.Tie as tie
 
+widest-first-requires : tie.Need-widest-first-requires
+widest-first-requires c κs = search needs
+
 year-minutes-requires : tie.Need-year-minutes-requires
 year-minutes-requires c κs = search needs
 
@@ -68,6 +71,7 @@ pub turns-of-spec : {M : Type 1} → statement M
 turns-of-spec =
     tie.close
     (tie.spec
+    widest-first-requires
     year-minutes-requires
     cast-last
     year-requires
