@@ -39,8 +39,8 @@ module _ (c : Clock) (station : Station) (made : Made c) (taken : Taken) (says :
       let fit = station-strides (tableOf (c .table)) (c .stationed) (stationOf (c .station)) (c .dated) (monthIn c) station (c .tabled) asked in
       record {
         made = λ tabled.
-          let sound = made tabled in
-          record { cosines = sound .cosines; table = sound .table; count = sound .count; last = sound .last; month = sound .month; strides = rw (strides-kept (says .keeps (ap outcomeOf e))) fit };
+            let sound = made tabled in
+            record { cosines = sound .cosines; table = sound .table; count = sound .count; last = sound .last; month = sound .month; strides = rw (strides-kept (says .keeps (ap outcomeOf e))) fit };
         returns = law .0;
         leaves = rw (says .keeps (ap outcomeOf e)) (law .1);
       }
