@@ -2,20 +2,18 @@
 -- Assumes nothing.
 use Prim.Native.Nat.{ℕ, _-_}
 use mathlib.Core.Path.{_≡_}
-use mathlib.Core.List.{List}
-use mathlib.Core.Bool.{cond}
+use mathlib.Core.Bool.{false, cond}
 use lib.Dec.{eqb, ltb}
 use lib.ListN.{getD}
-use lib.IntN.{ℤ}
 use Rattle.limits.specs.Limits.{mostRecords}
 use Rattle.card.specs.declared.faults.What.the-variants.{Card, Name, Latitude, Amplitude, PhaseLag}
 use Rattle.card.specs.declared.faults.Trouble.the-variants.{OutOfRange, Twice, NoFrequency, TooManyRecords}
 use Rattle.card.specs.declared.faults.Fault.{Fault}
 use Rattle.card.specs.Faults.{only, faultNumber}
 use Rattle.refusals.specs.Outcome.{refused}
-use Rattle.station.specs.declared.records.Record.{Record}
 use Rattle.station.specs.declared.records.Rows.{Rows}
-use Rattle.station.specs.Station.{amplitudeOutside, stationOutcome}
+use Rattle.station.specs.Station.{Station, amplitudeOutside, stationOutcome}
+use Rattle.station.specs.Strides.{stridesOutside}
 
 -- "each record's place (5, 4), amplitude, phase": of a record with this amplitude, by the refusal's number
 abbrev pub recordFault : ℕ → ℕ → Fault
@@ -29,8 +27,9 @@ stationFault number place rows =
     cond (eqb place 0) (only Latitude OutOfRange)
     (cond (ltb mostRecords place) (only Card TooManyRecords) (recordFault number (getD (rows .amplitudes) (place - 1) 0)))
 
--- What is proved of it (proofs/stationfaults/Numbers.antt): the fault falls under the number by which the station is refused.
+-- What is proved of it (proofs/stationfaults/Numbers.antt): the fault falls under the number by which the station is refused. (Its strides, 35,
+-- do not stand in the file.)
 abbrev pub FaultsFit : Type 0
 FaultsFit =
-    (frequencies : ℕ) (latitude : ℤ) (rs : List Record) (rows : Rows) (number place : ℕ)
-    → stationOutcome frequencies latitude rs ≡ refused number place → faultNumber (stationFault number place rows) ≡ number
+    (frequencies : ℕ) (station : Station) (rows : Rows) (number place : ℕ) → stridesOutside (station .strides) ≡ false
+    → stationOutcome frequencies station ≡ refused number place → faultNumber (stationFault number place rows) ≡ number

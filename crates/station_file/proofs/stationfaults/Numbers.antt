@@ -71,8 +71,8 @@ records-number frequencies earlier k (r ∷ rs) number place e =
 -- the whole station
 pub faults-fit : FaultsFit
 unfolding stationOutcome stationFault
-faults-fit frequencies latitude rs rows number place =
-    tests (ltZ latitude (negℤ (pos mostLatitude))) (ltZ (pos mostLatitude) latitude) (ltb mostRecords (length rs)) refl
+faults-fit frequencies station rows number place inside =
+    rw inside (tests (ltZ (station .latitude) (negℤ (pos mostLatitude))) (ltZ (pos mostLatitude) (station .latitude)) (ltb mostRecords (length (station .records))) refl)
   where
     at : (n p : ℕ) → faultNumber (stationFault n p rows) ≡ n → _≡_ {A = Outcome Unit} (refused n p) (refused number place) → faultNumber (stationFault number place rows) ≡ number
     at n p fits e =
@@ -80,13 +80,13 @@ faults-fit frequencies latitude rs rows number place =
         let s : p ≡ place = cc in
         rw (← q, ← s) fits
 
-    tests : (a b c : Bool) → ltb mostRecords (length rs) ≡ c
-        → refuseIf a 3 0 (refuseIf b 3 0 (refuseIf c 6 (mostRecords + 1) (recordsOutcome frequencies [] 1 rs))) ≡ refused number place → faultNumber (stationFault number place rows) ≡ number
+    tests : (a b c : Bool) → ltb mostRecords (length (station .records)) ≡ c
+        → refuseIf a 3 0 (refuseIf b 3 0 (refuseIf c 6 (mostRecords + 1) (recordsOutcome frequencies [] 1 (station .records)))) ≡ refused number place → faultNumber (stationFault number place rows) ≡ number
     tests true b c h e = at 3 0 refl e
     tests false true c h e = at 3 0 refl e
     tests false false true h e = at 6 (mostRecords + 1) refl e
     tests false false false h e =
-        let l = records-number frequencies [] 1 rs number place e in
+        let l = records-number frequencies [] 1 (station .records) number place e in
         let some : eqb place 0 ≡ false = ne-eqb place 0 (λ z. omega (arith, l .0)) in
-        let few : ltb mostRecords place ≡ false = le-ltb mostRecords place (omega (arith, l .1, ltb-false mostRecords (length rs) h)) in
+        let few : ltb mostRecords place ≡ false = le-ltb mostRecords place (omega (arith, l .1, ltb-false mostRecords (length (station .records)) h)) in
         rw (some, few) (l .2 (getD (rows .amplitudes) _ 0))
