@@ -21,7 +21,8 @@ MALFORMED = [
 def malformed(rng):
     """A station line that is not of the form: too few or too many strides on it, or one of those above."""
     strides = b"".join(b" %d" % pick_stride(rng) for _ in range(rng.choice([1, 2, 2, 4])))
-    return rng.choice([b"station 0 0%s\n" % strides, rng.choice(MALFORMED)])
+    wrong_count = b"station 0 0%s\n" % strides
+    return rng.choice([wrong_count, wrong_count, rng.choice(MALFORMED)])
 
 
 # Strides
@@ -62,13 +63,11 @@ def pick_short(rng):
 
 
 def bad_stride(rng):
-    """One outside the range; some are inside if cut to 8, 16 or 31 bits."""
+    """One outside the range; some are inside if cut to 8, 10, 16 or 31 bits."""
     fits = rng.randint(SHORTEST_STRIDE, LONGEST_STRIDE)
-    other = rng.choice([
-        722, 1_440, LARGEST, LARGEST, 65_536, 65_536 + fits, 65_536 * rng.randint(1, 65_535) + fits, 2**31 + fits,
-        1_024 + fits % 256, rng.randint(721, LARGEST),
-    ])
-    return chance(rng, (3, 0), (4, 721), (4, other))
+    longer = rng.choice([1_024 + fits, 65_536 + fits, 65_536 * rng.randint(1, 65_535) + fits, 2**31 + fits])
+    other = rng.choice([722, 1_440, 65_536, LARGEST, LARGEST, rng.randint(721, LARGEST)])
+    return chance(rng, (5, 0), (4, 721), (3, longer), (2, other))
 
 
 def spoil(rng, strides):

@@ -206,7 +206,7 @@ class ScriptWriter:
         size = len(self.clock.table.frequencies) if kind == "full" else 0
         return [(place, self.amplitude(), self.lag()) for place in range(min(size, 146))]
 
-    def station(self, good=0.75):
+    def station(self, good=0.7):
         rng = self.rng
         station = self.latitude(), self.records(), berths.pick_line(rng)
         self.put_station(*station if rng.random() < good else self.spoil_station(*station))
@@ -484,7 +484,7 @@ class ScriptWriter:
             b"year 1976 0 60  1 0 0 0 0\n", b"year 1976 0 60 1 0 0 0 0", *bookings.MALFORMED,
             *hours.MALFORMED,
         ])
-        self.calls.append(chance(self.rng, (3, any_line), (2, berths.malformed(self.rng))))
+        self.calls.append(self.rng.choice([any_line, berths.malformed(self.rng)]))
 
 
 def script(rng, index, standard):
@@ -493,7 +493,7 @@ def script(rng, index, standard):
     writer = ScriptWriter(rng, standard, ratios, standard_share)
     while len(writer.calls) < CALLS:
         writer.any_call()
-    if rng.random() < 0.2:
+    if rng.random() < 0.25:
         writer.malformed_line()
     return writer.data()
 

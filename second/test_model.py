@@ -740,6 +740,8 @@ def check_single_minutes():
         check("single minutes %r" % slopes, heights.search(slopes.__getitem__, 1, 0, len(slopes) - 1), wanted)
     for slopes, stride, wanted in (
         ([1, 2, -3], 2, ([1], True)), ([4, -2, -1], 2, ([1], True)), ([1, -1, 1], 2, ([], False)), ([1, -9], 2, ([], False)),
+        # "Then cut at start + floor(length/2)": three changes in a stride, of which the halves find one.
+        ([1, -1, 1, -1], 3, ([0], True)), ([1, 1, -1, 1, 1, -1], 5, ([1], True)), ([1, 1, 1, -1, 1, -1], 5, ([2], True)),
         # Resumed at minute 2, a stride of 2 ends at 4 and one of 3 at 5.
         ([1, 1, -1, -1, 3], 2, ([1, 3], True)), ([1, 1, -1, -1, 3], 3, ([1], True)), ([1, 1, -1, -1, -1, 3], 3, ([1, 4], True)),
     ):
@@ -861,13 +863,13 @@ def check_strides_replaced():
         wanted = turns_by_01(slopes_of(clock, *EIGHTH), length)
         check("turns by the new strides", minutes_found(clock, *EIGHTH), wanted)
         left = clock.station, clock.month
-        for latitude, bad, other, number in (
-            (5_401, [], (7, 7, 7), 3), (0, [], (0, 7, 7), 35), (0, [], (7, 721, 7), 35), (0, [], (7, 7, 2**32 - 1), 35),
-            (0, [(0, 0, 0)] * 147, (7, 7, 7), 6), (0, [(255, 0, 0)], (7, 7, 7), 5), (0, records + records, (7, 7, 7), 4),
-            (0, [(0, 65_536, 0)], (7, 7, 7), 3), (3_050, records + [(0, 0, 36_000)], (7, 7, 7), 3),
-            (-5_401, records, (180, 30, 360), 3),
+        for latitude, bad, other, refusal in (
+            (5_401, [], (7, 7, 7), (3, 0)), (-5_401, records, (180, 30, 360), (3, 0)), (0, [], (0, 7, 7), (35, 0)),
+            (0, [], (7, 721, 7), (35, 0)), (0, [], (7, 7, 2**32 - 1), (35, 0)), (0, [(0, 0, 0)] * 147, (7, 7, 7), (6, 147)),
+            (0, [(255, 0, 0)], (7, 7, 7), (5, 1)), (0, records + records, (7, 7, 7), (4, 4)),
+            (0, [(0, 65_536, 0)], (7, 7, 7), (3, 1)), (3_050, records + [(0, 0, 36_000)], (7, 7, 7), (3, 4)),
         ):
-            check("refused", refused(clock.set_station, latitude, bad, other)[0], number)
+            check("refused", refused(clock.set_station, latitude, bad, other), refusal)
             check("the old one kept", (clock.station is left[0], clock.month is left[1]), (True, True))
             check("turns by the old strides", minutes_found(clock, *EIGHTH), wanted)
     clock.set_cards(STANDARD)
