@@ -16,7 +16,7 @@ import sys
 LEMMAS = ["goes_on", "kept_gives", "names_in", "none_kept", "none_over", "number_read", "too_many", "turned_down", "two_digits"]
 LEMMA = re.compile(r"(?<![\w.'-])(" + "|".join(LEMMAS) + r")(?![\w'-]|\.\w)")
 
-WORD = re.compile(r"[a-z][\w'₀-₉-]*", re.UNICODE)
+WORD = re.compile(r"(?<![\w'])[A-Za-z][\w'₀-₉-]*")
 CAMEL = re.compile(r"(?<=[a-z0-9])(?=[A-Zℕℤ])|(?<=[A-Z])(?=[A-Z][a-z])")
 # Variables of two letters, which are no words.
 SHORT = {"aB", "hF", "iN", "xP"}
@@ -32,9 +32,7 @@ def plain(word):
 
 
 def snake(part):
-    if part in SHORT or not re.match(r"[a-z]", part) or not re.search(r"[a-z0-9][A-Zℕℤ]", part):
-        return part
-    if re.search(r"_[A-Z]", part):
+    if part in SHORT or not re.match(r"[a-z]", part) or re.search(r"_[A-Z]", part):
         return part
     return CAMEL.sub("_", part).lower()
 

@@ -5,7 +5,7 @@ use Prim.Native.Nat.{ℕ, zero, suc, ◌+◌, ◌-◌, ◌*◌, ◌/◌, ◌%◌
 use native.Mathlib.Nat.{div-add-mod', mod-lt, mul_comm, mul-add-mod_self_right, mod-eq_of_lt, add-mul-div_right, div-eq_of_lt, div-le_of_le-mul, div-lt_iff_lt-mul, le_trans, le_of_eq, mul-le-mul_left}
 use native.Mathlib.Omega.{arith}
 use borrow.Author.Tests.{lt-ltb}
-use lib.Int_n.{ℤ, pos, negsuc, neg_ℤ, nat_abs, ◌+ℤ◌, ◌-ℤ◌, ◌*ℤ◌, +ℤ_comm, +ℤ-neg_ℤ_cancel}
+use lib.IntN.{ℤ, pos, negsuc, neg_ℤ, nat_abs, ◌+ℤ◌, ◌-ℤ◌, ◌*ℤ◌, +ℤ_comm, +ℤ-neg_ℤ_cancel}
 use lib.Signed.{shr_z}
 use Rattle.angles.specs.Floor.{floor_div}
 use Rattle.angles.proofs.Ints.{swap, distrib-right}

@@ -8,11 +8,11 @@
 use mathlib.Core.Path.{◌≡◌, refl, sym, ◌∙◌, ap, ap₂, subst}
 use Prim.Native.Nat.{ℕ, zero, ◌+◌, ◌*◌, ◌^◌, ◌≤◌, ◌<◌}
 use native.Mathlib.Nat.{le_trans, le_of_eq, mul-le-mul, lt_of_le_of_lt, add-le-add}
-use lib.Int_n.{ℤ, pos, neg_ℤ, nat_abs, ◌+ℤ◌, ◌-ℤ◌, ◌*ℤ◌, +ℤ_idl}
+use lib.IntN.{ℤ, pos, neg_ℤ, nat_abs, ◌+ℤ◌, ◌-ℤ◌, ◌*ℤ◌, +ℤ_idl}
 use lib.Signed.{shr_z, nat_abs-le}
 use mir.Syntax.{Width, w64}
 use mir.Val.{hbits, SFits, to_z, of_z}
-use mir.Val_laws.{to_z-of_z}
+use mir.ValLaws.{to_z-of_z}
 use Rattle.angles.specs.Floor.{floor_div}
 use Rattle.angles.proofs.Ints.{triangle, triangle-sub, nat_abs_mul, nat_abs-neg}
 use Rattle.angles.proofs.Floors.{shift-is-floor, floor-size}

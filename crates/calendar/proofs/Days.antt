@@ -7,7 +7,7 @@ use native.Mathlib.Nat.{div-add-mod', mod-lt}
 use native.Mathlib.Omega.{arith}
 use borrow.Author.Tests.{eqb-true, eqb-false, ltb-true, ltb-false}
 use lib.Dec.{ltb, lit<}
-use lib.Int_n.{pos, nat_abs, ◌-ℤ◌}
+use lib.IntN.{pos, nat_abs, ◌-ℤ◌}
 use mir.Syntax.{w64}
 use mir.Val.{to_z}
 use Rattle.calendar.specs.Calendar.{is_fourth, month_days, months_days, years_days, day_count, in_range}

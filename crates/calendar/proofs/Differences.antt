@@ -4,7 +4,7 @@ use mathlib.Core.Path.{◌≡◌, refl, sym, ◌∙◌, ap, ap₂}
 use Prim.Native.Nat.{ℕ, zero, suc, ◌+◌, ◌-◌, ◌^◌, ◌≤◌, ◌<◌}
 use native.Mathlib.Omega.{arith}
 use borrow.Author.Tests.{le-ltb}
-use lib.Int_n.{pos, negsuc, nat_abs, sub_ℕ, ◌-ℤ◌}
+use lib.IntN.{pos, negsuc, nat_abs, sub_ℕ, ◌-ℤ◌}
 use mir.Syntax.{w64}
 use mir.Val.{SFits, to_z}
 use Rattle.angles.proofs.Ints.{by_order, triangle-sub}

@@ -6,14 +6,14 @@ use mathlib.Core.Path.{◌≡◌, refl, sym, ap, ◌∙◌}
 use mathlib.Core.List.{List, map}
 use lib.Dec.{eqb}
 use borrow.Author.Tests.{eqb-true, not-false}
-use lib.Int_n.{ℤ}
-use lib.List_n.{length}
+use lib.IntN.{ℤ}
+use lib.ListN.{length}
 use Rattle.refusals.specs.Outcome.{Outcome, accepted, refused, refuse_if, answered, ◌>>◌, ◌>>=◌}
 use Rattle.refusals.proofs.Laws.{not-both}
 use Rattle.table.specs.Table.{Table}
 use Rattle.station.specs.Station.{Station}
 use Rattle.heights.specs.Height.{height_at}
-use Rattle.heights.specs.inner.Places.{All_within}
+use Rattle.heights.specs.inner.Places.{AllWithin}
 use Rattle.calls.specs.State.{Dated, State}
 use Rattle.calls.specs.Calls.{filled}
 use Rattle.calls.specs.Bookings.{minutes_from, bookings_heights, bookings_gives}
@@ -60,7 +60,7 @@ let-pass false (accepted tt) e = (refl, refl)
 let-pass false (refused number place) e = not-both e
 
 pub bookings-within : (t s d : Bool) (last : ℕ) (minutes : List ℕ) (places : ℕ) → bookings_by t s d last minutes places ≡ accepted tt
-    → (t ≡ true) × ((places ≡ length minutes) × All_within last minutes)
+    → (t ≡ true) × ((places ≡ length minutes) × AllWithin last minutes)
 bookings-within true true true last minutes places e =
     let p = let-pass (not (eqb (length minutes) places)) (minutes_from last 1 minutes) e in (refl, (sym (eqb-true (length minutes) places (not-false (eqb (length minutes) places) p.0)), minutes-within last 1 minutes p.1))
 bookings-within true true false last minutes places e = not-both e

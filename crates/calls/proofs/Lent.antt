@@ -5,9 +5,9 @@ use mathlib.Core.Path.{◌≡◌, refl, sym, ap, subst, ◌∙◌}
 use Prim.Native.Nat.{ℕ}
 use mathlib.Core.Bool.{Bool, true, false}
 use mathlib.Core.List.{List}
-use lib.List_n.{length}
+use lib.ListN.{length}
 use lib.Dec.{ltb}
-use lib.Int_n.{ℤ, pos, negsuc}
+use lib.IntN.{ℤ, pos, negsuc}
 use lib.Signed.{lt_z}
 use borrow.Author.Tests.{ltb-false}
 use Rattle.limits.specs.Limits.{most_records}

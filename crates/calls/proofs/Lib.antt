@@ -3,7 +3,7 @@ pub mod Stations
 pub mod Lent
 pub mod Dates
 pub mod Posed
-pub mod Year_sheet
+pub mod YearSheet
 pub mod Usual
 pub mod Booked
 pub mod Carded

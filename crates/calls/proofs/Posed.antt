@@ -5,8 +5,8 @@ use mathlib.Core.Path.{◌≡◌, refl, sym, ap}
 use Prim.Native.Nat.{ℕ}
 use mathlib.Core.Bool.{Bool, true, false}
 use mathlib.Core.List.{List}
-use lib.Int_n.{ℤ}
-use lib.List_n.{length}
+use lib.IntN.{ℤ}
+use lib.ListN.{length}
 use Rattle.refusals.specs.Outcome.{Outcome, accepted, refused, refuse_if, answered, ◌>>=◌}
 use Rattle.refusals.proofs.Laws.{not-both}
 use Rattle.table.specs.Table.{Table}
@@ -16,7 +16,7 @@ use Rattle.heights.specs.Height.{height_at}
 use Rattle.heights.specs.Series.{series_of}
 use Rattle.turns.specs.Slope.{slope_at}
 use Rattle.turns.specs.Search.{turns_of}
-use Rattle.turns.specs.Written.{Turns_given, unless_refused, given}
+use Rattle.turns.specs.Written.{TurnsGiven, unless_refused, given}
 use Rattle.calls.specs.State.{Dated, State}
 use Rattle.calls.specs.Asked.{minute_outside, series_outside, turns_outside}
 use Rattle.calls.specs.inner.Flags.{state_of, minutes_by}
@@ -33,7 +33,7 @@ height-of minute o = o >>= λ (table, station, month). accepted (height_at month
 abbrev pub series-of : ℕ → ℕ → ℕ → Asked → Outcome (List ℤ)
 series-of start step places o = o >>= λ (table, station, month). accepted (series_of (height_at month.prepared.constituents) start step places)
 
-abbrev pub turns-of : ℕ → ℕ → List ℕ → List ℤ → Asked → Turns_given
+abbrev pub turns-of : ℕ → ℕ → List ℕ → List ℤ → Asked → TurnsGiven
 turns-of first last minutes heights o =
     unless_refused o minutes heights λ (table, station, month).
     given (height_at month.prepared.constituents) (turns_of (slope_at month.prepared.constituents) (station_stride table station) first last) minutes heights

@@ -5,8 +5,8 @@ use mathlib.Core.Bool.{Bool, true, false, not}
 use mathlib.Core.Path.{◌≡◌, refl, sym, ap, ap₂, ◌∙◌}
 use mathlib.Core.List.{List, [], ◌∷◌, map}
 use lib.Dec.{eqb, ltb}
-use lib.Int_n.{ℤ}
-use lib.List_n.{length}
+use lib.IntN.{ℤ}
+use lib.ListN.{length}
 use Rattle.refusals.specs.Outcome.{Outcome, accepted, refused, refuse_if, ◌>>◌, ◌>>=◌}
 use Rattle.refusals.proofs.Laws.{not-both}
 use Rattle.table.specs.Table.{Table}
@@ -14,7 +14,7 @@ use Rattle.station.specs.Station.{Station}
 use Rattle.heights.specs.Height.{height_at}
 use Rattle.calls.specs.State.{Maybe, none, some, Dated, State}
 use Rattle.calls.specs.Calls.{height_returns}
-use Rattle.calls.specs.Bookings.{minutes_from, bookings_heights, As_single_requests}
+use Rattle.calls.specs.Bookings.{minutes_from, bookings_heights, AsSingleRequests}
 use Rattle.calls.proofs.bookings.Minutes.{pass}
 
 module _ (table : Table) (station : Station) (month : Dated) where
@@ -53,5 +53,5 @@ heights-singly (some t) (some s) (some m) minutes places heights e =
     let p = passed t s m (not (eqb (length minutes) places)) (minutes_from m.prepared.last 1 minutes) heights (λ x. map (height_at x.2.prepared.constituents) minutes) e in
     singles t s m 1 minutes p.0 ∙ ap (map accepted) p.1
 
-pub as-single-requests : As_single_requests
+pub as-single-requests : AsSingleRequests
 as-single-requests k = heights-singly k.table k.station k.month

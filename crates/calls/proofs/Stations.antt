@@ -3,8 +3,8 @@ use Prim.{Unit}
 use mathlib.Core.Path.{◌≡◌, refl}
 use Prim.Native.Nat.{ℕ}
 use mathlib.Core.Bool.{Bool, true, false}
-use lib.Int_n.{pos, neg_ℤ}
-use lib.List_n.{length}
+use lib.IntN.{pos, neg_ℤ}
+use lib.ListN.{length}
 use lib.Signed.{lt_z}
 use Rattle.limits.specs.Limits.{most_latitude}
 use Rattle.refusals.specs.Outcome.{Outcome, accepted, refused, refuse_if}

@@ -4,8 +4,8 @@ use Prim.Native.Nat.{ℕ}
 use mathlib.Core.Path.{◌≡◌, refl, ap}
 use mathlib.Core.Bool.{Bool, true, false, not}
 use mathlib.Core.List.{List}
-use lib.Int_n.{ℤ}
-use lib.List_n.{length}
+use lib.IntN.{ℤ}
+use lib.ListN.{length}
 use Rattle.refusals.specs.Outcome.{Outcome, accepted, refused, refuse_if, ◌>>=◌}
 use Rattle.calendar.specs.Calendar.{year_in_range}
 use Rattle.table.specs.Table.{Table}
@@ -16,23 +16,23 @@ use Rattle.year.specs.Year.{year_of}
 use Rattle.heights.specs.Height.{height_at}
 use Rattle.turns.specs.Slope.{slope_at}
 use Rattle.turns.specs.Search.{turns_of}
-use Rattle.turns.specs.Written.{Turns_given, unless_refused, given}
+use Rattle.turns.specs.Written.{TurnsGiven, unless_refused, given}
 use Rattle.turns.specs.Strides.{station_stride, station_stride01}
 use Rattle.turns.proofs.strides.Usual.{usual-stride}
 use Rattle.calls.specs.State.{Maybe, none, some, Dated}
 use Rattle.calls.specs.Asked.{turns_outside}
 use Rattle.calls.specs.Calls.{turns_gives}
-use Rattle.calls.specs.Year.{Year_given, year_gives, sheet_asked, sheet_outside, sheet_over, unless_turned_down}
-use Rattle.calls.specs.Usual.{turns_gives01, year_gives01, Usual_turns, Usual_year}
+use Rattle.calls.specs.Year.{YearGiven, year_gives, sheet_asked, sheet_outside, sheet_over, unless_turned_down}
+use Rattle.calls.specs.Usual.{turns_gives01, year_gives01, UsualTurns, UsualYear}
 use Rattle.calls.specs.declared.annual.Sheet.{Sheet}
 
 -- by a rule, what follows what is asked
-abbrev turns-of : (Table → Station → ℕ) → ℕ → ℕ → List ℕ → List ℤ → Outcome (Table × Station × Dated) → Turns_given
+abbrev turns-of : (Table → Station → ℕ) → ℕ → ℕ → List ℕ → List ℤ → Outcome (Table × Station × Dated) → TurnsGiven
 turns-of rule first last minutes heights o =
     unless_refused o minutes heights λ (table, station, month).
     given (height_at month.prepared.constituents) (turns_of (slope_at month.prepared.constituents) (rule table station) first last) minutes heights
 
-abbrev sheet-of : (Table → Station → ℕ) → Sheet → List ℤ → List ℕ → List ℤ → Outcome (Table × Station × List Month) → Year_given
+abbrev sheet-of : (Table → Station → ℕ) → Sheet → List ℤ → List ℕ → List ℤ → Outcome (Table × Station × List Month) → YearGiven
 sheet-of rule sheet series minutes heights o =
     unless_turned_down o series minutes heights λ (table, station, months). sheet_over months (rule table station) sheet series minutes heights
 
@@ -40,7 +40,7 @@ sheet-of rule sheet series minutes heights o =
 abbrev Same : Sheet → List ℤ → List ℕ → List ℤ → Outcome (Table × Station × List Month) → Type 0
 Same sheet series minutes heights o = sheet-of station_stride sheet series minutes heights o ≡ sheet-of station_stride01 sheet series minutes heights o
 
-pub usual-turns : Usual_turns
+pub usual-turns : UsualTurns
 unfolding turns_gives turns_gives01
 usual-turns none station month usual first last minutes heights = refl
 usual-turns (some table) station none usual first last minutes heights = refl
@@ -53,7 +53,7 @@ usual-turns (some table) station (some month) usual first last minutes heights =
         ap (λ (stride : ℕ). given (height_at month.prepared.constituents) (turns_of (slope_at month.prepared.constituents) stride first last) minutes heights)
         (usual-stride table station usual)
 
-pub usual-year : Usual_year
+pub usual-year : UsualYear
 unfolding year_gives year_gives01 sheet_asked
 usual-year none station month usual sheet series minutes heights = refl
 usual-year (some table) station month usual sheet series minutes heights = eight (not (year_in_range sheet.year))

@@ -5,8 +5,8 @@ use mathlib.Core.Path.{◌≡◌, refl, sym, ap}
 use Prim.Native.Nat.{ℕ}
 use mathlib.Core.Bool.{Bool, true, false, not}
 use mathlib.Core.List.{List, map}
-use lib.Int_n.{ℤ}
-use lib.List_n.{length}
+use lib.IntN.{ℤ}
+use lib.ListN.{length}
 use Rattle.refusals.specs.Outcome.{Outcome, accepted, refused, refuse_if, answered, ◌>>=◌}
 use Rattle.refusals.proofs.Laws.{not-both}
 use Rattle.table.specs.Table.{Table}
@@ -19,9 +19,9 @@ use Rattle.heights.specs.Series.{series_of}
 use Rattle.turns.specs.Slope.{slope_over}
 use Rattle.turns.specs.Search.{Turn, turns_of, first_high, minutes_of}
 use Rattle.turns.specs.Strides.{station_stride}
-use Rattle.turns.specs.Written.{Turns_found, Turns_given, unless_refused, from_front, too_many, given}
+use Rattle.turns.specs.Written.{TurnsFound, TurnsGiven, unless_refused, from_front, too_many, given}
 use Rattle.calls.specs.State.{Maybe, some, Dated, State}
-use Rattle.calls.specs.Year.{sheet_outside, sheet_asked, Year_given, unless_turned_down, beside, sheet_over, year_gives}
+use Rattle.calls.specs.Year.{sheet_outside, sheet_asked, YearGiven, unless_turned_down, beside, sheet_over, year_gives}
 use Rattle.calls.specs.declared.annual.Sheet.{Sheet}
 use Rattle.calls.specs.inner.Flags.{state_of, year_by}
 use Rattle.calls.proofs.Posed.{no_place}
@@ -38,7 +38,7 @@ year-passed false s year e = not-both e
 
 -- a search that is refused leaves both buffers as they were
 module _ (height : ℕ → ℤ) (turns : List Turn) (minutes : List ℕ) (heights : List ℤ) where
-  abbrev given_by : Bool → Turns_given
+  abbrev given_by : Bool → TurnsGiven
   given_by many =
       unless_refused (refuse_if many 10 0 (accepted turns)) minutes heights λ turns.
       (record {
@@ -53,16 +53,16 @@ module _ (height : ℕ → ℤ) (turns : List Turn) (minutes : List ℕ) (height
   given-kept number place e = by (too_many turns (length minutes) (length heights)) e
     where
       by : (many : Bool) → (given_by many).returned ≡ refused number place → given_by many ≡ record { returned = refused number place; minutes = minutes; heights = heights }
-      by true e' = ap (λ (o : Outcome Turns_found). record { returned = o; minutes = minutes; heights = heights }) e'
+      by true e' = ap (λ (o : Outcome TurnsFound). record { returned = o; minutes = minutes; heights = heights }) e'
       by false e' = not-both (sym e')
 
 module _ (sheet : Sheet) (series : List ℤ) (minutes : List ℕ) (heights : List ℤ) where
   -- what follows what is asked
-  abbrev sheet-of : Outcome (Table × Station × List Month) → Year_given
+  abbrev sheet-of : Outcome (Table × Station × List Month) → YearGiven
   sheet-of o = unless_turned_down o series minutes heights λ (table, station, months). sheet_over months (station_stride table station) sheet series minutes heights
 
   -- a refusal leaves the three buffers as they were
-  abbrev pub turned_down : ℕ → ℕ → Year_given
+  abbrev pub turned_down : ℕ → ℕ → YearGiven
   turned_down number place = record { returned = refused number place; series = series; minutes = minutes; heights = heights }
 
   -- whatever refuses it
@@ -72,9 +72,9 @@ module _ (sheet : Sheet) (series : List ℤ) (minutes : List ℕ) (heights : Lis
   year-kept k number place e = by (sheet_asked k sheet (length series)) e
     where
       by : (o : Outcome (Table × Station × List Month)) → (sheet-of o).returned ≡ refused number place → sheet-of o ≡ turned_down number place
-      by (refused n p) e' = ap (λ (o : Outcome Turns_found). record { returned = o; series = series; minutes = minutes; heights = heights }) e'
+      by (refused n p) e' = ap (λ (o : Outcome TurnsFound). record { returned = o; series = series; minutes = minutes; heights = heights }) e'
       by (accepted (table, station, months)) e' =
-          ap (λ (t : Turns_given). beside t (series_of (height_over months) sheet.start sheet.step (length series)) series)
+          ap (λ (t : TurnsGiven). beside t (series_of (height_over months) sheet.start sheet.step (length series)) series)
           (given-kept (height_over months) (turns_of (slope_over months) (station_stride table station) sheet.first sheet.last) minutes heights number place e')
 
   module _ (table : Table) (station : Station) where

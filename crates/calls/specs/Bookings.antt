@@ -7,7 +7,7 @@ use Rattle.refusals.specs.Outcome.{Outcome, accepted, refuse_if, ◌>>=◌, ◌>
 use Rattle.heights.specs.Height.{height_at}
 use Rattle.calls.specs.State.{Maybe, Dated, State}
 use Rattle.calls.specs.Asked.{month_asked, minute_outside}
-use Rattle.calls.specs.Calls.{Series_given, filled, height_returns}
+use Rattle.calls.specs.Calls.{SeriesGiven, filled, height_returns}
 
 -- "9 at the first minute outside the month, its place counted from 1": the minutes from a place on, in a month with this last minute
 unfoldable pub minutes_from : ℕ → ℕ → List ℕ → Outcome Unit
@@ -28,11 +28,11 @@ bookings_heights k minutes places = do
   accepted (map (height_at month.prepared.constituents) minutes)
 
 -- "From here on a refusal writes nothing"
-unfoldable pub bookings_gives : State → List ℕ → List ℤ → Series_given
+unfoldable pub bookings_gives : State → List ℕ → List ℤ → SeriesGiven
 bookings_gives k minutes heights = filled (bookings_heights k minutes (length heights)) heights
 
 -- "The height at each place must equal the one that a single request gives for the minute at that place": proved in calls/proofs/Singly.antt
-abbrev pub As_single_requests : Type 0
-As_single_requests =
+abbrev pub AsSingleRequests : Type 0
+AsSingleRequests =
     (k : State) (minutes : List ℕ) (places : ℕ) (heights : List ℤ) →
     bookings_heights k minutes places ≡ accepted heights → map (height_returns k) minutes ≡ map accepted heights

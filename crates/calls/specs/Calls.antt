@@ -12,7 +12,7 @@ use Rattle.heights.specs.Height.{height_at}
 use Rattle.heights.specs.Series.{series_of}
 use Rattle.turns.specs.Slope.{slope_at}
 use Rattle.turns.specs.Search.{turns_of}
-use Rattle.turns.specs.Written.{Turns_given, unless_refused, given}
+use Rattle.turns.specs.Written.{TurnsGiven, unless_refused, given}
 use Rattle.turns.specs.Strides.{station_stride}
 use Rattle.calls.specs.State.{Maybe, none, some, Dated, State}
 use Rattle.calls.specs.Asked.{table_asked, date_asked, minutes_asked, minute_outside, series_outside, turns_outside}
@@ -81,27 +81,27 @@ series_heights k start step places = do
   accepted (series_of (height_at month.prepared.constituents) start step places)
 
 -- what a series returns, and the lent places as it leaves them
-pub record Series_given : Type 0 where
+pub record SeriesGiven : Type 0 where
   pub returned : Outcome Unit
   pub heights : List ℤ
 
 -- the lent places with new heights; refused, they are as they were
-abbrev pub filled : Outcome (List ℤ) → List ℤ → Series_given
+abbrev pub filled : Outcome (List ℤ) → List ℤ → SeriesGiven
 filled new heights = record { returned = answered new; heights = on_accepted new (λ hs. hs) heights }
 
 -- "one height for each lent place"
-unfoldable pub series_gives : State → ℕ → ℕ → List ℤ → Series_given
+unfoldable pub series_gives : State → ℕ → ℕ → List ℤ → SeriesGiven
 series_gives k start step heights = filled (series_heights k start step (length heights)) heights
 
 -- ---- turns
 
 -- by strides that a rule gives a table and a station
-abbrev pub turns_by : (Table → Station → ℕ) → State → ℕ → ℕ → List ℕ → List ℤ → Turns_given
+abbrev pub turns_by : (Table → Station → ℕ) → State → ℕ → ℕ → List ℕ → List ℤ → TurnsGiven
 turns_by stride k first last minutes heights =
     unless_refused (ready (λ month. turns_outside month.prepared.last first last) k) minutes heights λ (table, station, month).
     given (height_at month.prepared.constituents)
     (turns_of (slope_at month.prepared.constituents) (stride table station) first last) minutes heights
 
 -- 02, No. 6: "The search works from the station's own lengths from now on"
-unfoldable pub turns_gives : State → ℕ → ℕ → List ℕ → List ℤ → Turns_given
+unfoldable pub turns_gives : State → ℕ → ℕ → List ℕ → List ℤ → TurnsGiven
 turns_gives = turns_by station_stride

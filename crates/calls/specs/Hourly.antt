@@ -4,8 +4,8 @@
 use Rattle.std.specs.Prelude.{ℕ, List, ltb, length}
 use Rattle.refusals.specs.Outcome.{Outcome, accepted, refuse_if, ◌>>=◌}
 use Rattle.heights.specs.Height.{height_at}
-use Rattle.hourly.specs.Card.{Hourly_card}
-use Rattle.hourly.specs.Month.{Cards_given, cards_of, bytes_of, into_buffer, most_station_number}
+use Rattle.hourly.specs.Card.{HourlyCard}
+use Rattle.hourly.specs.Month.{CardsGiven, cards_of, bytes_of, into_buffer, most_station_number}
 use Rattle.calls.specs.State.{Maybe, Dated, State}
 use Rattle.calls.specs.Asked.{month_asked}
 
@@ -16,7 +16,7 @@ hourly_asked number table station month = do
   refuse_if (ltb most_station_number number) 32 0 (accepted all)
 
 -- "a prepared month's cards", from the height at each of its minutes
-abbrev pub month_cards : Dated → ℕ → List Hourly_card
+abbrev pub month_cards : Dated → ℕ → List HourlyCard
 month_cards month number = cards_of (height_at month.prepared.constituents) number month.year month.month
 
 -- the bytes of the cards, where so many are lent
@@ -26,5 +26,5 @@ hourly_bytes k number places = do
   bytes_of (month_cards month number) places
 
 -- "Write a prepared month's cards .. into a lent buffer, .., and return how many bytes they take."
-unfoldable pub hourly_gives : State → ℕ → List ℕ → Cards_given
+unfoldable pub hourly_gives : State → ℕ → List ℕ → CardsGiven
 hourly_gives k number buffer = into_buffer (hourly_bytes k number (length buffer)) buffer

@@ -3,7 +3,7 @@
 use Rattle.std.specs.Prelude.{ℕ, cond, ltb}
 use Rattle.calls.specs.Asked.{last_minute, step_outside}
 use Rattle.calls.specs.declared.reasons.Reason.{Reason}
-use Rattle.calls.specs.declared.reasons.Reason.The_variants.{Within, Start, Step, End}
+use Rattle.calls.specs.declared.reasons.Reason.TheVariants.{Within, Start, Step, End}
 
 -- the first of the three that does
 unfoldable pub series_reason : ℕ → ℕ → ℕ → ℕ → Reason

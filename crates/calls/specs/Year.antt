@@ -12,7 +12,7 @@ use Rattle.heights.specs.Series.{series_of}
 use Rattle.turns.specs.Slope.{slope_over}
 use Rattle.turns.specs.Search.{turns_of}
 use Rattle.turns.specs.Strides.{station_stride}
-use Rattle.turns.specs.Written.{Turns_found, Turns_given, given}
+use Rattle.turns.specs.Written.{TurnsFound, TurnsGiven, given}
 use Rattle.calls.specs.State.{Maybe, State}
 use Rattle.calls.specs.Asked.{station_asked, series_outside, turns_outside}
 use Rattle.calls.specs.declared.annual.Sheet.{Sheet}
@@ -41,20 +41,20 @@ sheet_asked k sheet places = do
 -- ---- "heights and turning waters for a calendar year from one call"
 
 -- what a year's sheet returns, as a search for turns does, and the three lent buffers as it leaves them
-pub record Year_given : Type 0 where
-  pub returned : Outcome Turns_found
+pub record YearGiven : Type 0 where
+  pub returned : Outcome TurnsFound
   pub series : List ℤ
   pub minutes : List ℕ
   pub heights : List ℤ
 
 -- where what is asked is refused, the three buffers are as they were
-abbrev pub unless_turned_down : {A : Type 0} → Outcome A → List ℤ → List ℕ → List ℤ → (A → Year_given) → Year_given
+abbrev pub unless_turned_down : {A : Type 0} → Outcome A → List ℤ → List ℕ → List ℤ → (A → YearGiven) → YearGiven
 unless_turned_down (accepted a) series minutes heights next = next a
 unless_turned_down (refused number place) series minutes heights next =
     record { returned = refused number place; series = series; minutes = minutes; heights = heights }
 
 -- a series beside what a search gives: where that is refused, by 10, the series' places are as they were too
-abbrev pub beside : Turns_given → List ℤ → List ℤ → Year_given
+abbrev pub beside : TurnsGiven → List ℤ → List ℤ → YearGiven
 beside turns new old =
     record {
       returned = turns.returned;
@@ -64,7 +64,7 @@ beside turns new old =
     }
 
 -- "The turn search runs on across month ends with the slope of the month that owns each minute"; 10 and what is written are a search's
-abbrev pub sheet_over : List Month → ℕ → Sheet → List ℤ → List ℕ → List ℤ → Year_given
+abbrev pub sheet_over : List Month → ℕ → Sheet → List ℤ → List ℕ → List ℤ → YearGiven
 sheet_over months stride sheet series minutes heights =
     beside
     (given (height_over months) (turns_of (slope_over months) stride sheet.first sheet.last) minutes heights)
@@ -72,11 +72,11 @@ sheet_over months stride sheet series minutes heights =
     series
 
 -- the sheet of the year's months, by strides that a rule gives a table and a station
-abbrev pub sheet_by : (Table → Station → ℕ) → State → Sheet → List ℤ → List ℕ → List ℤ → Year_given
+abbrev pub sheet_by : (Table → Station → ℕ) → State → Sheet → List ℤ → List ℕ → List ℤ → YearGiven
 sheet_by stride k sheet series minutes heights =
     unless_turned_down (sheet_asked k sheet (length series)) series minutes heights λ (table, station, months).
     sheet_over months (stride table station) sheet series minutes heights
 
 -- with the stride of the station's own tides
-unfoldable pub year_gives : State → Sheet → List ℤ → List ℕ → List ℤ → Year_given
+unfoldable pub year_gives : State → Sheet → List ℤ → List ℕ → List ℤ → YearGiven
 year_gives = sheet_by station_stride

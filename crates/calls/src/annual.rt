@@ -24,7 +24,7 @@ pub fn year_answer(tabled: bool, stationed: bool, year: u32) -> Answer
     match state_answer(tabled, stationed, true) {
         Answer::Accepted => {
             if !calendar::year_in_range(year) {
-                return Answer::Refused(Refusal::Bad_date, 0);
+                return Answer::Refused(Refusal::BadDate, 0);
             }
             Answer::Accepted
         }

@@ -13,13 +13,13 @@ pub fn state_answer(tabled: bool, stationed: bool, dated: bool) -> Answer
     ensures { outcome_of result ≡ state_by tabled stationed dated }
 {
     if !tabled {
-        return Answer::Refused(Refusal::No_table, 0);
+        return Answer::Refused(Refusal::NoTable, 0);
     }
     if !stationed {
-        return Answer::Refused(Refusal::No_station, 0);
+        return Answer::Refused(Refusal::NoStation, 0);
     }
     if !dated {
-        return Answer::Refused(Refusal::No_month, 0);
+        return Answer::Refused(Refusal::NoMonth, 0);
     }
     Answer::Accepted
 }
@@ -31,7 +31,7 @@ fn minutes_answer(tabled: bool, stationed: bool, dated: bool, outside: bool) -> 
     match state_answer(tabled, stationed, dated) {
         Answer::Accepted => {
             if outside {
-                return Answer::Refused(Refusal::Bad_minutes, 0);
+                return Answer::Refused(Refusal::BadMinutes, 0);
             }
             Answer::Accepted
         }

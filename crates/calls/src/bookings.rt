@@ -22,7 +22,7 @@ fn minutes_answer(last: u64, minutes: &[u32]) -> Answer
     let mut k: usize = 0;
     while k < minutes.len() {
         if minute_outside(last, minutes[k]) {
-            return Answer::Refused(Refusal::Bad_minutes, k + 1);
+            return Answer::Refused(Refusal::BadMinutes, k + 1);
         }
         k = k + 1;
     }
@@ -43,7 +43,7 @@ pub fn bookings_answer(
     match state_answer(tabled, stationed, dated) {
         Answer::Accepted => {
             if minutes.len() != places {
-                return Answer::Refused(Refusal::Unequal_buffers, 0);
+                return Answer::Refused(Refusal::UnequalBuffers, 0);
             }
             minutes_answer(last, minutes)
         }

@@ -14,7 +14,7 @@ pub fn hourly_answer(tabled: bool, stationed: bool, dated: bool, number: u32) ->
     match state_answer(tabled, stationed, dated) {
         Answer::Accepted => {
             if STATION_NUMBER < number {
-                return Answer::Refused(Refusal::Bad_station_number, 0);
+                return Answer::Refused(Refusal::BadStationNumber, 0);
             }
             Answer::Accepted
         }

@@ -5,7 +5,7 @@ ghost use Rattle.station.specs.Records.{records_of};
 ghost use Rattle.station.specs.Station.{station_lent};
 ghost use Rattle.month.specs.inner.View.{prepared_of};
 ghost use Rattle.calls.specs.inner.Flags.{date_by};
-ghost use Rattle.calls.specs.inner.Posts.{Taken_post};
+ghost use Rattle.calls.specs.inner.Posts.{TakenPost};
 
 use crate::asked::state_answer;
 use month::{Preparation, Prepared};
@@ -24,7 +24,7 @@ pub fn station_answer(
     n: usize,
     rows: Rows,
 ) -> Taken
-    ensures { Taken_post tabled table (station_lent latitude strides (records_of rows n)) result }
+    ensures { TakenPost tabled table (station_lent latitude strides (records_of rows n)) result }
 {
     match state_answer(tabled, true, true) {
         Answer::Accepted => station::take_station(table.frequencies, latitude, strides, n, rows),
@@ -42,7 +42,7 @@ pub fn date_answer(tabled: bool, stationed: bool, year: u32, month: u32) -> Answ
     match state_answer(tabled, stationed, true) {
         Answer::Accepted => {
             if !calendar::in_range(year, month) {
-                return Answer::Refused(Refusal::Bad_date, 0);
+                return Answer::Refused(Refusal::BadDate, 0);
             }
             Answer::Accepted
         }
@@ -57,6 +57,6 @@ pub fn month_answer(prepared: Prepared) -> Answer
     let answer = prepared.answer;
     match answer {
         Preparation::Ready => Answer::Accepted,
-        Preparation::Too_large(place) => Answer::Refused(Refusal::Too_large, place),
+        Preparation::TooLarge(place) => Answer::Refused(Refusal::TooLarge, place),
     }
 }

@@ -5,26 +5,26 @@ use Prim.Native.Nat.{ℕ, zero, suc, ◌+◌, ◌-◌, ◌^◌, ◌≤◌, ◌<�
 use mathlib.Core.List.{List, [], ◌∷◌, ◌++◌}
 use mathlib.Core.Bool.{Bool, true, false, false≢true, cond, ◌&&◌}
 use lib.Dec.{T}
-use lib.List_n.{length, set, take}
+use lib.ListN.{length, set, take}
 use lib.Seq.{take-suc-set}
-use lib.Int_n.{ℤ, pos, negsuc, neg_ℤ, nat_abs, ◌-ℤ◌, +ℤ_idl}
+use lib.IntN.{ℤ, pos, negsuc, neg_ℤ, nat_abs, ◌-ℤ◌, +ℤ_idl}
 use lib.Signed.{le_z, non_neg}
 use mir.Syntax.{w8, w64}
 use mir.Val.{SFits, to_z, of_z}
-use mir.Val_laws.{to_z-of_z}
+use mir.ValLaws.{to_z-of_z}
 use borrow.Author.Tests.{leb-true, le-leb}
 use native.Mathlib.Omega.{arith}
 use native.Mathlib.Numerals.{add-one}
 use Rattle.fields.specs.Number as field
 use Rattle.fields.specs.Number.{ranged}
-use Rattle.fields.specs.declared.Field.The_variants.{Value, Out_of_range}
+use Rattle.fields.specs.declared.Field.TheVariants.{Value, OutOfRange}
 use Rattle.fields.specs.declared.Field.{Field}
 use Rattle.columns.specs.Columns.{columns}
-use Rattle.card.specs.declared.formats.Number_field.{Number_field}
+use Rattle.card.specs.declared.formats.NumberField.{NumberField}
 use Rattle.card.specs.declared.formats.Row.{Row}
-use Rattle.card.specs.declared.formats.Row.The_variants as row
+use Rattle.card.specs.declared.formats.Row.TheVariants as row
 use Rattle.card.specs.Formats.{row_field}
-use Rattle.card.specs.inner.Fields.{Is_small}
+use Rattle.card.specs.inner.Fields.{IsSmall}
 use Rattle.refusals.specs.Checked.{good, ◌>>=◌}
 use Rattle.card.specs.Card.{field_gives, field_on, number, numbers_from}
 
@@ -34,7 +34,7 @@ unfolding ranged
 ranged-within low high v field.malformed e = let z : ◌≡◌ {A = ℕ} 0 1 = cc in absurd (omega arith)
 ranged-within low high v (field.numeric z) e = go (le_z low z) (le_z z high) refl refl e
   where
-    go : (s t : Bool) → le_z low z ≡ s → le_z z high ≡ t → Value v ≡ cond (s && t) (Value z) Out_of_range → (le_z low v ≡ true) × (le_z v high ≡ true)
+    go : (s t : Bool) → le_z low z ≡ s → le_z z high ≡ t → Value v ≡ cond (s && t) (Value z) OutOfRange → (le_z low v ≡ true) × (le_z v high ≡ true)
     go true true a b q = let v-is : v ≡ z = cc in rw v-is (a, b)
     go true false a b q = let z : ◌≡◌ {A = ℕ} 0 1 = cc in absurd (omega arith)
     go false t a b q = let z : ◌≡◌ {A = ℕ} 0 1 = cc in absurd (omega arith)
@@ -65,12 +65,12 @@ natural-is low high v x l e = let r = ranged-within low high v x e in at_least v
     at_least (negsuc n) high a b = absurd (false≢true a)
 
 -- a row of fields, field k next: one field more, or none left
-pub numbers_more : (line : List ℕ) (f : ℕ → Number_field) (left : List ℤ) (k n : ℕ) → k < n
+pub numbers_more : (line : List ℕ) (f : ℕ → NumberField) (left : List ℤ) (k n : ℕ) → k < n
     → numbers_from line f left k (n - k) ≡ (number line (f k) >>= λ v. numbers_from line f (left ++ (v ∷ [])) (k + 1) (n - (k + 1)))
 unfolding numbers_from
 numbers_more line f left k n h = let e : n - k ≡ suc (n - (k + 1)) = omega arith in rw e
 
-pub numbers-none : (line : List ℕ) (f : ℕ → Number_field) (left : List ℤ) (k n : ℕ) → n ≤ k → numbers_from line f left k (n - k) ≡ good left
+pub numbers-none : (line : List ℕ) (f : ℕ → NumberField) (left : List ℤ) (k n : ℕ) → n ≤ k → numbers_from line f left k (n - k) ≡ good left
 unfolding numbers_from
 numbers-none line f left k n h = let e : n - k ≡ 0 = omega arith in rw e
 
@@ -79,11 +79,11 @@ pub take-stored : {A : Type 0} (vs : List A) (k : ℕ) (v : A) → k < length vs
 take-stored vs k v h = rw (add-one k) (take-suc-set vs k v h)
 
 -- the number in a field of the line is what the field gives
-pub number_is : (line : List ℕ) (f : Number_field) (x : Field) → x ≡ field_on line f → field_gives f x ≡ number line f
+pub number_is : (line : List ℕ) (f : NumberField) (x : Field) → x ≡ field_on line f → field_gives f x ≡ number line f
 unfolding number
 number_is line f x e = ap (field_gives f) e
 
 -- a row's numbers fit eight bits
-pub row_small : (row : Row) (k : ℕ) → Is_small (row_field row k)
+pub row_small : (row : Row) (k : ℕ) → IsSmall (row_field row k)
 row_small row.Doodson k = (refl, refl)
 row_small (row.Differences j) k = (refl, refl)

@@ -5,17 +5,17 @@ use Rattle.columns.specs.Lines.{line_good, blank_card}
 use Rattle.columns.specs.Names.{place_of}
 use Rattle.columns.specs.Columns.{columns}
 use Rattle.columns.specs.declared.names.Found.{Found}
-use Rattle.columns.specs.declared.names.Found.The_variants.{At, Nothing}
+use Rattle.columns.specs.declared.names.Found.TheVariants.{At, Nothing}
 use Rattle.fields.specs.declared.Field.{Field}
-use Rattle.fields.specs.declared.Field.The_variants.{Value, Malformed, Out_of_range}
+use Rattle.fields.specs.declared.Field.TheVariants.{Value, Malformed, OutOfRange}
 use Rattle.fields.specs.Number.{contents_of, ranged}
 use Rattle.refusals.specs.Checked.{Checked, good, bad, ◌>>=◌}
 use Rattle.refusals.specs.Places.{is_among}
-use Rattle.card.specs.declared.faults.What.The_variants as what
-use Rattle.card.specs.declared.faults.Trouble.The_variants as trouble
+use Rattle.card.specs.declared.faults.What.TheVariants as what
+use Rattle.card.specs.declared.faults.Trouble.TheVariants as trouble
 use Rattle.card.specs.declared.faults.Trouble.{Trouble}
 use Rattle.card.specs.declared.faults.Fault.{Fault}
-use Rattle.card.specs.declared.formats.Number_field.{Number_field}
+use Rattle.card.specs.declared.formats.NumberField.{NumberField}
 use Rattle.card.specs.Faults.{only, bad_line}
 use Rattle.card.specs.Formats.{fault_in}
 
@@ -24,28 +24,28 @@ abbrev pub Card : Type 0 → Type 0
 Card = Checked Fault
 
 -- "2 malformed number", "3 number outside its stated range"
-abbrev pub field_gives : Number_field → Field → Card ℤ
+abbrev pub field_gives : NumberField → Field → Card ℤ
 field_gives f (Value v) = good v
 field_gives f Malformed = bad (fault_in f trouble.Malformed)
-field_gives f Out_of_range = bad (fault_in f trouble.Out_of_range)
+field_gives f OutOfRange = bad (fault_in f trouble.OutOfRange)
 
 -- what stands in a field of the line
-abbrev pub field_on : List ℕ → Number_field → Field
+abbrev pub field_on : List ℕ → NumberField → Field
 field_on line f = ranged f.low f.high (contents_of f.format (columns line f.from f.width))
 
 -- the number in a field of the line
-unfoldable pub number : List ℕ → Number_field → Card ℤ
+unfoldable pub number : List ℕ → NumberField → Card ℤ
 number line f = field_gives f (field_on line f)
 
 -- n fields in a row, field k the next, after the numbers that stand left of it
-unfoldable pub numbers_from : List ℕ → (ℕ → Number_field) → List ℤ → ℕ → ℕ → Card (List ℤ)
+unfoldable pub numbers_from : List ℕ → (ℕ → NumberField) → List ℤ → ℕ → ℕ → Card (List ℤ)
 numbers_from line f left k zero = good left
 numbers_from line f left k (suc n) = do
   v ← number line (f k)
   numbers_from line f (left ++ (v ∷ [])) (k + 1) n
 
 -- the first n fields of a row of them
-abbrev pub numbers : List ℕ → (ℕ → Number_field) → ℕ → Card (List ℤ)
+abbrev pub numbers : List ℕ → (ℕ → NumberField) → ℕ → Card (List ℤ)
 numbers line f n = numbers_from line f [] 0 n
 
 abbrev pub unless_found : Found → List ℕ → Card (List ℕ)
@@ -58,7 +58,7 @@ new_name before name = cond (every blank name) (bad (only what.Name trouble.Blan
 
 abbrev pub place_found : Found → Card ℕ
 place_found (At place) = good place
-place_found Nothing = bad (only what.Name trouble.No_frequency)
+place_found Nothing = bad (only what.Name trouble.NoFrequency)
 
 -- the place of the frequency with a main or shallow constituent's own name: "4 a constituent's own name blank", "5 definition without frequency"
 unfoldable pub place_named : List (List ℕ) → List ℕ → Card ℕ

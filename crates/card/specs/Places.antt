@@ -2,16 +2,16 @@
 use Rattle.std.specs.Prelude.{ℕ, ◌+◌, List, [], ◌∷◌, cond, eqb}
 use Rattle.columns.specs.Names.{place_of}
 use Rattle.columns.specs.declared.names.Found.{Found}
-use Rattle.columns.specs.declared.names.Found.The_variants.{At, Nothing}
+use Rattle.columns.specs.declared.names.Found.TheVariants.{At, Nothing}
 use Rattle.refusals.specs.Checked.{good, bad, ◌>>=◌}
-use Rattle.card.specs.declared.faults.What.The_variants.{Part_name}
-use Rattle.card.specs.declared.faults.Trouble.The_variants.{Not_main}
+use Rattle.card.specs.declared.faults.What.TheVariants.{PartName}
+use Rattle.card.specs.declared.faults.Trouble.TheVariants.{NotMain}
 use Rattle.card.specs.declared.faults.Fault.{Fault}
 use Rattle.card.specs.Card.{Card}
 
 -- "5 part not a main", of part j, from 0
 abbrev pub not_main : ℕ → Fault
-not_main j = record { what = Part_name; which = j + 1; trouble = Not_main }
+not_main j = record { what = PartName; which = j + 1; trouble = NotMain }
 
 abbrev pub part_found : ℕ → Found → Card ℕ
 part_found j (At place) = good place

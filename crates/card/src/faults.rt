@@ -17,47 +17,47 @@ pub enum What {
     Increase,
     Doodson,
     Phase,
-    Satellite_count,
+    SatelliteCount,
     Difference,
-    Satellite_phase,
+    SatellitePhase,
     Ratio,
-    Part_count,
+    PartCount,
     Coefficient,
-    Part_name,
+    PartName,
     Degrees,
     Minutes,
     Mark,
     Latitude,
     Amplitude,
-    Phase_lag,
+    PhaseLag,
 }
 
 // What is wrong with it.
 #[derive(Drop)]
 pub enum Trouble {
-    Too_long,
-    Bad_byte,
+    TooLong,
+    BadByte,
     Malformed,
-    Out_of_range,
-    Not_whole,
-    Past_twelve,
-    Bad_mark,
-    South_twice,
+    OutOfRange,
+    NotWhole,
+    PastTwelve,
+    BadMark,
+    SouthTwice,
     Blank,
     Twice,
-    No_frequency,
-    No_definition,
-    Not_main,
-    Too_many_frequencies,
-    Too_many_mains,
-    Too_many_satellites,
-    Too_many_shallows,
-    Too_many_records,
-    Ended_in_frequencies,
-    Ended_in_longitudes,
-    Ended_in_mains,
-    Ended_in_shallows,
-    No_station_card,
+    NoFrequency,
+    NoDefinition,
+    NotMain,
+    TooManyFrequencies,
+    TooManyMains,
+    TooManySatellites,
+    TooManyShallows,
+    TooManyRecords,
+    EndedInFrequencies,
+    EndedInLongitudes,
+    EndedInMains,
+    EndedInShallows,
+    NoStationCard,
 }
 
 // What is at fault, which of several, from 1 (0: there is one only), and what is wrong with it.
@@ -84,9 +84,9 @@ pub fn bad_line(line: &[u8]) -> Fault
     ensures { result ≡ bad_line line.now }
 {
     if COLUMNS < line.len() {
-        return only(What::Card, Trouble::Too_long);
+        return only(What::Card, Trouble::TooLong);
     }
-    only(What::Card, Trouble::Bad_byte)
+    only(What::Card, Trouble::BadByte)
 }
 
 // The refusal that a trouble earns.
@@ -94,28 +94,28 @@ pub fn refusal_for(trouble: Trouble) -> Refusal
     ensures { result ≡ refusal_for trouble }
 {
     match trouble {
-        Trouble::Too_long => Refusal::Bad_line,
-        Trouble::Bad_byte => Refusal::Bad_line,
+        Trouble::TooLong => Refusal::BadLine,
+        Trouble::BadByte => Refusal::BadLine,
         Trouble::Malformed => Refusal::Malformed,
-        Trouble::Out_of_range => Refusal::Out_of_range,
-        Trouble::Not_whole => Refusal::Out_of_range,
-        Trouble::Past_twelve => Refusal::Out_of_range,
-        Trouble::Bad_mark => Refusal::Out_of_range,
-        Trouble::South_twice => Refusal::Out_of_range,
-        Trouble::Blank => Refusal::Bad_name,
-        Trouble::Twice => Refusal::Bad_name,
-        Trouble::No_frequency => Refusal::Missing,
-        Trouble::No_definition => Refusal::Missing,
-        Trouble::Not_main => Refusal::Missing,
-        Trouble::Too_many_frequencies => Refusal::Too_many,
-        Trouble::Too_many_mains => Refusal::Too_many,
-        Trouble::Too_many_satellites => Refusal::Too_many,
-        Trouble::Too_many_shallows => Refusal::Too_many,
-        Trouble::Too_many_records => Refusal::Too_many,
-        Trouble::Ended_in_frequencies => Refusal::Ended,
-        Trouble::Ended_in_longitudes => Refusal::Ended,
-        Trouble::Ended_in_mains => Refusal::Ended,
-        Trouble::Ended_in_shallows => Refusal::Ended,
-        Trouble::No_station_card => Refusal::Ended,
+        Trouble::OutOfRange => Refusal::OutOfRange,
+        Trouble::NotWhole => Refusal::OutOfRange,
+        Trouble::PastTwelve => Refusal::OutOfRange,
+        Trouble::BadMark => Refusal::OutOfRange,
+        Trouble::SouthTwice => Refusal::OutOfRange,
+        Trouble::Blank => Refusal::BadName,
+        Trouble::Twice => Refusal::BadName,
+        Trouble::NoFrequency => Refusal::Missing,
+        Trouble::NoDefinition => Refusal::Missing,
+        Trouble::NotMain => Refusal::Missing,
+        Trouble::TooManyFrequencies => Refusal::TooMany,
+        Trouble::TooManyMains => Refusal::TooMany,
+        Trouble::TooManySatellites => Refusal::TooMany,
+        Trouble::TooManyShallows => Refusal::TooMany,
+        Trouble::TooManyRecords => Refusal::TooMany,
+        Trouble::EndedInFrequencies => Refusal::Ended,
+        Trouble::EndedInLongitudes => Refusal::Ended,
+        Trouble::EndedInMains => Refusal::Ended,
+        Trouble::EndedInShallows => Refusal::Ended,
+        Trouble::NoStationCard => Refusal::Ended,
     }
 }

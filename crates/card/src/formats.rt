@@ -1,7 +1,7 @@
 // The number fields of each card of the card file, as 01's formats have them, and the columns where its names begin. Columns are counted from 0.
 ghost use Rattle.std.specs.Prelude.{◌≡◌, ◌<◌};
 ghost use Rattle.limits.specs.Limits.{satellites_a_card};
-ghost use Rattle.card.specs.inner.Fields.{Row_good};
+ghost use Rattle.card.specs.inner.Fields.{RowGood};
 ghost use Rattle.card.specs.Formats.{fault_in, frequency_field, five_field, doodson_field, main_phase_field, satellite_count_field, difference_field, satellite_phase_field, ratio_field, mark_column, row_field, part_count_field, coefficient_field, part_name};
 
 use crate::faults::{Fault, Trouble, What};
@@ -20,7 +20,7 @@ pub const RATIO: u32 = 20_000;
 
 // A number field: what it holds and which of several, from 1 (0: there is one only); its first column, width and format; its range.
 #[derive(Drop)]
-pub struct Number_field {
+pub struct NumberField {
     pub what: What,
     pub which: usize,
     pub from: usize,
@@ -31,7 +31,7 @@ pub struct Number_field {
 }
 
 // What is wrong with the number in a field.
-pub fn fault_in(f: Number_field, trouble: Trouble) -> Fault
+pub fn fault_in(f: NumberField, trouble: Trouble) -> Fault
     ensures { result ≡ fault_in f trouble }
 {
     let what = f.what;
@@ -43,10 +43,10 @@ pub fn fault_in(f: Number_field, trouble: Trouble) -> Fault
 }
 
 // Part 1: a frequency.
-pub fn frequency() -> Number_field
+pub fn frequency() -> NumberField
     ensures { result ≡ frequency_field }
 {
-    Number_field {
+    NumberField {
         what: What::Frequency,
         which: 0,
         from: 12,
@@ -59,18 +59,18 @@ pub fn frequency() -> Number_field
 
 // Part 2: its two cards of five numbers.
 #[derive(Drop)]
-pub enum Five_card {
+pub enum FiveCard {
     Longitudes,
     Increases,
 }
 
 // Number k of such a card, from 0.
-pub fn five_field(card: Five_card, k: usize) -> Number_field
+pub fn five_field(card: FiveCard, k: usize) -> NumberField
     requires { k < 5 }
     ensures { result ≡ five_field card k }
 {
     match card {
-        Five_card::Longitudes => Number_field {
+        FiveCard::Longitudes => NumberField {
             what: What::Longitude,
             which: k + 1,
             from: 13 * k,
@@ -79,7 +79,7 @@ pub fn five_field(card: Five_card, k: usize) -> Number_field
             low: 0,
             high: 9_999_999_999,
         },
-        Five_card::Increases => Number_field {
+        FiveCard::Increases => NumberField {
             what: What::Increase,
             which: k + 1,
             from: 13 * k,
@@ -92,11 +92,11 @@ pub fn five_field(card: Five_card, k: usize) -> Number_field
 }
 
 // Part 3: a main constituent's Doodson number k, from 0.
-fn doodson(k: usize) -> Number_field
+fn doodson(k: usize) -> NumberField
     requires { k < 6 }
     ensures { result ≡ doodson_field k }
 {
-    Number_field {
+    NumberField {
         what: What::Doodson,
         which: k + 1,
         from: 12 + 3 * k,
@@ -108,10 +108,10 @@ fn doodson(k: usize) -> Number_field
 }
 
 // Its phase.
-pub fn main_phase() -> Number_field
+pub fn main_phase() -> NumberField
     ensures { result ≡ main_phase_field }
 {
-    Number_field {
+    NumberField {
         what: What::Phase,
         which: 0,
         from: 30,
@@ -123,11 +123,11 @@ pub fn main_phase() -> Number_field
 }
 
 // Its satellite count.
-pub fn satellite_count() -> Number_field
+pub fn satellite_count() -> NumberField
     ensures { result ≡ satellite_count_field }
 {
-    Number_field {
-        what: What::Satellite_count,
+    NumberField {
+        what: What::SatelliteCount,
         which: 0,
         from: 35,
         width: 4,
@@ -138,11 +138,11 @@ pub fn satellite_count() -> Number_field
 }
 
 // A satellite card: difference k of its satellite j, both from 0.
-fn difference(j: usize, k: usize) -> Number_field
+fn difference(j: usize, k: usize) -> NumberField
     requires { (j < satellites_a_card) × (k < 6) }
     ensures { result ≡ difference_field j k }
 {
-    Number_field {
+    NumberField {
         what: What::Difference,
         which: j + 1,
         from: 11 + 23 * j + 3 * k,
@@ -154,12 +154,12 @@ fn difference(j: usize, k: usize) -> Number_field
 }
 
 // Its phase.
-pub fn satellite_phase(j: usize) -> Number_field
+pub fn satellite_phase(j: usize) -> NumberField
     requires { j < satellites_a_card }
     ensures { result ≡ satellite_phase_field j }
 {
-    Number_field {
-        what: What::Satellite_phase,
+    NumberField {
+        what: What::SatellitePhase,
         which: j + 1,
         from: 11 + 23 * j + 9,
         width: 4,
@@ -170,11 +170,11 @@ pub fn satellite_phase(j: usize) -> Number_field
 }
 
 // Its ratio.
-pub fn ratio(j: usize) -> Number_field
+pub fn ratio(j: usize) -> NumberField
     requires { j < satellites_a_card }
     ensures { result ≡ ratio_field j }
 {
-    Number_field {
+    NumberField {
         what: What::Ratio,
         which: j + 1,
         from: 11 + 23 * j + 13,
@@ -201,8 +201,8 @@ pub enum Row {
 }
 
 // Number k of a row, from 0.
-pub fn row_field(row: Row, k: usize) -> Number_field
-    requires { Row_good row × (k < 6) }
+pub fn row_field(row: Row, k: usize) -> NumberField
+    requires { RowGood row × (k < 6) }
     ensures { result ≡ row_field row k }
 {
     match row {
@@ -212,11 +212,11 @@ pub fn row_field(row: Row, k: usize) -> Number_field
 }
 
 // Part 4: the number of a shallow-water constituent's parts.
-pub fn part_count() -> Number_field
+pub fn part_count() -> NumberField
     ensures { result ≡ part_count_field }
 {
-    Number_field {
-        what: What::Part_count,
+    NumberField {
+        what: What::PartCount,
         which: 0,
         from: 11,
         width: 1,
@@ -227,11 +227,11 @@ pub fn part_count() -> Number_field
 }
 
 // The coefficient of its part j, from 0.
-pub fn coefficient(j: usize) -> Number_field
+pub fn coefficient(j: usize) -> NumberField
     requires { j < 4 }
     ensures { result ≡ coefficient_field j }
 {
-    Number_field {
+    NumberField {
         what: What::Coefficient,
         which: j + 1,
         from: 14 + 15 * j,

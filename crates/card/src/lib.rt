@@ -4,8 +4,8 @@ ghost use Rattle.std.specs.Prelude.{◌≡◌, ◌≤◌, ◌<◌, length, take,
 ghost use Rattle.limits.specs.Limits.{satellites_a_card};
 ghost use Rattle.card.specs.Formats as spec;
 ghost use Rattle.card.specs.Card.{field_on, number, numbers};
-ghost use Rattle.card.specs.inner.Fields.{Is_small, Is_natural, Row_good};
-ghost use Rattle.card.specs.inner.Answers.{small_gives, natural_gives, Natural_within, ratio_gives, Ratio_within, check_gives};
+ghost use Rattle.card.specs.inner.Fields.{IsSmall, IsNatural, RowGood};
+ghost use Rattle.card.specs.inner.Answers.{small_gives, natural_gives, NaturalWithin, ratio_gives, RatioWithin, check_gives};
 
 pub mod faults; // what is wrong with a card
 pub mod formats; // the columns of each card
@@ -14,7 +14,7 @@ pub mod places; // the places of constituents
 
 use faults::{Fault, Trouble};
 use fields::{Field, Narrow};
-use formats::{Number_field, RATIO, Row, fault_in};
+use formats::{NumberField, RATIO, Row, fault_in};
 
 // A small signed number of a card, or what is wrong with it.
 #[derive(Drop)]
@@ -45,7 +45,7 @@ pub enum Check {
 }
 
 // What stands in a field of the line.
-pub fn field_on(line: &[u8], f: Number_field) -> Field
+pub fn field_on(line: &[u8], f: NumberField) -> Field
     ensures { result ≡ field_on line.now f }
 {
     let format = f.format;
@@ -53,27 +53,27 @@ pub fn field_on(line: &[u8], f: Number_field) -> Field
 }
 
 // The number in a field whose range eight bits hold.
-pub fn small_field(line: &[u8], f: Number_field) -> Small
-    requires { Is_small f }
+pub fn small_field(line: &[u8], f: NumberField) -> Small
+    requires { IsSmall f }
     ensures { small_gives result ≡ number line.now f }
 {
     match field_on(line, f) {
         Field::Value(v) => Small::Value(v as i8),
         Field::Malformed => Small::Bad(fault_in(f, Trouble::Malformed)),
-        Field::Out_of_range => Small::Bad(fault_in(f, Trouble::Out_of_range)),
+        Field::OutOfRange => Small::Bad(fault_in(f, Trouble::OutOfRange)),
     }
 }
 
 // The number in a field whose range does not go below 0.
-pub fn natural_field(line: &[u8], f: Number_field) -> Natural
-    requires { Is_natural f }
+pub fn natural_field(line: &[u8], f: NumberField) -> Natural
+    requires { IsNatural f }
     ensures result_value { natural_gives result ≡ number line.now f }
-    ensures natural_within { Natural_within result (nat_abs f.high) }
+    ensures natural_within { NaturalWithin result (nat_abs f.high) }
 {
     match field_on(line, f) {
         Field::Value(v) => Natural::Value(v as u64),
         Field::Malformed => Natural::Bad(fault_in(f, Trouble::Malformed)),
-        Field::Out_of_range => Natural::Bad(fault_in(f, Trouble::Out_of_range)),
+        Field::OutOfRange => Natural::Bad(fault_in(f, Trouble::OutOfRange)),
     }
 }
 
@@ -81,14 +81,14 @@ pub fn natural_field(line: &[u8], f: Number_field) -> Natural
 pub fn ratio_on(line: &[u8], j: usize) -> Ratio
     requires { j < satellites_a_card }
     ensures result_value { ratio_gives result ≡ number line.now (spec.ratio_field j) }
-    ensures ratio_within { Ratio_within result 20_000 }
+    ensures ratio_within { RatioWithin result 20_000 }
 {
     let f = formats::ratio(j);
     let format = f.format;
     match fields::narrow_field(line, f.from, f.width, format, RATIO) {
         Narrow::Value(ratio) => Ratio::Value(ratio),
         Narrow::Malformed => Ratio::Bad(fault_in(f, Trouble::Malformed)),
-        Narrow::Out_of_range => Ratio::Bad(fault_in(f, Trouble::Out_of_range)),
+        Narrow::OutOfRange => Ratio::Bad(fault_in(f, Trouble::OutOfRange)),
     }
 }
 
@@ -101,7 +101,7 @@ pub struct SmallRow {
 
 // The first `count` numbers of a row of fields.
 pub fn small_row(line: &[u8], row: Row, count: usize) -> SmallRow
-    requires { Row_good row × (count ≤ 6) }
+    requires { RowGood row × (count ≤ 6) }
     ensures values_value { check_gives result.check (take count result.values) ≡ numbers line.now (spec.row_field row) count }
     ensures values_len { length result.values ≡ 6 }
 {

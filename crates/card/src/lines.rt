@@ -2,7 +2,7 @@
 ghost use Rattle.std.specs.Prelude.{◌≡◌, ◌-◌, ◌≤◌, ◌<◌, length, drop};
 ghost use Rattle.columns.specs.Lines.{first_line};
 ghost use Rattle.card.specs.Card as card;
-ghost use Rattle.card.specs.inner.Lines.{Next_line, opening_gives};
+ghost use Rattle.card.specs.inner.Lines.{NextLine, opening_gives};
 
 use crate::faults;
 use crate::faults::{Fault, Trouble, What};
@@ -18,7 +18,7 @@ pub fn line_at(file: &[u8], at: usize) -> &[u8]
 // Where the line after it starts.
 pub fn next_line(file: &[u8], at: usize) -> usize
     requires { at < length file.now }
-    ensures { Next_line file.now at result }
+    ensures { NextLine file.now at result }
 {
     file.len() - columns::rest_lines(&file[at..]).len()
 }
@@ -26,7 +26,7 @@ pub fn next_line(file: &[u8], at: usize) -> usize
 // Where the line after it starts, its own length being known.
 pub fn after_line(file: &[u8], at: usize, width: usize) -> usize
     requires { (at < length file.now) × (width ≡ length (first_line (drop at file.now))) }
-    ensures { Next_line file.now at result }
+    ensures { NextLine file.now at result }
 {
     let end = at + width;
     if end < file.len() {

@@ -32,7 +32,7 @@ pub fn place_named(line: &[u8], from: usize, names: &[u8], count: usize) -> Plac
     }
     match names::find_name(name, names, count) {
         names::Found::At(place) => Place::At(place as u16),
-        names::Found::Nothing => Place::Bad(faults::only(What::Name, Trouble::No_frequency)),
+        names::Found::Nothing => Place::Bad(faults::only(What::Name, Trouble::NoFrequency)),
     }
 }
 
@@ -57,9 +57,9 @@ fn not_main(j: usize) -> Fault
     ensures { result ≡ not_main j }
 {
     Fault {
-        what: What::Part_name,
+        what: What::PartName,
         which: j + 1,
-        trouble: Trouble::Not_main,
+        trouble: Trouble::NotMain,
     }
 }
 

@@ -1,1 +1,1 @@
-pub mod Of_mains
+pub mod OfMains

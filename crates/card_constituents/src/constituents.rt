@@ -6,19 +6,19 @@ ghost use Rattle.columns.specs.Lines.{lines_of, first_line, rest_lines};
 ghost use Rattle.columns.specs.Names.{names_from};
 ghost use Rattle.table.specs.inner.View.{main_of};
 ghost use Rattle.card.specs.Faults as spec;
-ghost use Rattle.card.specs.declared.faults.What.The_variants.{File};
-ghost use Rattle.card.specs.declared.faults.Trouble.The_variants.{Ended_in_mains};
-ghost use Rattle.card.specs.declared.lines.Progress.The_variants.{Reached, Refused};
-ghost use Rattle.card.specs.inner.Lines.{reading_gives, Within_file};
-ghost use Rattle.card_mains.specs.inner.Satellites.{Satellite_room};
-ghost use Rattle.card_constituents.specs.inner.Rows.{Main_room, satellites_end, Stored, mains_in, Counted};
+ghost use Rattle.card.specs.declared.faults.What.TheVariants.{File};
+ghost use Rattle.card.specs.declared.faults.Trouble.TheVariants.{EndedInMains};
+ghost use Rattle.card.specs.declared.lines.Progress.TheVariants.{Reached, Refused};
+ghost use Rattle.card.specs.inner.Lines.{reading_gives, WithinFile};
+ghost use Rattle.card_mains.specs.inner.Satellites.{SatelliteRoom};
+ghost use Rattle.card_constituents.specs.inner.Rows.{MainRoom, satellites_end, Stored, mains_in, Counted};
 ghost use Rattle.card_constituents.specs.Constituents.{mains_from, satellites_from};
 
 use crate::rows::{Here, read_main, read_satellites};
 use card::Check;
 use card::faults::{Fault, Trouble, What, only};
 use card::lines::{Progress, after_line, line_at};
-use card_mains::mains::Main_step;
+use card_mains::mains::MainStep;
 use limits::SATELLITES_A_CARD;
 use table::{MAIN_ANGLES, MAIN_CARDS, SATELLITE_ANGLES, SATELLITE_RATIOS};
 
@@ -31,9 +31,9 @@ pub struct MainsRead {
 
 // The file ended here.
 fn ended(here: Here) -> MainsRead
-    ensures { result ≡ record { progress = Refused (spec.only File Ended_in_mains) here.n; mains = here.mains } }
+    ensures { result ≡ record { progress = Refused (spec.only File EndedInMains) here.n; mains = here.mains } }
 {
-    refused(only(What::File, Trouble::Ended_in_mains), here)
+    refused(only(What::File, Trouble::EndedInMains), here)
 }
 
 // The line here has a fault.
@@ -96,9 +96,9 @@ pub fn constituent_reader(
     sat: &mut [i8; SATELLITE_ANGLES],
     ratios: &mut [u32; SATELLITE_RATIOS],
 ) -> MainsRead
-    requires { (here.at ≤ length file.now) × (here.n ≤ here.at + 1) × (known ≤ most_frequencies) × (here.mains ≤ most_mains) × (here.satellites ≤ most_satellites) × Stored cards.old here.mains here.satellites × Main_room cards.old angles.old × Satellite_room sat.old ratios.old × Counted cards.old angles.old sat.old ratios.old here.mains here.satellites }
+    requires { (here.at ≤ length file.now) × (here.n ≤ here.at + 1) × (known ≤ most_frequencies) × (here.mains ≤ most_mains) × (here.satellites ≤ most_satellites) × Stored cards.old here.mains here.satellites × MainRoom cards.old angles.old × SatelliteRoom sat.old ratios.old × Counted cards.old angles.old sat.old ratios.old here.mains here.satellites }
     ensures mains_after { reading_gives file.now result.progress (mains_in cards.new angles.new sat.new ratios.new result.mains) ≡ mains_from (names_from names.now 0 known) (lines_of (drop here.at file.now)) here.n (mains_in cards.old angles.old sat.old ratios.old here.mains) }
-    ensures within_file { Within_file file.now result.progress × (result.mains ≤ most_mains) }
+    ensures within_file { WithinFile file.now result.progress × (result.mains ≤ most_mains) }
 {
     let at = here.at;
     if file.len() <= at {
@@ -107,8 +107,8 @@ pub fn constituent_reader(
     let line = line_at(file, at);
     let next = next_card(file, here, line.len());
     match read_main(line, here, names, known, cards, angles) {
-        Main_step::Ends => reached(next),
-        Main_step::Gives(count) => {
+        MainStep::Ends => reached(next),
+        MainStep::Gives(count) => {
             if count == 0 {
                 let more = with_more(next, 1, 0);
                 constituent_reader(file, more, names, known, cards, angles, sat, ratios)
@@ -117,7 +117,7 @@ pub fn constituent_reader(
                 satellite_reader(file, next, due, names, known, cards, angles, sat, ratios)
             }
         }
-        Main_step::Fails(fault) => refused(fault, here),
+        MainStep::Fails(fault) => refused(fault, here),
     }
 }
 
@@ -134,9 +134,9 @@ pub fn satellite_reader(
     sat: &mut [i8; SATELLITE_ANGLES],
     ratios: &mut [u32; SATELLITE_RATIOS],
 ) -> MainsRead
-    requires { (here.at ≤ length file.now) × (here.n ≤ here.at + 1) × (known ≤ most_frequencies) × (here.mains < most_mains) × (here.satellites + due ≤ most_satellites) × (satellites_end cards.old here.mains ≡ here.satellites) × Stored cards.old here.mains here.satellites × Main_room cards.old angles.old × Satellite_room sat.old ratios.old × Counted cards.old angles.old sat.old ratios.old (here.mains + 1) here.satellites }
+    requires { (here.at ≤ length file.now) × (here.n ≤ here.at + 1) × (known ≤ most_frequencies) × (here.mains < most_mains) × (here.satellites + due ≤ most_satellites) × (satellites_end cards.old here.mains ≡ here.satellites) × Stored cards.old here.mains here.satellites × MainRoom cards.old angles.old × SatelliteRoom sat.old ratios.old × Counted cards.old angles.old sat.old ratios.old (here.mains + 1) here.satellites }
     ensures mains_after { reading_gives file.now result.progress (mains_in cards.new angles.new sat.new ratios.new result.mains) ≡ satellites_from (names_from names.now 0 known) (lines_of (drop here.at file.now)) here.n (mains_in cards.old angles.old sat.old ratios.old here.mains) (main_of cards.old angles.old sat.old ratios.old here.mains) due }
-    ensures within_file { Within_file file.now result.progress × (result.mains ≤ most_mains) }
+    ensures within_file { WithinFile file.now result.progress × (result.mains ≤ most_mains) }
 {
     let at = here.at;
     if file.len() <= at {

@@ -5,11 +5,11 @@ ghost use Rattle.limits.specs.Limits.{most_frequencies, most_mains, most_satelli
 ghost use Rattle.columns.specs.Names.{names_from};
 ghost use Rattle.card.specs.inner.Places.{places_in};
 ghost use Rattle.card_mains.specs.Mains.{next_main};
-ghost use Rattle.card_mains.specs.inner.Satellites.{Satellite_room};
-ghost use Rattle.card_constituents.specs.inner.Rows.{Main_room, satellites_end, Stored, Main_stored, Mains_kept, mains_over, Satellites_stored, Begun, Grown};
+ghost use Rattle.card_mains.specs.inner.Satellites.{SatelliteRoom};
+ghost use Rattle.card_constituents.specs.inner.Rows.{MainRoom, satellites_end, Stored, MainStored, MainsKept, mains_over, SatellitesStored, Begun, Grown};
 
 use card::Check;
-use card_mains::mains::{Main_step, next_main};
+use card_mains::mains::{MainStep, next_main};
 use card_mains::satellitecard::{at_most_three, satellite_card};
 use table::{MAIN_ANGLES, MAIN_CARDS, SATELLITE_ANGLES, SATELLITE_RATIOS};
 
@@ -58,24 +58,24 @@ pub fn read_main(
     known: usize,
     cards: &mut [u16; MAIN_CARDS],
     angles: &mut [i8; MAIN_ANGLES],
-) -> Main_step
-    requires { (known ≤ most_frequencies) × (here.mains ≤ most_mains) × (here.satellites ≤ most_satellites) × Stored cards.old here.mains here.satellites × Main_room cards.old angles.old }
-    ensures main_stored { Main_stored result cards.new angles.new here.mains (next_main (names_from names.now 0 known) (places_in 3 cards.old here.mains) here.satellites line.now) }
-    ensures mains_kept { Mains_kept cards.new angles.new cards.old angles.old here.mains }
-    ensures begun { Begun result cards.new here.mains here.satellites × Main_room cards.new angles.new }
+) -> MainStep
+    requires { (known ≤ most_frequencies) × (here.mains ≤ most_mains) × (here.satellites ≤ most_satellites) × Stored cards.old here.mains here.satellites × MainRoom cards.old angles.old }
+    ensures main_stored { MainStored result cards.new angles.new here.mains (next_main (names_from names.now 0 known) (places_in 3 cards.old here.mains) here.satellites line.now) }
+    ensures mains_kept { MainsKept cards.new angles.new cards.old angles.old here.mains }
+    ensures begun { Begun result cards.new here.mains here.satellites × MainRoom cards.new angles.new }
 {
     let m = here.mains;
     let first = here.satellites;
     let card = next_main(line, names, known, cards, m, first);
     let step = card.step;
     match step {
-        Main_step::Ends => Main_step::Ends,
-        Main_step::Gives(count) => {
+        MainStep::Ends => MainStep::Ends,
+        MainStep::Gives(count) => {
             let doodson = card.doodson;
             put_main(cards, angles, m, card.place, first, doodson, card.phase);
-            Main_step::Gives(count)
+            MainStep::Gives(count)
         }
-        Main_step::Fails(fault) => Main_step::Fails(fault),
+        MainStep::Fails(fault) => MainStep::Fails(fault),
     }
 }
 
@@ -88,9 +88,9 @@ pub fn read_satellites(
     sat: &mut [i8; SATELLITE_ANGLES],
     ratios: &mut [u32; SATELLITE_RATIOS],
 ) -> Check
-    requires { (here.mains < most_mains) × (here.satellites + due ≤ most_satellites) × (satellites_end cards.old here.mains ≡ here.satellites) × Stored cards.old here.mains here.satellites × (length cards.old ≡ 3 * most_mains) × Satellite_room sat.old ratios.old }
-    ensures satellites_stored { Satellites_stored result (mains_over cards.new sat.new ratios.new) (mains_over cards.old sat.old ratios.old) here.mains due line.now }
-    ensures grown { Grown result cards.new cards.old here.mains here.satellites due × (length cards.new ≡ 3 * most_mains) × Satellite_room sat.new ratios.new }
+    requires { (here.mains < most_mains) × (here.satellites + due ≤ most_satellites) × (satellites_end cards.old here.mains ≡ here.satellites) × Stored cards.old here.mains here.satellites × (length cards.old ≡ 3 * most_mains) × SatelliteRoom sat.old ratios.old }
+    ensures satellites_stored { SatellitesStored result (mains_over cards.new sat.new ratios.new) (mains_over cards.old sat.old ratios.old) here.mains due line.now }
+    ensures grown { Grown result cards.new cards.old here.mains here.satellites due × (length cards.new ≡ 3 * most_mains) × SatelliteRoom sat.new ratios.new }
 {
     match satellite_card(line, here.satellites, due, sat, ratios) {
         Check::Clear => {

@@ -2,12 +2,12 @@
 use Rattle.std.specs.Prelude.{ℕ, zero, suc, ◌+◌, List, [], ◌++◌, cond, length}
 use Rattle.columns.specs.Lines.{lines_of}
 use Rattle.columns.specs.declared.names.Found.{Found}
-use Rattle.columns.specs.declared.names.Found.The_variants.{At, Nothing}
+use Rattle.columns.specs.declared.names.Found.TheVariants.{At, Nothing}
 use Rattle.refusals.specs.Outcome as outcome
 use Rattle.refusals.specs.Outcome.{Outcome}
 use Rattle.table.specs.Table.{Table}
-use Rattle.card.specs.declared.faults.What.The_variants.{Name}
-use Rattle.card.specs.declared.faults.Trouble.The_variants.{No_definition}
+use Rattle.card.specs.declared.faults.What.TheVariants.{Name}
+use Rattle.card.specs.declared.faults.Trouble.TheVariants.{NoDefinition}
 use Rattle.card.specs.Faults.{only, fault_number}
 use Rattle.card.specs.Formats.{longitude_field, increase_field}
 use Rattle.refusals.specs.Places.{is_among}
@@ -31,7 +31,7 @@ first_undefined defined k (suc n) = cond (is_among k defined) (first_undefined d
 -- "5 frequency without definition". A part 1 card has no card before it but of part 1, so place k stands on line k + 1.
 abbrev pub unless_undefined : {A : Type 0} → Found → Reading A → Reading A
 unless_undefined Nothing reading = reading
-unless_undefined (At k) reading = refused (only Name No_definition) (k + 1)
+unless_undefined (At k) reading = refused (only Name NoDefinition) (k + 1)
 
 -- the table of a card file, from its bytes, or what is wrong with a line; "lines after it are ignored"
 unfoldable pub read_cards : List ℕ → Reading Table

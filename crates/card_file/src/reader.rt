@@ -3,14 +3,14 @@ ghost use Rattle.std.specs.Prelude.{◌≡◌, ◌+◌, ◌≤◌, length, drop}
 ghost use Rattle.limits.specs.Limits.{most_frequencies, most_mains};
 ghost use Rattle.columns.specs.Lines.{lines_of};
 ghost use Rattle.table.specs.inner.View.{table_of};
-ghost use Rattle.card.specs.declared.lines.Progress.The_variants.{Refused};
+ghost use Rattle.card.specs.declared.lines.Progress.TheVariants.{Refused};
 ghost use Rattle.card_file.specs.Cards.{read_cards, cards_outcome};
 ghost use Rattle.card_file.specs.inner.Read.{parsed_gives, outcome_of, check_of};
 ghost use Rattle.card_file.specs.inner.Rest.{longitudes_and, mains_and, shallows_and};
 
 use crate::defined::undefined;
 use card::faults::{Fault, Trouble, What, refusal_for};
-use card::formats::Five_card;
+use card::formats::FiveCard;
 use card::lines::Progress;
 use card::{Check, faults};
 use card_constituents::constituents::constituent_reader;
@@ -85,7 +85,7 @@ fn shallows_and(file: &[u8], at: usize, n: usize, table: Table) -> Parsed
                     table: whole,
                 },
                 Found::At(place) => refused(
-                    faults::only(What::Name, Trouble::No_definition),
+                    faults::only(What::Name, Trouble::NoDefinition),
                     place + 1,
                 ),
             }
@@ -139,12 +139,12 @@ fn longitudes_and(file: &[u8], at: usize, n: usize, table: Table) -> Parsed
     requires { (at ≤ length file.now) × (n ≤ at + 1) × (table.frequencies ≤ most_frequencies) }
     ensures { parsed_gives file.now result ≡ longitudes_and (table_of table) (lines_of (drop at file.now)) n }
 {
-    let first = read_five(file, at, n, Five_card::Longitudes);
+    let first = read_five(file, at, n, FiveCard::Longitudes);
     let progress = first.progress;
     match progress {
         Progress::Refused(fault, line) => refused(fault, line),
         Progress::Reached(next, line) => {
-            let second = read_five(file, next, line, Five_card::Increases);
+            let second = read_five(file, next, line, FiveCard::Increases);
             let after = second.progress;
             match after {
                 Progress::Refused(fault, last) => refused(fault, last),

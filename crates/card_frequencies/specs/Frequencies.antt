@@ -5,7 +5,7 @@ use Rattle.columns.specs.Columns.{columns}
 use Rattle.table.specs.Table.{Frequency}
 use Rattle.card.specs.Formats.{frequency_name, frequency_field}
 use Rattle.refusals.specs.Checked.{good, ◌>>=◌}
-use Rattle.card.specs.declared.faults.Trouble.The_variants.{Too_many_frequencies, Ended_in_frequencies}
+use Rattle.card.specs.declared.faults.Trouble.TheVariants.{TooManyFrequencies, EndedInFrequencies}
 use Rattle.card.specs.Card.{Card, number, new_name, Next, next_card, Reading, given, ended, onward_or_end}
 
 -- the names of the frequencies
@@ -21,11 +21,11 @@ frequency_card names line = do
 
 -- "At most 160 frequencies"
 unfoldable pub next_frequency : List (List ℕ) → List ℕ → Next Frequency
-next_frequency names line = next_card most_frequencies Too_many_frequencies (length names) line (frequency_card names line)
+next_frequency names line = next_card most_frequencies TooManyFrequencies (length names) line (frequency_card names line)
 
 -- the cards from line n on, after the frequencies of those before it; "7 file ends inside a part; place: the line after the last"
 unfoldable pub frequencies_from : List (List ℕ) → ℕ → List Frequency → Reading (List Frequency)
-frequencies_from [] n before = ended Ended_in_frequencies n
+frequencies_from [] n before = ended EndedInFrequencies n
 frequencies_from (line ∷ lines) n before =
     onward_or_end (next_frequency (names_of before) line) n (given before lines (n + 1))
     (λ f. frequencies_from lines (n + 1) (before ++ (f ∷ [])))

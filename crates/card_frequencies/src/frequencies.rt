@@ -8,7 +8,7 @@ ghost use Rattle.columns.specs.Names.{names_from};
 ghost use Rattle.table.specs.inner.View.{listed, frequency_of};
 ghost use Rattle.card_frequencies.specs.Frequencies.{frequency_card, next_frequency, frequencies_from};
 ghost use Rattle.card_frequencies.specs.inner.Answers.{frequency_read, frequency_gives};
-ghost use Rattle.card.specs.inner.Lines.{reading_gives, Within_file};
+ghost use Rattle.card.specs.inner.Lines.{reading_gives, WithinFile};
 
 use card::faults::{Fault, Trouble, What};
 use card::formats::FREQUENCY_NAME;
@@ -20,7 +20,7 @@ use table::NAMES;
 
 // What the next card of part 1 comes to: the part's end, a frequency, or a fault.
 #[derive(Drop)]
-pub enum Frequency_step {
+pub enum FrequencyStep {
     Ends,
     Gives(u64),
     Fails(Fault),
@@ -41,16 +41,16 @@ fn frequency_fields(line: &[u8], names: &[u8], count: usize) -> Natural
 }
 
 // The next card of part 1, after `count` names.
-fn frequency_card(line: &[u8], names: &[u8], count: usize) -> Frequency_step
+fn frequency_card(line: &[u8], names: &[u8], count: usize) -> FrequencyStep
     ensures { frequency_gives line.now result ≡ next_frequency (names_from names.now 0 count) line.now }
 {
-    match begins(line, count, FREQUENCIES, Trouble::Too_many_frequencies) {
-        Opening::Ends => Frequency_step::Ends,
+    match begins(line, count, FREQUENCIES, Trouble::TooManyFrequencies) {
+        Opening::Ends => FrequencyStep::Ends,
         Opening::Fields => match frequency_fields(line, names, count) {
-            Natural::Value(v) => Frequency_step::Gives(v),
-            Natural::Bad(r) => Frequency_step::Fails(r),
+            Natural::Value(v) => FrequencyStep::Gives(v),
+            Natural::Bad(r) => FrequencyStep::Fails(r),
         },
-        Opening::Fails(r) => Frequency_step::Fails(r),
+        Opening::Fails(r) => FrequencyStep::Fails(r),
     }
 }
 
@@ -78,7 +78,7 @@ pub struct Frequencies {
 // Part 1, from the file's first line on.
 pub fn read_frequencies(file: &[u8]) -> Frequencies
     ensures count_value { reading_gives file.now result.progress (listed (frequency_of result.names result.speeds) 0 result.count) ≡ frequencies_from (lines_of file.now) 1 [] }
-    ensures within_file { Within_file file.now result.progress × (result.count ≤ most_frequencies) }
+    ensures within_file { WithinFile file.now result.progress × (result.count ≤ most_frequencies) }
 {
     let mut names = [0u8; NAMES];
     let mut speeds = [0u64; FREQUENCIES];
@@ -89,7 +89,7 @@ pub fn read_frequencies(file: &[u8]) -> Frequencies
         let line = line_at(file, at);
         let next = after_line(file, at, line.len());
         match frequency_card(line, &names, count) {
-            Frequency_step::Ends => {
+            FrequencyStep::Ends => {
                 return Frequencies {
                     progress: Progress::Reached(next, n + 1),
                     count: count,
@@ -97,11 +97,11 @@ pub fn read_frequencies(file: &[u8]) -> Frequencies
                     speeds: speeds,
                 };
             }
-            Frequency_step::Gives(v) => {
+            FrequencyStep::Gives(v) => {
                 put_name(&mut names, count, line, FREQUENCY_NAME);
                 speeds[count] = v;
             }
-            Frequency_step::Fails(r) => {
+            FrequencyStep::Fails(r) => {
                 return Frequencies {
                     progress: Progress::Refused(r, n),
                     count: count,
@@ -115,7 +115,7 @@ pub fn read_frequencies(file: &[u8]) -> Frequencies
         n = n + 1;
     }
     Frequencies {
-        progress: Progress::Refused(faults::only(What::File, Trouble::Ended_in_frequencies), n),
+        progress: Progress::Refused(faults::only(What::File, Trouble::EndedInFrequencies), n),
         count: count,
         names: names,
         speeds: speeds,

@@ -4,10 +4,10 @@ ghost use Rattle.card.specs.Formats.{five_field};
 ghost use Rattle.card_frequencies.specs.Longitudes.{five_card, five_from};
 ghost use Rattle.card.specs.inner.Answers.{check_gives};
 ghost use Rattle.columns.specs.Lines.{lines_of};
-ghost use Rattle.card.specs.inner.Lines.{reading_gives, Within_file};
+ghost use Rattle.card.specs.inner.Lines.{reading_gives, WithinFile};
 
 use card::faults::{Trouble, What};
-use card::formats::Five_card;
+use card::formats::FiveCard;
 use card::lines::{Progress, after_line, line_at};
 use card::{Check, Natural, faults, formats, natural_field};
 
@@ -19,7 +19,7 @@ pub struct Five {
 }
 
 // The numbers of a card (5F13.10).
-pub fn five_card(line: &[u8], card: Five_card) -> Five
+pub fn five_card(line: &[u8], card: FiveCard) -> Five
     ensures { check_gives result.check result.values ≡ five_card (five_field card) line.now }
 {
     let mut values = [0u64; 5];
@@ -52,14 +52,14 @@ pub struct FiveRead {
 }
 
 // The card (5F13.10) at a byte of the file, line n.
-pub fn read_five(file: &[u8], at: usize, n: usize, card: Five_card) -> FiveRead
+pub fn read_five(file: &[u8], at: usize, n: usize, card: FiveCard) -> FiveRead
     requires { (at ≤ length file.now) × (n ≤ at + 1) }
     ensures values_value { reading_gives file.now result.progress result.values ≡ five_from (five_field card) (lines_of (drop at file.now)) n }
-    ensures within_file { Within_file file.now result.progress }
+    ensures within_file { WithinFile file.now result.progress }
 {
     if file.len() <= at {
         return FiveRead {
-            progress: Progress::Refused(faults::only(What::File, Trouble::Ended_in_longitudes), n),
+            progress: Progress::Refused(faults::only(What::File, Trouble::EndedInLongitudes), n),
             values: [0u64; 5],
         };
     }

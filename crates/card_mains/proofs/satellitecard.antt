@@ -1,1 +1,1 @@
-pub mod Of_satellites
+pub mod OfSatellites

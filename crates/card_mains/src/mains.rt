@@ -18,7 +18,7 @@ use limits::{MAINS, SATELLITES};
 
 // What the next constituent card comes to: the part's end, a main with so many satellites, or a fault.
 #[derive(Drop)]
-pub enum Main_step {
+pub enum MainStep {
     Ends,
     Gives(u16),
     Fails(Fault),
@@ -26,19 +26,19 @@ pub enum Main_step {
 
 // That, with the main's place, and its Doodson numbers and phase.
 #[derive(Drop)]
-pub struct Main_read {
-    pub step: Main_step,
+pub struct MainRead {
+    pub step: MainStep,
     pub place: u16,
     pub doodson: [i8; 6],
     pub phase: i8,
 }
 
 // A card with a fault.
-fn failed(fault: Fault) -> Main_read
+fn failed(fault: Fault) -> MainRead
     ensures { main_gives result ≡ fails fault }
 {
-    Main_read {
-        step: Main_step::Fails(fault),
+    MainRead {
+        step: MainStep::Fails(fault),
         place: 0,
         doodson: [0i8; 6],
         phase: 0,
@@ -46,15 +46,15 @@ fn failed(fault: Fault) -> Main_read
 }
 
 // A main from its numbers, unless its satellites are too many in all.
-fn main_made(place: u16, doodson: [i8; 6], phase: i8, count: u64, satellites: usize) -> Main_read
+fn main_made(place: u16, doodson: [i8; 6], phase: i8, count: u64, satellites: usize) -> MainRead
     requires { (count ≤ nat_abs satellite_count_field.high) × (satellites ≤ most_satellites) }
     ensures { main_gives result ≡ opened read_fields (main_made place doodson phase (pos count) satellites) }
 {
     if SATELLITES < satellites + (count as usize) {
-        return failed(only(What::Card, Trouble::Too_many_satellites));
+        return failed(only(What::Card, Trouble::TooManySatellites));
     }
-    Main_read {
-        step: Main_step::Gives(count as u16),
+    MainRead {
+        step: MainStep::Gives(count as u16),
         place: place,
         doodson: doodson,
         phase: phase,
@@ -62,7 +62,7 @@ fn main_made(place: u16, doodson: [i8; 6], phase: i8, count: u64, satellites: us
 }
 
 // The numbers of a constituent card with a place.
-fn main_numbers(line: &[u8], place: u16, satellites: usize) -> Main_read
+fn main_numbers(line: &[u8], place: u16, satellites: usize) -> MainRead
     requires { satellites ≤ most_satellites }
     ensures { main_gives result ≡ opened read_fields (main_numbers place satellites line.now) }
 {
@@ -105,13 +105,13 @@ pub fn next_main(
     cards: &[u16],
     mains: usize,
     satellites: usize,
-) -> Main_read
+) -> MainRead
     requires { (frequencies ≤ most_frequencies) × (mains ≤ most_mains) × (satellites ≤ most_satellites) }
     ensures { main_gives result ≡ next_main (names_from names.now 0 frequencies) (places_in 3 cards.now mains) satellites line.now }
 {
-    match begins(line, mains, MAINS, Trouble::Too_many_mains) {
-        Opening::Ends => Main_read {
-            step: Main_step::Ends,
+    match begins(line, mains, MAINS, Trouble::TooManyMains) {
+        Opening::Ends => MainRead {
+            step: MainStep::Ends,
             place: 0,
             doodson: [0i8; 6],
             phase: 0,

@@ -5,9 +5,9 @@ ghost use Rattle.limits.specs.Limits.{most_satellites, satellites_a_card};
 ghost use Rattle.table.specs.inner.View.{listed, satellite_of};
 ghost use Rattle.card_mains.specs.Satellites.{satellites_on, satellite_card};
 ghost use Rattle.card.specs.inner.Answers.{check_gives};
-ghost use Rattle.card_mains.specs.inner.Satellites.{As_before, Satellite_room};
+ghost use Rattle.card_mains.specs.inner.Satellites.{AsBefore, SatelliteRoom};
 
-use crate::satellitefields::{Satellite_read, satellite_fields};
+use crate::satellitefields::{SatelliteRead, satellite_fields};
 use card::Check;
 use card::faults::bad_line;
 use limits::SATELLITES_A_CARD;
@@ -18,7 +18,7 @@ fn put_satellite(
     angles: &mut [i8; SATELLITE_ANGLES],
     ratios: &mut [u32; SATELLITE_RATIOS],
     k: usize,
-    s: Satellite_read,
+    s: SatelliteRead,
 )
     requires { (k < most_satellites) × (length s.differences ≡ 6) }
     ensures angles_after { angles.new ≡ set (sets angles.old (4 * k) (take 3 s.differences)) (4 * k + 3) s.phase }
@@ -40,9 +40,9 @@ fn satellites_on(
     angles: &mut [i8; SATELLITE_ANGLES],
     ratios: &mut [u32; SATELLITE_RATIOS],
 ) -> Check
-    requires { (first + count ≤ most_satellites) × (count ≤ satellites_a_card) × Satellite_room angles.old ratios.old }
+    requires { (first + count ≤ most_satellites) × (count ≤ satellites_a_card) × SatelliteRoom angles.old ratios.old }
     ensures count_after { check_gives result (listed (satellite_of angles.new ratios.new) first count) ≡ satellites_on line.now [] 0 count }
-    ensures as_before { As_before (satellite_of angles.new ratios.new) (satellite_of angles.old ratios.old) first × Satellite_room angles.new ratios.new }
+    ensures as_before { AsBefore (satellite_of angles.new ratios.new) (satellite_of angles.old ratios.old) first × SatelliteRoom angles.new ratios.new }
 {
     let mut j = 0;
     while j < count {
@@ -80,9 +80,9 @@ pub fn satellite_card(
     angles: &mut [i8; SATELLITE_ANGLES],
     ratios: &mut [u32; SATELLITE_RATIOS],
 ) -> Check
-    requires { (first + count ≤ most_satellites) × Satellite_room angles.old ratios.old }
+    requires { (first + count ≤ most_satellites) × SatelliteRoom angles.old ratios.old }
     ensures satellites_acard_after { check_gives result (listed (satellite_of angles.new ratios.new) first (min count satellites_a_card)) ≡ satellite_card count line.now }
-    ensures as_before { As_before (satellite_of angles.new ratios.new) (satellite_of angles.old ratios.old) first × Satellite_room angles.new ratios.new }
+    ensures as_before { AsBefore (satellite_of angles.new ratios.new) (satellite_of angles.old ratios.old) first × SatelliteRoom angles.new ratios.new }
 {
     if columns::line_good(line) {
         return satellites_on(line, first, at_most_three(count), angles, ratios);

@@ -11,7 +11,7 @@ use card::{Check, Ratio, Small, formats, ratio_on, small_field, small_row};
 
 // What a satellite's fields hold, or what is wrong with them.
 #[derive(Drop)]
-pub struct Satellite_read {
+pub struct SatelliteRead {
     pub check: Check,
     pub differences: [i8; 6],
     pub phase: i8,
@@ -20,10 +20,10 @@ pub struct Satellite_read {
 }
 
 // Fields with a fault.
-fn failed(fault: Fault) -> Satellite_read
+fn failed(fault: Fault) -> SatelliteRead
     ensures { (satellite_gives result ≡ bad fault) × (length result.differences ≡ 6) }
 {
-    Satellite_read {
+    SatelliteRead {
         check: Check::Bad(fault),
         differences: [0i8; 6],
         phase: 0,
@@ -33,7 +33,7 @@ fn failed(fault: Fault) -> Satellite_read
 }
 
 // Satellite j of the line, from 0.
-pub fn satellite_fields(line: &[u8], j: usize) -> Satellite_read
+pub fn satellite_fields(line: &[u8], j: usize) -> SatelliteRead
     requires { j < satellites_a_card }
     ensures { (satellite_gives result ≡ satellite line.now j) × (length result.differences ≡ 6) }
 {
@@ -45,7 +45,7 @@ pub fn satellite_fields(line: &[u8], j: usize) -> Satellite_read
             Small::Value(phase) => match ratio_on(line, j) {
                 Ratio::Value(ratio) => {
                     let mark = columns::column(line, formats::mark_column(j));
-                    Satellite_read {
+                    SatelliteRead {
                         check: Check::Clear,
                         differences: differences,
                         phase: phase,

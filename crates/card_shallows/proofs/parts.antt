@@ -1,1 +1,1 @@
-pub mod Part_laws
+pub mod PartLaws

@@ -3,8 +3,8 @@ use Rattle.std.specs.Prelude.{ℕ, ◌+◌, List, Bool, cond, not, ltb, eqb, ℤ
 use Rattle.std.specs.Int.Signed.{quot_z, rem_z}
 use Rattle.limits.specs.Limits.{most_sizes}
 use Rattle.refusals.specs.Checked.{good, bad, ◌>>=◌}
-use Rattle.card.specs.declared.faults.Trouble.The_variants.{Out_of_range, Not_whole, Past_twelve}
-use Rattle.card.specs.declared.formats.Number_field.{Number_field}
+use Rattle.card.specs.declared.faults.Trouble.TheVariants.{OutOfRange, NotWhole, PastTwelve}
+use Rattle.card.specs.declared.formats.NumberField.{NumberField}
 use Rattle.card.specs.Formats.{fault_in, coefficient_field}
 use Rattle.card.specs.Card.{Card, number}
 
@@ -25,11 +25,11 @@ abbrev pub is_past : ℕ → ℤ → Bool
 is_past sizes hundredths = ltb most_sizes (sizes + nat_abs (whole_of hundredths))
 
 -- the coefficient of so many hundredths in a field
-unfoldable pub coefficient : Number_field → ℕ → ℤ → Card ℤ
+unfoldable pub coefficient : NumberField → ℕ → ℤ → Card ℤ
 coefficient f sizes hundredths =
-    cond (is_zero hundredths) (bad (fault_in f Out_of_range))
-    (cond (is_broken hundredths) (bad (fault_in f Not_whole))
-    (cond (is_past sizes hundredths) (bad (fault_in f Past_twelve)) (good (whole_of hundredths))))
+    cond (is_zero hundredths) (bad (fault_in f OutOfRange))
+    (cond (is_broken hundredths) (bad (fault_in f NotWhole))
+    (cond (is_past sizes hundredths) (bad (fault_in f PastTwelve)) (good (whole_of hundredths))))
 
 -- the coefficient of part j on the line
 abbrev pub coefficient_in : ℕ → List ℕ → ℕ → Card ℤ

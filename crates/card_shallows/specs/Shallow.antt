@@ -5,7 +5,7 @@ use Rattle.columns.specs.Columns.{columns}
 use Rattle.table.specs.Table.{Shallow}
 use Rattle.card.specs.Formats.{shallow_name, part_count_field}
 use Rattle.refusals.specs.Checked.{good, ◌>>=◌}
-use Rattle.card.specs.declared.faults.Trouble.The_variants.{Too_many_shallows}
+use Rattle.card.specs.declared.faults.Trouble.TheVariants.{TooManyShallows}
 use Rattle.card.specs.Card.{Card, number, new_place, Next, next_card}
 use Rattle.card_shallows.specs.Parts.{parts_on}
 
@@ -19,4 +19,4 @@ shallow_card names mains shallows line = do
 
 -- "128 shallow"
 unfoldable pub next_shallow : List (List ℕ) → List ℕ → List ℕ → List ℕ → Next Shallow
-next_shallow names mains shallows line = next_card most_shallows Too_many_shallows (length shallows) line (shallow_card names mains shallows line)
+next_shallow names mains shallows line = next_card most_shallows TooManyShallows (length shallows) line (shallow_card names mains shallows line)

@@ -6,25 +6,25 @@ ghost use Rattle.card.specs.inner.Answers.{small_gives};
 
 use angles::size;
 use card::faults::Trouble;
-use card::formats::{Number_field, fault_in};
+use card::formats::{NumberField, fault_in};
 use card::{Small, field_on, formats};
 use fields::Field;
 use limits::SIZES;
 
 // The coefficient of so many hundredths in a field, after parts whose sizes add up to `sizes`.
-fn whole_coefficient(f: Number_field, hundredths: i64, sizes: u64) -> Small
+fn whole_coefficient(f: NumberField, hundredths: i64, sizes: u64) -> Small
     requires { (nat_abs hundredths ≤ 900) × (sizes ≤ most_sizes) }
     ensures { small_gives result ≡ coefficient f sizes hundredths }
 {
     let n = size(hundredths);
     if n == 0 {
-        return Small::Bad(fault_in(f, Trouble::Out_of_range));
+        return Small::Bad(fault_in(f, Trouble::OutOfRange));
     }
     if 0 < n % 100 {
-        return Small::Bad(fault_in(f, Trouble::Not_whole));
+        return Small::Bad(fault_in(f, Trouble::NotWhole));
     }
     if SIZES < sizes + n / 100 {
-        return Small::Bad(fault_in(f, Trouble::Past_twelve));
+        return Small::Bad(fault_in(f, Trouble::PastTwelve));
     }
     Small::Value((hundredths / 100) as i8)
 }
@@ -38,6 +38,6 @@ pub fn coefficient_field(line: &[u8], j: usize, sizes: u64) -> Small
     match field_on(line, f) {
         Field::Value(v) => whole_coefficient(f, v, sizes),
         Field::Malformed => Small::Bad(fault_in(f, Trouble::Malformed)),
-        Field::Out_of_range => Small::Bad(fault_in(f, Trouble::Out_of_range)),
+        Field::OutOfRange => Small::Bad(fault_in(f, Trouble::OutOfRange)),
     }
 }

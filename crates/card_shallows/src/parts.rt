@@ -16,7 +16,7 @@ use card::places::{Place, main_named};
 
 // A part, its coefficient and its main's position, or what is wrong with it.
 #[derive(Drop)]
-pub enum Part_read {
+pub enum PartRead {
     Gives(i8, u16),
     Bad(Fault),
 }
@@ -30,22 +30,22 @@ fn part(
     frequencies: usize,
     maincards: &[u16],
     mains: usize,
-) -> Part_read
+) -> PartRead
     requires { (j < 4) × (sizes ≤ most_sizes) × (frequencies ≤ most_frequencies) × (mains ≤ most_mains) }
     ensures { part_gives result ≡ shallows.part (names_from names.now 0 frequencies) (places_in 3 maincards.now mains) sizes line.now j }
 {
     match coefficient_field(line, j, sizes) {
         Small::Value(c) => match main_named(line, j, names, frequencies, maincards, mains) {
-            Place::At(m) => Part_read::Gives(c, m),
-            Place::Bad(fault) => Part_read::Bad(fault),
+            Place::At(m) => PartRead::Gives(c, m),
+            Place::Bad(fault) => PartRead::Bad(fault),
         },
-        Small::Bad(fault) => Part_read::Bad(fault),
+        Small::Bad(fault) => PartRead::Bad(fault),
     }
 }
 
 // What the next shallow-water card comes to: the part's end, a shallow constituent, or a fault.
 #[derive(Drop)]
-pub enum Shallow_step {
+pub enum ShallowStep {
     Ends,
     Gives,
     Fails(Fault),
@@ -53,8 +53,8 @@ pub enum Shallow_step {
 
 // That, with the constituent's row of a place, the count of its parts and four mains, and its row of coefficients.
 #[derive(Drop)]
-pub struct Shallow_read {
-    pub step: Shallow_step,
+pub struct ShallowRead {
+    pub step: ShallowStep,
     pub card: [u16; 6],
     pub coefficients: [i8; 4],
 }
@@ -68,7 +68,7 @@ pub fn parts_on(
     frequencies: usize,
     maincards: &[u16],
     mains: usize,
-) -> Shallow_read
+) -> ShallowRead
     requires { (count ≤ 4) × (frequencies ≤ most_frequencies) × (mains ≤ most_mains) }
     ensures { shallow_gives result ≡ opened read_fields (with_parts place (parts_on (names_from names.now 0 frequencies) (places_in 3 maincards.now mains) line.now [] 0 0 count)) }
 {
@@ -79,23 +79,23 @@ pub fn parts_on(
     let end = count as usize;
     while j < end {
         match part(line, j, sizes, names, frequencies, maincards, mains) {
-            Part_read::Gives(c, m) => {
+            PartRead::Gives(c, m) => {
                 card[2 + j] = m;
                 coefficients[j] = c;
                 sizes = sizes + size(c as i64);
                 j = j + 1;
             }
-            Part_read::Bad(fault) => {
-                return Shallow_read {
-                    step: Shallow_step::Fails(fault),
+            PartRead::Bad(fault) => {
+                return ShallowRead {
+                    step: ShallowStep::Fails(fault),
                     card: card,
                     coefficients: coefficients,
                 };
             }
         }
     }
-    Shallow_read {
-        step: Shallow_step::Gives,
+    ShallowRead {
+        step: ShallowStep::Gives,
         card: card,
         coefficients: coefficients,
     }

@@ -9,7 +9,7 @@ ghost use Rattle.card_shallows.specs.Shallow.{shallow_card, next_shallow};
 ghost use Rattle.card.specs.inner.Places.{place_gives, places_in};
 ghost use Rattle.card_shallows.specs.inner.Answers.{shallow_gives};
 
-use crate::parts::{Shallow_read, Shallow_step, parts_on};
+use crate::parts::{ShallowRead, ShallowStep, parts_on};
 use card::faults::{Fault, Trouble, What};
 use card::formats::SHALLOW_NAME;
 use card::lines::{Opening, begins};
@@ -18,11 +18,11 @@ use card::{Natural, faults, formats, natural_field};
 use limits::SHALLOWS;
 
 // A card with a fault.
-fn failed(fault: Fault) -> Shallow_read
+fn failed(fault: Fault) -> ShallowRead
     ensures { shallow_gives result ≡ fails fault }
 {
-    Shallow_read {
-        step: Shallow_step::Fails(fault),
+    ShallowRead {
+        step: ShallowStep::Fails(fault),
         card: [0u16; 6],
         coefficients: [0i8; 4],
     }
@@ -64,7 +64,7 @@ fn shallow_card(
     mains: usize,
     cards: &[u16],
     count: usize,
-) -> Shallow_read
+) -> ShallowRead
     requires { (frequencies ≤ most_frequencies) × (mains ≤ most_mains) × (count ≤ most_shallows) }
     ensures { shallow_gives result ≡ opened read_fields (shallow_card (names_from names.now 0 frequencies) (places_in 3 maincards.now mains) (places_in 6 cards.now count) line.now) }
 {
@@ -94,13 +94,13 @@ pub fn next_shallow(
     mains: usize,
     cards: &[u16],
     count: usize,
-) -> Shallow_read
+) -> ShallowRead
     requires { (frequencies ≤ most_frequencies) × (mains ≤ most_mains) × (count ≤ most_shallows) }
     ensures { shallow_gives result ≡ next_shallow (names_from names.now 0 frequencies) (places_in 3 maincards.now mains) (places_in 6 cards.now count) line.now }
 {
-    match begins(line, count, SHALLOWS, Trouble::Too_many_shallows) {
-        Opening::Ends => Shallow_read {
-            step: Shallow_step::Ends,
+    match begins(line, count, SHALLOWS, Trouble::TooManyShallows) {
+        Opening::Ends => ShallowRead {
+            step: ShallowStep::Ends,
             card: [0u16; 6],
             coefficients: [0i8; 4],
         },

@@ -9,7 +9,7 @@ ghost use Rattle.columns.specs.Lines.{lines_of};
 ghost use Rattle.table.specs.inner.View.{listed, shallow_of};
 ghost use Rattle.card.specs.inner.Lines.{reading_gives};
 
-use crate::parts::Shallow_step;
+use crate::parts::ShallowStep;
 use crate::shallowcard::next_shallow;
 use card::faults;
 use card::faults::{Trouble, What};
@@ -68,7 +68,7 @@ pub fn read_shallows(
         let card = read.card;
         let row = read.coefficients;
         match step {
-            Shallow_step::Ends => {
+            ShallowStep::Ends => {
                 return Shallows {
                     progress: Progress::Reached(next, line_number + 1),
                     count: count,
@@ -76,8 +76,8 @@ pub fn read_shallows(
                     coefficients: coefficients,
                 };
             }
-            Shallow_step::Gives => put_shallow(&mut cards, &mut coefficients, count, card, row),
-            Shallow_step::Fails(fault) => {
+            ShallowStep::Gives => put_shallow(&mut cards, &mut coefficients, count, card, row),
+            ShallowStep::Fails(fault) => {
                 return Shallows {
                     progress: Progress::Refused(fault, line_number),
                     count: count,
@@ -92,7 +92,7 @@ pub fn read_shallows(
     }
     Shallows {
         progress: Progress::Refused(
-            faults::only(What::File, Trouble::Ended_in_shallows),
+            faults::only(What::File, Trouble::EndedInShallows),
             line_number,
         ),
         count: count,

@@ -4,7 +4,7 @@ use Prim.Native.Nat.{ℕ}
 use mathlib.Core.List.{List, [], ◌∷◌}
 use mathlib.Core.Logic.{∥∥₁_map}
 use mathlib.Core.Path.{◌≡◌, refl, sym, ap, ◌∙◌}
-use lib.Int_n.{ℤ, pos}
+use lib.IntN.{ℤ, pos}
 use base.Logic.{SProp, sep, via, snd∗, fst∗}
 use prog.Memory.{Memory}
 use contract.Monad.{fact}
@@ -13,8 +13,8 @@ use denote.Ref.{Bor}
 use borrow.Fn.World.{World, w₀}
 use Rattle.refusals.specs.Outcome.{refused, outcome_of}
 use Rattle.refusals.specs.declared.Answer.{Answer}
-use Rattle.refusals.specs.declared.Answer.The_variants.{Refused}
-use Rattle.refusals.specs.declared.Refusal.The_variants.{No_table, Ended}
+use Rattle.refusals.specs.declared.Answer.TheVariants.{Refused}
+use Rattle.refusals.specs.declared.Refusal.TheVariants.{NoTable, Ended}
 use Rattle.columns.specs.Lines.{lines_of}
 use Rattle.columns.specs.Names.{names_from}
 use Rattle.card_frequencies.specs.Frequencies.{frequencies_from}
@@ -25,15 +25,15 @@ use Rattle.station.specs.Station.{station_lent}
 use Rattle.station.specs.declared.records.Rows.{Rows}
 use Rattle.station.specs.Records.{records_from, records_of}
 use Rattle.station.specs.inner.Rows.{no_rows}
-use Rattle.hourly.specs.declared.Cards_answer.{Cards_answer}
-use Rattle.hourly.specs.declared.Cards_answer.The_variants as cards
+use Rattle.hourly.specs.declared.CardsAnswer.{CardsAnswer}
+use Rattle.hourly.specs.declared.CardsAnswer.TheVariants as cards
 use Rattle.hourly.specs.Answers.{cards_returned}
 use Rattle.clock.specs.declared.Clock.{Clock}
-use Rattle.clock.specs.declared.Height_answer.{Height_answer}
-use Rattle.clock.specs.declared.Height_answer.The_variants as height
-use Rattle.clock.specs.declared.Turns_answer.{Turns_answer}
-use Rattle.clock.specs.declared.Turns_answer.The_variants as turns
-use Rattle.clock.specs.declared.Table_names.{Table_names}
+use Rattle.clock.specs.declared.HeightAnswer.{HeightAnswer}
+use Rattle.clock.specs.declared.HeightAnswer.TheVariants as height
+use Rattle.clock.specs.declared.TurnsAnswer.{TurnsAnswer}
+use Rattle.clock.specs.declared.TurnsAnswer.TheVariants as turns
+use Rattle.clock.specs.declared.TableNames.{TableNames}
 use Rattle.clock.specs.View.{view}
 use Rattle.calls.specs.State.{State}
 use Rattle.calls.specs.Names.{names_in}
@@ -43,12 +43,12 @@ use Rattle.calls.specs.declared.annual.Sheet.{Sheet}
 use Rattle.calls.specs.Year.{sheet_asked, year_gives}
 use Rattle.calls.specs.Bookings.{bookings_heights, bookings_gives}
 use Rattle.calls.specs.Hourly.{hourly_bytes, hourly_gives}
-use Rattle.clock.specs.Posts.{New_post, Cards_post, Station_post, Date_post, Height_post, Series_post, Turns_post, Year_post, Bookings_post, Hourly_post}
+use Rattle.clock.specs.Posts.{NewPost, CardsPost, StationPost, DatePost, HeightPost, SeriesPost, TurnsPost, YearPost, BookingsPost, HourlyPost}
 use Rattle.cuvalimodo_c.specs.declared.answers.Verdict.{Verdict}
 use Rattle.cuvalimodo_c.specs.declared.answers.Reading.{Reading}
 use Rattle.cuvalimodo_c.specs.declared.answers.Turnings.{Turnings}
-use Rattle.cuvalimodo_c.specs.declared.answers.Cards.{Cards as Held_cards}
-use Rattle.cuvalimodo_c.specs.Answers.{verdict_returned, reading_returned, turnings_returned, cards_told, verdict_of, reading_of, turnings_of, cards_told_of, Plain, Plain_reading, Plain_turnings, Plain_cards}
+use Rattle.cuvalimodo_c.specs.declared.answers.Cards.{Cards as HeldCards}
+use Rattle.cuvalimodo_c.specs.Answers.{verdict_returned, reading_returned, turnings_returned, cards_told, verdict_of, reading_of, turnings_of, cards_told_of, Plain, PlainReading, PlainTurnings, PlainCards}
 use Rattle.claim.specs.Document.{Cards, Station, Date, Height, Series, Turns, Year, Bookings, Hourly, Names, told, predicted, wrote, found, filled, carded, named}
 use Rattle.claim.specs.Calls.{Keeps, New, Call, Calls, done, ◌then◌}
 use Rattle.claim.specs.Controls.{a_station, Controls, a_sheet, each_kind, each_refused}
@@ -80,11 +80,11 @@ no-file-leaves : (k : State) → cards_leaves k [] ≡ k
 unfolding cards_leaves cards_outcome read_cards lines_of frequencies_from
 no-file-leaves k = refl
 
-module _ (c : Clock) (p : New_post c) where
-  no-cards : Cards_post c [] (refused 7 1) c
+module _ (c : Clock) (p : NewPost c) where
+  no-cards : CardsPost c [] (refused 7 1) c
   no-cards = record { made = p.made; returns = sym no-file; leaves = sym (no-file-leaves _) }
 
-  no-station : (s : station.Station) → Station_post c s (refused 21 0) c
+  no-station : (s : station.Station) → StationPost c s (refused 21 0) c
   unfolding station_returns station_leaves
   no-station s =
       record {
@@ -93,7 +93,7 @@ module _ (c : Clock) (p : New_post c) where
         leaves = p.leaves ∙ sym (ap (λ (k : State). station_leaves k s) p.leaves);
       }
 
-  no-month : (year month : ℕ) → Date_post c year month (refused 21 0) c
+  no-month : (year month : ℕ) → DatePost c year month (refused 21 0) c
   unfolding date_gives date_returns date_leaves
   no-month year month =
       record {
@@ -102,152 +102,152 @@ module _ (c : Clock) (p : New_post c) where
         leaves = p.leaves ∙ sym (ap (λ (k : State). date_leaves k year month) p.leaves);
       }
 
-  no-height : (minute : ℕ) → Height_post c minute (refused 21 0)
+  no-height : (minute : ℕ) → HeightPost c minute (refused 21 0)
   unfolding height_returns
   no-height minute = record { returns = sym (ap (λ (k : State). height_returns k minute) p.leaves) }
 
-  no-series : (start step : ℕ) (hs : List ℤ) → Series_post c start step hs hs (refused 21 0)
+  no-series : (start step : ℕ) (hs : List ℤ) → SeriesPost c start step hs hs (refused 21 0)
   unfolding series_heights series_gives
   no-series start step hs = record { gives = sym (ap (λ (k : State). series_gives k start step hs) p.leaves) }
 
-  no-turns : (first last : ℕ) (ms : List ℕ) (hs : List ℤ) → Turns_post c first last ms ms hs hs (refused 21 0)
+  no-turns : (first last : ℕ) (ms : List ℕ) (hs : List ℤ) → TurnsPost c first last ms ms hs hs (refused 21 0)
   unfolding turns_gives
   no-turns first last ms hs = record { gives = sym (ap (λ (k : State). turns_gives k first last ms hs) p.leaves) }
 
-  no-year : (sheet : Sheet) (ss : List ℤ) (ms : List ℕ) (hs : List ℤ) → Year_post c sheet ss ss ms ms hs hs (refused 21 0)
+  no-year : (sheet : Sheet) (ss : List ℤ) (ms : List ℕ) (hs : List ℤ) → YearPost c sheet ss ss ms ms hs hs (refused 21 0)
   unfolding sheet_asked year_gives
   no-year sheet ss ms hs = record { gives = sym (ap (λ (k : State). year_gives k sheet ss ms hs) p.leaves) }
 
-  no-bookings : (minutes : List ℕ) (hs : List ℤ) → Bookings_post c minutes hs hs (refused 21 0)
+  no-bookings : (minutes : List ℕ) (hs : List ℤ) → BookingsPost c minutes hs hs (refused 21 0)
   unfolding bookings_heights bookings_gives
   no-bookings minutes hs = record { gives = sym (ap (λ (k : State). bookings_gives k minutes hs) p.leaves) }
 
-  no-hourly : (number : ℕ) (buffer : List ℕ) → Hourly_post c number buffer buffer (refused 21 0)
+  no-hourly : (number : ℕ) (buffer : List ℕ) → HourlyPost c number buffer buffer (refused 21 0)
   unfolding hourly_bytes hourly_gives
   no-hourly number buffer = record { gives = sym (ap (λ (k : State). hourly_gives k number buffer) p.leaves) }
 
 -- ---- each kind of call is there
 
-new-there : (c : Clock) → New_post c → New c
+new-there : (c : Clock) → NewPost c → New c
 new-there c p = New.news (record { bound = λ w. tt; contract = kept _ _ p })
 
-cards-there : (c c' : Clock) (file : List ℕ) (answer : Answer) → Cards_post c file (outcome_of answer) c' → Call c (Cards file) (told (outcome_of answer)) c'
+cards-there : (c c' : Clock) (file : List ℕ) (answer : Answer) → CardsPost c file (outcome_of answer) c' → Call c (Cards file) (told (outcome_of answer)) c'
 cards-there c c' file answer p =
     Call.loads {κs = ([], tt)} {file = lent file} {r = record { answer = answer; clock = c' }} (record { bound = λ w. tt; contract = kept _ _ p })
 
-station-there : (c c' : Clock) (s : station.Station) (answer : Answer) → Station_post c s (outcome_of answer) c' → Call c (Station s) (told (outcome_of answer)) c'
+station-there : (c c' : Clock) (s : station.Station) (answer : Answer) → StationPost c s (outcome_of answer) c' → Call c (Station s) (told (outcome_of answer)) c'
 station-there c c' s answer p =
     Call.stations {κs = ([], tt)} {records = lent s.records} {r = record { answer = answer; clock = c' }} (record { bound = λ w. tt; contract = kept _ _ p })
 
-placing-there : (c c' : Clock) (latitude : ℤ) (strides : Strides) (n : ℕ) (rows : Rows) (answer : Answer) → Station_post c (station_lent latitude strides (records_of rows n)) (outcome_of answer) c'
+placing-there : (c c' : Clock) (latitude : ℤ) (strides : Strides) (n : ℕ) (rows : Rows) (answer : Answer) → StationPost c (station_lent latitude strides (records_of rows n)) (outcome_of answer) c'
     → Call c (Station (station_lent latitude strides (records_of rows n))) (told (outcome_of answer)) c'
 placing-there c c' latitude strides n rows answer p =
     Call.placed {n = n} {rows = rows} {r = record { answer = answer; clock = c' }} (record { bound = λ w. tt; contract = kept _ _ p })
 
-date-there : (c c' : Clock) (year month : ℕ) (answer : Answer) → Date_post c year month (outcome_of answer) c' → Call c (Date year month) (told (outcome_of answer)) c'
+date-there : (c c' : Clock) (year month : ℕ) (answer : Answer) → DatePost c year month (outcome_of answer) c' → Call c (Date year month) (told (outcome_of answer)) c'
 date-there c c' year month answer p =
     Call.dates {r = record { answer = answer; clock = c' }} (record { bound = λ w. tt; contract = kept _ _ p })
 
-height-there : (c : Clock) (minute : ℕ) (answer : Height_answer) → Height_post c minute (height_returned answer) → Call c (Height minute) (predicted (height_returned answer)) c
+height-there : (c : Clock) (minute : ℕ) (answer : HeightAnswer) → HeightPost c minute (height_returned answer) → Call c (Height minute) (predicted (height_returned answer)) c
 height-there c minute answer p = Call.heights {r = answer} (record { bound = λ w. tt; contract = kept _ _ p })
 
-series-there : (c : Clock) (start step : ℕ) (hs hs' : List ℤ) (answer : Answer) → Series_post c start step hs hs' (outcome_of answer)
+series-there : (c : Clock) (start step : ℕ) (hs hs' : List ℤ) (answer : Answer) → SeriesPost c start step hs hs' (outcome_of answer)
     → Call c (Series start step hs) (wrote (record { returned = outcome_of answer; heights = hs' })) c
 series-there c start step hs hs' answer p =
     Call.serieses {κs = ([], tt)} {before = lent hs} {r = answer} (record { bound = λ w. tt; contract = kept _ _ p })
 
-turns-there : (c : Clock) (first last : ℕ) (ms ms' : List ℕ) (hs hs' : List ℤ) (answer : Turns_answer) → Turns_post c first last ms ms' hs hs' (turns_returned answer)
+turns-there : (c : Clock) (first last : ℕ) (ms ms' : List ℕ) (hs hs' : List ℤ) (answer : TurnsAnswer) → TurnsPost c first last ms ms' hs hs' (turns_returned answer)
     → Call c (Turns first last ms hs) (found (record { returned = turns_returned answer; minutes = ms'; heights = hs' })) c
 turns-there c first last ms ms' hs hs' answer p =
     Call.searches {κs = ([], ([], tt))} {ms = lent ms} {hs = lent hs} {r = answer} (record { bound = λ w. tt; contract = kept _ _ p })
 
-year-there : (c : Clock) (sheet : Sheet) (ss ss' : List ℤ) (ms ms' : List ℕ) (hs hs' : List ℤ) (answer : Turns_answer) → Year_post c sheet ss ss' ms ms' hs hs' (turns_returned answer)
+year-there : (c : Clock) (sheet : Sheet) (ss ss' : List ℤ) (ms ms' : List ℕ) (hs hs' : List ℤ) (answer : TurnsAnswer) → YearPost c sheet ss ss' ms ms' hs hs' (turns_returned answer)
     → Call c (Year sheet ss ms hs) (filled (record { returned = turns_returned answer; series = ss'; minutes = ms'; heights = hs' })) c
 year-there c sheet ss ss' ms ms' hs hs' answer p =
     Call.years {κs = ([], ([], ([], tt)))} {ss = lent ss} {ms = lent ms} {hs = lent hs} {r = answer} (record { bound = λ w. tt; contract = kept _ _ p })
 
-bookings-there : (c : Clock) (minutes : List ℕ) (hs hs' : List ℤ) (answer : Answer) → Bookings_post c minutes hs hs' (outcome_of answer)
+bookings-there : (c : Clock) (minutes : List ℕ) (hs hs' : List ℤ) (answer : Answer) → BookingsPost c minutes hs hs' (outcome_of answer)
     → Call c (Bookings minutes hs) (wrote (record { returned = outcome_of answer; heights = hs' })) c
 bookings-there c minutes hs hs' answer p =
     Call.bookings {κs = ([], ([], tt))} {minutes = lent minutes} {before = lent hs} {r = answer} (record { bound = λ w. tt; contract = kept _ _ p })
 
-hourly-there : (c : Clock) (number : ℕ) (buffer left : List ℕ) (answer : Cards_answer) → Hourly_post c number buffer left (cards_returned answer)
+hourly-there : (c : Clock) (number : ℕ) (buffer left : List ℕ) (answer : CardsAnswer) → HourlyPost c number buffer left (cards_returned answer)
     → Call c (Hourly number buffer) (carded (record { returned = cards_returned answer; buffer = left })) c
 hourly-there c number buffer left answer p =
     Call.hourlies {κs = ([], tt)} {before = lent buffer} {r = answer} (record { bound = λ w. tt; contract = kept _ _ p })
 
-names-there : (c : Clock) (r : Table_names) → names_from r.bytes 0 r.count ≡ names_in (view c) → Call c Names (named (names_from r.bytes 0 r.count)) c
+names-there : (c : Clock) (r : TableNames) → names_from r.bytes 0 r.count ≡ names_in (view c) → Call c Names (named (names_from r.bytes 0 r.count)) c
 names-there c r p = Call.hands {r = r} (record { bound = λ w. tt; contract = kept _ _ p })
 
 -- ---- .. with the clock lent
 
-held-new-there : (c c' : Clock) → New_post c' → New c'
+held-new-there : (c c' : Clock) → NewPost c' → New c'
 held-new-there c c' p = New.held_news {κs = ([], tt)} {clock = lent c} (record { bound = λ w. tt; contract = kept _ _ p })
 
-held-cards-there : (c c' : Clock) (file : List ℕ) (r : Verdict) → Cards_post c file (verdict_returned r) c' → Plain r → Call c (Cards file) (told (verdict_returned r)) c'
+held-cards-there : (c c' : Clock) (file : List ℕ) (r : Verdict) → CardsPost c file (verdict_returned r) c' → Plain r → Call c (Cards file) (told (verdict_returned r)) c'
 held-cards-there c c' file r p plain =
     Call.held_loads {κs = ([], ([], tt))} {clock = lent c} {file = lent file} {r = r} (record { bound = λ w. tt; contract = kept _ _ (p, plain) })
 
-held-station-there : (c c' : Clock) (s : station.Station) (r : Verdict) → Station_post c s (verdict_returned r) c' → Plain r → Call c (Station s) (told (verdict_returned r)) c'
+held-station-there : (c c' : Clock) (s : station.Station) (r : Verdict) → StationPost c s (verdict_returned r) c' → Plain r → Call c (Station s) (told (verdict_returned r)) c'
 held-station-there c c' s r p plain =
     Call.held_stations {κs = ([], ([], tt))} {clock = lent c} {records = lent s.records} {r = r} (record { bound = λ w. tt; contract = kept _ _ (p, plain) })
 
-held-date-there : (c c' : Clock) (year month : ℕ) (r : Verdict) → Date_post c year month (verdict_returned r) c' → Plain r → Call c (Date year month) (told (verdict_returned r)) c'
+held-date-there : (c c' : Clock) (year month : ℕ) (r : Verdict) → DatePost c year month (verdict_returned r) c' → Plain r → Call c (Date year month) (told (verdict_returned r)) c'
 held-date-there c c' year month r p plain =
     Call.held_dates {κs = ([], tt)} {clock = lent c} {r = r} (record { bound = λ w. tt; contract = kept _ _ (p, plain) })
 
-lent-height-there : (c : Clock) (minute : ℕ) (answer : Height_answer) → Height_post c minute (height_returned answer) → Call c (Height minute) (predicted (height_returned answer)) c
+lent-height-there : (c : Clock) (minute : ℕ) (answer : HeightAnswer) → HeightPost c minute (height_returned answer) → Call c (Height minute) (predicted (height_returned answer)) c
 lent-height-there c minute answer p = Call.lent_heights {κs = ([], tt)} {clock = lent c} {r = answer} (record { bound = λ w. tt; contract = kept _ _ p })
 
-held-height-there : (c : Clock) (minute : ℕ) (r : Reading) → Height_post c minute (reading_returned r) → Plain_reading r → Call c (Height minute) (predicted (reading_returned r)) c
+held-height-there : (c : Clock) (minute : ℕ) (r : Reading) → HeightPost c minute (reading_returned r) → PlainReading r → Call c (Height minute) (predicted (reading_returned r)) c
 held-height-there c minute r p plain =
     Call.held_heights {κs = ([], tt)} {clock = lent c} {r = r} (record { bound = λ w. tt; contract = kept _ _ (p, plain) })
 
-held-series-there : (c : Clock) (start step : ℕ) (hs hs' : List ℤ) (r : Verdict) → Series_post c start step hs hs' (verdict_returned r) → Plain r
+held-series-there : (c : Clock) (start step : ℕ) (hs hs' : List ℤ) (r : Verdict) → SeriesPost c start step hs hs' (verdict_returned r) → Plain r
     → Call c (Series start step hs) (wrote (record { returned = verdict_returned r; heights = hs' })) c
 held-series-there c start step hs hs' r p plain =
     Call.held_serieses {κs = ([], ([], tt))} {clock = lent c} {before = lent hs} {r = r} (record { bound = λ w. tt; contract = kept _ _ (p, plain) })
 
-held-turns-there : (c : Clock) (first last : ℕ) (ms ms' : List ℕ) (hs hs' : List ℤ) (r : Turnings) → Turns_post c first last ms ms' hs hs' (turnings_returned r) → Plain_turnings r
+held-turns-there : (c : Clock) (first last : ℕ) (ms ms' : List ℕ) (hs hs' : List ℤ) (r : Turnings) → TurnsPost c first last ms ms' hs hs' (turnings_returned r) → PlainTurnings r
     → Call c (Turns first last ms hs) (found (record { returned = turnings_returned r; minutes = ms'; heights = hs' })) c
 held-turns-there c first last ms ms' hs hs' r p plain =
     Call.held_searches {κs = ([], ([], ([], tt)))} {clock = lent c} {ms = lent ms} {hs = lent hs} {r = r} (record { bound = λ w. tt; contract = kept _ _ (p, plain) })
 
-held-year-there : (c : Clock) (sheet : Sheet) (ss ss' : List ℤ) (ms ms' : List ℕ) (hs hs' : List ℤ) (r : Turnings) → Year_post c sheet ss ss' ms ms' hs hs' (turnings_returned r) → Plain_turnings r
+held-year-there : (c : Clock) (sheet : Sheet) (ss ss' : List ℤ) (ms ms' : List ℕ) (hs hs' : List ℤ) (r : Turnings) → YearPost c sheet ss ss' ms ms' hs hs' (turnings_returned r) → PlainTurnings r
     → Call c (Year sheet ss ms hs) (filled (record { returned = turnings_returned r; series = ss'; minutes = ms'; heights = hs' })) c
 held-year-there c sheet ss ss' ms ms' hs hs' r p plain =
     Call.held_years {κs = ([], ([], ([], ([], tt))))} {clock = lent c} {sheet = sheet} {ss = lent ss} {ms = lent ms} {hs = lent hs} {r = r} (record { bound = λ w. tt; contract = kept _ _ (p, plain) })
 
-lent-bookings-there : (c : Clock) (minutes : List ℕ) (hs hs' : List ℤ) (answer : Answer) → Bookings_post c minutes hs hs' (outcome_of answer)
+lent-bookings-there : (c : Clock) (minutes : List ℕ) (hs hs' : List ℤ) (answer : Answer) → BookingsPost c minutes hs hs' (outcome_of answer)
     → Call c (Bookings minutes hs) (wrote (record { returned = outcome_of answer; heights = hs' })) c
 lent-bookings-there c minutes hs hs' answer p =
     Call.lent_bookings {κs = ([], ([], ([], tt)))} {clock = lent c} {minutes = lent minutes} {before = lent hs} {r = answer} (record { bound = λ w. tt; contract = kept _ _ p })
 
-held-bookings-there : (c : Clock) (minutes : List ℕ) (hs hs' : List ℤ) (r : Verdict) → Bookings_post c minutes hs hs' (verdict_returned r) → Plain r
+held-bookings-there : (c : Clock) (minutes : List ℕ) (hs hs' : List ℤ) (r : Verdict) → BookingsPost c minutes hs hs' (verdict_returned r) → Plain r
     → Call c (Bookings minutes hs) (wrote (record { returned = verdict_returned r; heights = hs' })) c
 held-bookings-there c minutes hs hs' r p plain =
     Call.held_bookings {κs = ([], ([], ([], tt)))} {clock = lent c} {minutes = lent minutes} {before = lent hs} {r = r} (record { bound = λ w. tt; contract = kept _ _ (p, plain) })
 
-held-hourly-there : (c : Clock) (number : ℕ) (buffer left : List ℕ) (r : Held_cards) → Hourly_post c number buffer left (cards_told r) → Plain_cards r
+held-hourly-there : (c : Clock) (number : ℕ) (buffer left : List ℕ) (r : HeldCards) → HourlyPost c number buffer left (cards_told r) → PlainCards r
     → Call c (Hourly number buffer) (carded (record { returned = cards_told r; buffer = left })) c
 held-hourly-there c number buffer left r p plain =
     Call.held_hourlies {κs = ([], ([], tt))} {clock = lent c} {before = lent buffer} {r = r} (record { bound = λ w. tt; contract = kept _ _ (p, plain) })
 
-held-names-there : (c : Clock) (r : Table_names) → names_from r.bytes 0 r.count ≡ names_in (view c) → Call c Names (named (names_from r.bytes 0 r.count)) c
+held-names-there : (c : Clock) (r : TableNames) → names_from r.bytes 0 r.count ≡ names_in (view c) → Call c Names (named (names_from r.bytes 0 r.count)) c
 held-names-there c r p = Call.held_hands {κs = ([], tt)} {clock = lent c} {r = r} (record { bound = λ w. tt; contract = kept _ _ p })
 
-each-kind : (c : Clock) → New_post c → Calls c each_kind each_refused c
+each-kind : (c : Clock) → NewPost c → Calls c each_kind each_refused c
 unfolding records_from names_from
 each-kind c p =
     cards-there c c [] (Refused Ended 1) (no-cards c p)
-    then station-there c c a_station (Refused No_table 0) (no-station c p a_station)
-    then date-there c c 1976 7 (Refused No_table 0) (no-month c p 1976 7)
-    then height-there c 0 (height.Refused No_table 0) (no-height c p 0)
-    then series-there c 0 1 (pos 5 ∷ []) (pos 5 ∷ []) (Refused No_table 0) (no-series c p 0 1 (pos 5 ∷ []))
-    then turns-there c 0 1 (9 ∷ []) (9 ∷ []) (pos 5 ∷ []) (pos 5 ∷ []) (turns.Refused No_table 0) (no-turns c p 0 1 (9 ∷ []) (pos 5 ∷ []))
-    then year-there c a_sheet (pos 3 ∷ []) (pos 3 ∷ []) (9 ∷ []) (9 ∷ []) (pos 5 ∷ []) (pos 5 ∷ []) (turns.Refused No_table 0) (no-year c p a_sheet (pos 3 ∷ []) (9 ∷ []) (pos 5 ∷ []))
-    then bookings-there c (9 ∷ 0 ∷ []) (pos 5 ∷ []) (pos 5 ∷ []) (Refused No_table 0) (no-bookings c p (9 ∷ 0 ∷ []) (pos 5 ∷ []))
-    then hourly-there c 100_000 (7 ∷ []) (7 ∷ []) (cards.Refused No_table 0) (no-hourly c p 100_000 (7 ∷ []))
+    then station-there c c a_station (Refused NoTable 0) (no-station c p a_station)
+    then date-there c c 1976 7 (Refused NoTable 0) (no-month c p 1976 7)
+    then height-there c 0 (height.Refused NoTable 0) (no-height c p 0)
+    then series-there c 0 1 (pos 5 ∷ []) (pos 5 ∷ []) (Refused NoTable 0) (no-series c p 0 1 (pos 5 ∷ []))
+    then turns-there c 0 1 (9 ∷ []) (9 ∷ []) (pos 5 ∷ []) (pos 5 ∷ []) (turns.Refused NoTable 0) (no-turns c p 0 1 (9 ∷ []) (pos 5 ∷ []))
+    then year-there c a_sheet (pos 3 ∷ []) (pos 3 ∷ []) (9 ∷ []) (9 ∷ []) (pos 5 ∷ []) (pos 5 ∷ []) (turns.Refused NoTable 0) (no-year c p a_sheet (pos 3 ∷ []) (9 ∷ []) (pos 5 ∷ []))
+    then bookings-there c (9 ∷ 0 ∷ []) (pos 5 ∷ []) (pos 5 ∷ []) (Refused NoTable 0) (no-bookings c p (9 ∷ 0 ∷ []) (pos 5 ∷ []))
+    then hourly-there c 100_000 (7 ∷ []) (7 ∷ []) (cards.Refused NoTable 0) (no-hourly c p 100_000 (7 ∷ []))
     then held-cards-there c c [] (verdict_of (refused 7 1)) (no-cards c p) refl
     then held-station-there c c a_station (verdict_of (refused 21 0)) (no-station c p a_station) refl
     then held-date-there c c 1976 7 (verdict_of (refused 21 0)) (no-month c p 1976 7) refl
@@ -257,9 +257,9 @@ each-kind c p =
     then held-year-there c a_sheet (pos 3 ∷ []) (pos 3 ∷ []) (9 ∷ []) (9 ∷ []) (pos 5 ∷ []) (pos 5 ∷ []) (turnings_of (refused 21 0)) (no-year c p a_sheet (pos 3 ∷ []) (9 ∷ []) (pos 5 ∷ [])) refl
     then held-bookings-there c (9 ∷ 0 ∷ []) (pos 5 ∷ []) (pos 5 ∷ []) (verdict_of (refused 21 0)) (no-bookings c p (9 ∷ 0 ∷ []) (pos 5 ∷ [])) refl
     then held-hourly-there c 100_000 (7 ∷ []) (7 ∷ []) (cards_told_of (refused 21 0)) (no-hourly c p 100_000 (7 ∷ [])) refl
-    then lent-height-there c 0 (height.Refused No_table 0) (no-height c p 0)
-    then lent-bookings-there c (9 ∷ 0 ∷ []) (pos 5 ∷ []) (pos 5 ∷ []) (Refused No_table 0) (no-bookings c p (9 ∷ 0 ∷ []) (pos 5 ∷ []))
-    then placing-there c c (pos 0) a_station.strides 0 no_rows (Refused No_table 0) (no-station c p a_station)
+    then lent-height-there c 0 (height.Refused NoTable 0) (no-height c p 0)
+    then lent-bookings-there c (9 ∷ 0 ∷ []) (pos 5 ∷ []) (pos 5 ∷ []) (Refused NoTable 0) (no-bookings c p (9 ∷ 0 ∷ []) (pos 5 ∷ []))
+    then placing-there c c (pos 0) a_station.strides 0 no_rows (Refused NoTable 0) (no-station c p a_station)
     then names-there c (record { count = 0; bytes = [] }) (sym (ap names_in p.leaves))
     then held-names-there c (record { count = 0; bytes = [] }) (sym (ap names_in p.leaves))
     then done

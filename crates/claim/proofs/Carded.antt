@@ -1,4 +1,4 @@
--- What the claim says of hourly cards (specs/Claim.antt). Their bytes are read back (`Read_back` in hourly); the height of an hour is the one that a single
+-- What the claim says of hourly cards (specs/Claim.antt). Their bytes are read back (`ReadBack` in hourly); the height of an hour is the one that a single
 -- request gives, and its centimetres are the nearest (`Nearest` in hourly). By the cases of what is asked first. Assumes nothing.
 use Prim.{Unit}
 use Prim.Native.Nat.{ℕ, ◌+◌, ◌*◌, ◌<◌, ◌≤◌}
@@ -8,8 +8,8 @@ use mathlib.Core.List.{List, ◌++◌}
 use mathlib.Core.Path.{◌≡◌, refl, sym, ap, ◌∙◌}
 use borrow.Author.Tests.{le-ltb}
 use lib.Dec.{ltb}
-use lib.Int_n.{ℤ}
-use lib.List_n.{length, take, drop}
+use lib.IntN.{ℤ}
+use lib.ListN.{length, take, drop}
 use lib.Seq.{take_at, drop_at}
 use Rattle.refusals.specs.Outcome.{Outcome, accepted, refused, refuse_if, ◌>>◌, ◌>>=◌}
 use Rattle.refusals.proofs.Laws.{not-both}
@@ -17,21 +17,21 @@ use Rattle.table.specs.Table.{Table}
 use Rattle.station.specs.Station.{Station}
 use Rattle.calendar.specs.Calendar.{month_days}
 use Rattle.heights.specs.Height.{height_at}
-use Rattle.hourly.specs.Card.{Hourly_card}
+use Rattle.hourly.specs.Card.{HourlyCard}
 use Rattle.hourly.specs.Format.{narrow}
 use Rattle.hourly.specs.Writing.{cards_written}
 use Rattle.hourly.specs.Reading.{cards_read}
-use Rattle.hourly.specs.Month.{centimetres, most_station_number, heights_asked, bytes_of, Cards_given, into_buffer}
-use Rattle.hourly.proofs.Read_back.{reads-back}
+use Rattle.hourly.specs.Month.{centimetres, most_station_number, heights_asked, bytes_of, CardsGiven, into_buffer}
+use Rattle.hourly.proofs.ReadBack.{reads-back}
 use Rattle.hourly.proofs.Nearest.{near-centimetre}
 use Rattle.calls.specs.State.{Maybe, none, some, Dated, State}
 use Rattle.calls.specs.Calls.{height_returns}
 use Rattle.calls.specs.Hourly.{month_cards, hourly_bytes, hourly_gives}
 use Rattle.claim.specs.Document.{Height, predicted, carded, Last, nothing, worked_out, gives, last_after}
-use Rattle.claim.specs.Claim.{On_cards, Of_hourly}
+use Rattle.claim.specs.Claim.{OnCards, OfHourly}
 use Rattle.claim.proofs.Dates.{last-in-range, last-whole}
 use Rattle.claim.proofs.Hours.{hour-stands}
-use Rattle.claim.proofs.At_each_height.{last-exactly, single-near}
+use Rattle.claim.proofs.AtEachHeight.{last-exactly, single-near}
 
 -- ---- what was asked first has passed
 
@@ -64,7 +64,7 @@ module _ (number places : ℕ) (bytes : List ℕ) where
 -- ---- what was written
 
 -- where cards are accepted, the bytes are theirs, and stand in front of the others
-bytes-are : (cards : List Hourly_card) (places : ℕ) (bytes : List ℕ) → bytes_of cards places ≡ accepted bytes → cards_written narrow cards ≡ bytes
+bytes-are : (cards : List HourlyCard) (places : ℕ) (bytes : List ℕ) → bytes_of cards places ≡ accepted bytes → cards_written narrow cards ≡ bytes
 bytes-are cards places bytes e = by (heights_asked 1 cards) (ltb places (length (cards_written narrow cards))) e
   where
     by : (asked : Outcome Unit) (short : Bool) → (asked >> refuse_if short 34 0 (accepted (cards_written narrow cards))) ≡ accepted bytes → cards_written narrow cards ≡ bytes
@@ -75,18 +75,18 @@ bytes-are cards places bytes e = by (heights_asked 1 cards) (ltb places (length 
 in-front : (o : Outcome (List ℕ)) (buffer left : List ℕ) (n : ℕ) → record { returned = accepted n; buffer = left } ≡ into_buffer o buffer
     → (bytes : List ℕ) × (o ≡ accepted bytes) × (length bytes ≡ n) × (left ≡ bytes ++ drop (length bytes) buffer)
 in-front (accepted bytes) buffer left n e =
-    let r : accepted n ≡ accepted (length bytes) = ap (λ (g : Cards_given). g.returned) e in
+    let r : accepted n ≡ accepted (length bytes) = ap (λ (g : CardsGiven). g.returned) e in
     let count : length bytes ≡ n = cc in
-    (bytes, refl, count, ap (λ (g : Cards_given). g.buffer) e)
-in-front (refused number place) buffer left n e = not-both (ap (λ (g : Cards_given). g.returned) (sym e))
+    (bytes, refl, count, ap (λ (g : CardsGiven). g.buffer) e)
+in-front (refused number place) buffer left n e = not-both (ap (λ (g : CardsGiven). g.returned) (sym e))
 
-as-carded : {c d : Cards_given} → carded c ≡ carded d → c ≡ d
+as-carded : {c d : CardsGiven} → carded c ≡ carded d → c ≡ d
 as-carded e = cc
 
 -- ---- an hour, and the cards
 
 on-cards : (l : Last) (number places : ℕ) (bytes : List ℕ) (p : Passed (worked_out l) number places bytes) (hour : ℕ) → hour < 24 * month_days p.month.year p.month.month
-    → On_cards l (month_cards p.month number) hour
+    → OnCards l (month_cards p.month number) hour
 unfolding gives
 on-cards l number places bytes p hour h =
     let month : Dated = p.month in
@@ -101,7 +101,7 @@ on-cards l number places bytes p hour h =
       nearest = near-centimetre (height month minute);
     }
 
-pub of-hourly : Of_hourly
+pub of-hourly : OfHourly
 unfolding gives hourly_gives
 of-hourly qs gs number n buffer left claim =
     let l : Last = last_after nothing qs in

@@ -9,7 +9,7 @@ use mathlib.Core.Path.{◌≡◌, refl, ap, ap₂, sym, subst, ◌∙◌}
 use mathlib.Core.Logic.{∥∥₁_map, ∥∥₁_elim, ∥∥₁_prop}
 use base.Logic.{emp, id⊢}
 use contract.Monad.{top, fact}
-use lib.Int_n.{ℤ}
+use lib.IntN.{ℤ}
 use Rattle.refusals.specs.Outcome.{Outcome, accepted, refused, on_accepted, answered}
 use Rattle.table.specs.Table.{Table}
 use Rattle.card_file.specs.Cards.{cards_outcome}
@@ -22,13 +22,13 @@ use Rattle.calls.specs.declared.annual.Sheet.{Sheet}
 use Rattle.calls.specs.Year.{year_gives}
 use Rattle.calls.specs.Bookings.{bookings_gives}
 use Rattle.calls.specs.Hourly.{hourly_gives}
-use Rattle.turns.specs.Written.{Turns_found}
+use Rattle.turns.specs.Written.{TurnsFound}
 use Rattle.clock.specs.View.{view, Made}
-use Rattle.clock.specs.Posts.{New_post, Cards_post, Station_post, Date_post, Height_post, Series_post, Turns_post, Year_post, Bookings_post, Hourly_post}
+use Rattle.clock.specs.Posts.{NewPost, CardsPost, StationPost, DatePost, HeightPost, SeriesPost, TurnsPost, YearPost, BookingsPost, HourlyPost}
 use Rattle.claim.specs.Zeroed.{zeroed}
 use Rattle.claim.specs.Calls.{Keeps, New, Call, Calls, done, ◌then◌}
-use Rattle.claim.specs.Document.{Request, Cards, Station, Date, Height, Series, Turns, Year, Bookings, Hourly, Names, Gave, told, predicted, wrote, found, filled, carded, named, Last, nothing, table_of_cards, worked_out, after, gives, gives_all, last_after, Each_near}
-use Rattle.claim.specs.Claim.{Of_any_calls}
+use Rattle.claim.specs.Document.{Request, Cards, Station, Date, Height, Series, Turns, Year, Bookings, Hourly, Names, Gave, told, predicted, wrote, found, filled, carded, named, Last, nothing, table_of_cards, worked_out, after, gives, gives_all, last_after, EachNear}
+use Rattle.claim.specs.Claim.{OfAnyCalls}
 use Rattle.claim.proofs.Points.{near-calls}
 use Rattle.claim.proofs.Decided.{same_once}
 
@@ -79,11 +79,11 @@ always : {ψ : Type 0} → Keeps (λ w. emp w.𝓤) (λ w. fact w.𝓤 ψ) → �
 always {ψ} k = k.keeps (Unit {0}) ψ (λ w. top w.𝓤 _) (λ w. id⊢ w.𝓤 _) tt
 
 -- memory of nothing but zeros holds a clock with no table, station or month
-zeroed-new : New_post zeroed
+zeroed-new : NewPost zeroed
 unfolding view
 zeroed-new = record { made = λ e. absurd (false≢true e); leaves = refl }
 
-new-follows : {c : Clock} → New_post c → Agrees c nothing
+new-follows : {c : Clock} → NewPost c → Agrees c nothing
 unfolding worked_out
 new-follows p = record { made = p.made; keeps = p.leaves }
 
@@ -96,52 +96,52 @@ new-agrees New.zeros = ∣ new-follows zeroed-new ∣₁
 abbrev pub Follows : Last → Request → Gave → Clock → Type 0
 Follows l q g c' = (g ≡ gives l q) × Agrees c' (after l q)
 
-cards-follow : {c c' : Clock} {file : List ℕ} {returned : Outcome Unit} (l : Last) → Agrees c l → Cards_post c file returned c' → Follows l (Cards file) (told returned) c'
+cards-follow : {c c' : Clock} {file : List ℕ} {returned : Outcome Unit} (l : Last) → Agrees c l → CardsPost c file returned c' → Follows l (Cards file) (told returned) c'
 unfolding gives
 cards-follow {file = file} l h p = (
   ap told p.returns,
   record { made = p.made; keeps = p.leaves ∙ ap (λ (k : State). cards_leaves k file) h.keeps ∙ cards-works l file },
 )
 
-station-follows : {c c' : Clock} {s : station.Station} {returned : Outcome Unit} (l : Last) → Agrees c l → Station_post c s returned c' → Follows l (Station s) (told returned) c'
+station-follows : {c c' : Clock} {s : station.Station} {returned : Outcome Unit} (l : Last) → Agrees c l → StationPost c s returned c' → Follows l (Station s) (told returned) c'
 unfolding gives
 station-follows {s = s} l h p = (
   ap told (p.returns ∙ ap (λ (k : State). station_returns k s) h.keeps),
   record { made = p.made; keeps = p.leaves ∙ ap (λ (k : State). station_leaves k s) h.keeps ∙ station-works l s },
 )
 
-date-follows : {c c' : Clock} {year month : ℕ} {returned : Outcome Unit} (l : Last) → Agrees c l → Date_post c year month returned c' → Follows l (Date year month) (told returned) c'
+date-follows : {c c' : Clock} {year month : ℕ} {returned : Outcome Unit} (l : Last) → Agrees c l → DatePost c year month returned c' → Follows l (Date year month) (told returned) c'
 unfolding gives
 date-follows {year = year} {month = month} l h p = (
   ap told (p.returns ∙ ap (λ (k : State). date_returns k year month) h.keeps),
   record { made = p.made; keeps = p.leaves ∙ ap (λ (k : State). date_leaves k year month) h.keeps ∙ date-works l year month },
 )
 
-height-follows : {c : Clock} {minute : ℕ} {returned : Outcome ℤ} (l : Last) → Agrees c l → Height_post c minute returned → Follows l (Height minute) (predicted returned) c
+height-follows : {c : Clock} {minute : ℕ} {returned : Outcome ℤ} (l : Last) → Agrees c l → HeightPost c minute returned → Follows l (Height minute) (predicted returned) c
 unfolding gives after
 height-follows {minute = minute} l h p = (ap predicted (p.returns ∙ ap (λ (k : State). height_returns k minute) h.keeps), h)
 
-series-follows : {c : Clock} {start step : ℕ} {hs hs' : List ℤ} {returned : Outcome Unit} (l : Last) → Agrees c l → Series_post c start step hs hs' returned
+series-follows : {c : Clock} {start step : ℕ} {hs hs' : List ℤ} {returned : Outcome Unit} (l : Last) → Agrees c l → SeriesPost c start step hs hs' returned
     → Follows l (Series start step hs) (wrote (record { returned = returned; heights = hs' })) c
 unfolding gives after
 series-follows {start = start} {step = step} {hs = hs} l h p = (ap wrote (p.gives ∙ ap (λ (k : State). series_gives k start step hs) h.keeps), h)
 
-turns-follow : {c : Clock} {first last : ℕ} {ms ms' : List ℕ} {hs hs' : List ℤ} {returned : Outcome Turns_found} (l : Last) → Agrees c l → Turns_post c first last ms ms' hs hs' returned
+turns-follow : {c : Clock} {first last : ℕ} {ms ms' : List ℕ} {hs hs' : List ℤ} {returned : Outcome TurnsFound} (l : Last) → Agrees c l → TurnsPost c first last ms ms' hs hs' returned
     → Follows l (Turns first last ms hs) (found (record { returned = returned; minutes = ms'; heights = hs' })) c
 unfolding gives after
 turns-follow {first = first} {last = last} {ms = ms} {hs = hs} l h p = (ap found (p.gives ∙ ap (λ (k : State). turns_gives k first last ms hs) h.keeps), h)
 
-year-follows : {c : Clock} {sheet : Sheet} {ss ss' : List ℤ} {ms ms' : List ℕ} {hs hs' : List ℤ} {returned : Outcome Turns_found} (l : Last) → Agrees c l → Year_post c sheet ss ss' ms ms' hs hs' returned
+year-follows : {c : Clock} {sheet : Sheet} {ss ss' : List ℤ} {ms ms' : List ℕ} {hs hs' : List ℤ} {returned : Outcome TurnsFound} (l : Last) → Agrees c l → YearPost c sheet ss ss' ms ms' hs hs' returned
     → Follows l (Year sheet ss ms hs) (filled (record { returned = returned; series = ss'; minutes = ms'; heights = hs' })) c
 unfolding gives after
 year-follows {sheet = sheet} {ss = ss} {ms = ms} {hs = hs} l h p = (ap filled (p.gives ∙ ap (λ (k : State). year_gives k sheet ss ms hs) h.keeps), h)
 
-bookings-follow : {c : Clock} {minutes : List ℕ} {hs hs' : List ℤ} {returned : Outcome Unit} (l : Last) → Agrees c l → Bookings_post c minutes hs hs' returned
+bookings-follow : {c : Clock} {minutes : List ℕ} {hs hs' : List ℤ} {returned : Outcome Unit} (l : Last) → Agrees c l → BookingsPost c minutes hs hs' returned
     → Follows l (Bookings minutes hs) (wrote (record { returned = returned; heights = hs' })) c
 unfolding gives after
 bookings-follow {minutes = minutes} {hs = hs} l h p = (ap wrote (p.gives ∙ ap (λ (k : State). bookings_gives k minutes hs) h.keeps), h)
 
-hourly-follows : {c : Clock} {number : ℕ} {buffer left : List ℕ} {returned : Outcome ℕ} (l : Last) → Agrees c l → Hourly_post c number buffer left returned
+hourly-follows : {c : Clock} {number : ℕ} {buffer left : List ℕ} {returned : Outcome ℕ} (l : Last) → Agrees c l → HourlyPost c number buffer left returned
     → Follows l (Hourly number buffer) (carded (record { returned = returned; buffer = left })) c
 unfolding gives after
 hourly-follows {number = number} {buffer = buffer} l h p = (ap carded (p.gives ∙ ap (λ (k : State). hourly_gives k number buffer) h.keeps), h)
@@ -182,8 +182,8 @@ calls-agree l h done = ∣ (refl, h) ∣₁
 calls-agree l h (◌then◌ {q = q} x xs) =
     ∥∥₁_elim (call-agrees l h x) ∥∥₁_prop (λ one. ∥∥₁_map (calls-agree (after l q) one.1 xs) (λ all. (ap₂ ◌∷◌ one.0 all.0, all.1)))
 
-pub claim : Of_any_calls
+pub claim : OfAnyCalls
 claim c c' qs gs new x =
     let all : ∥ (gs ≡ gives_all nothing qs) ∥₁ = ∥∥₁_elim (new-agrees new) ∥∥₁_prop (λ h. ∥∥₁_map (calls-agree nothing h x) (λ e. e.0)) in
     let same : gs ≡ gives_all nothing qs = ∥∥₁_elim all (same_once gs (gives_all nothing qs)) (λ e. e) in
-    record { exactly = same; near = subst (λ (g : List Gave). Each_near nothing qs g) (sym same) (near-calls nothing qs) }
+    record { exactly = same; near = subst (λ (g : List Gave). EachNear nothing qs g) (sym same) (near-calls nothing qs) }

@@ -7,9 +7,9 @@ use mathlib.Core.List.{List, [], ◌∷◌, List-discrete}
 use mathlib.Core.Path.{◌≡◌, refl, ap, sym, ◌∙◌}
 use mathlib.Core.HLevel.{Discrete, hedberg, ×_discrete}
 use native.Mathlib.Decide.{ℕ_discrete}
-use lib.Int_n.{ℤ, ℤ_discrete}
+use lib.IntN.{ℤ, ℤ_discrete}
 use Rattle.refusals.specs.Outcome.{Outcome, accepted, refused}
-use Rattle.turns.specs.Written.{Turns_found}
+use Rattle.turns.specs.Written.{TurnsFound}
 use Rattle.claim.specs.Document.{Gave, told, predicted, wrote, found, filled, carded, named}
 
 -- what has a code that can be read back can be told apart where the codes can
@@ -40,14 +40,14 @@ outcome-discrete d = coded outcome-code outcome-read outcome-back (×_discrete (
 unit-discrete : Discrete (Unit {0})
 unit-discrete a b = yes refl
 
-turns-discrete : Discrete Turns_found
+turns-discrete : Discrete TurnsFound
 turns-discrete =
-    coded (λ (t : Turns_found). (t.count, t.high)) (λ (c : ℕ × Bool). record { count = c.0; high = c.1 }) (λ t. refl) (×_discrete ℕ_discrete Bool-discrete)
+    coded (λ (t : TurnsFound). (t.count, t.high)) (λ (c : ℕ × Bool). record { count = c.0; high = c.1 }) (λ t. refl) (×_discrete ℕ_discrete Bool-discrete)
 
 -- ---- what a call gives: which kind it is, what it returns, its buffers, and the names
 
 abbrev Code : Type 0
-Code = ℕ × (Outcome Unit × (Outcome ℤ × (Outcome Turns_found × (Outcome ℕ × (List ℕ × (List ℤ × (List ℤ × List (List ℕ))))))))
+Code = ℕ × (Outcome Unit × (Outcome ℤ × (Outcome TurnsFound × (Outcome ℕ × (List ℕ × (List ℤ × (List ℤ × List (List ℕ))))))))
 
 abbrev none : {A : Type 0} → Outcome A
 none = refused 0 0
@@ -85,8 +85,8 @@ gave-discrete =
     (×_discrete ℕ_discrete (×_discrete (outcome-discrete unit-discrete) (×_discrete (outcome-discrete ℤ_discrete) (×_discrete (outcome-discrete turns-discrete) (×_discrete (outcome-discrete ℕ_discrete) (×_discrete (List-discrete ℕ_discrete) (×_discrete (List-discrete ℤ_discrete) (×_discrete (List-discrete ℤ_discrete) (List-discrete (List-discrete ℕ_discrete))))))))))
 
 -- to have given the same is a proposition, of one call and of a list
-pub gave-once : (g h : Gave) → Is_prop (g ≡ h)
+pub gave-once : (g h : Gave) → IsProp (g ≡ h)
 gave-once = hedberg gave-discrete
 
-pub same_once : (gs hs : List Gave) → Is_prop (gs ≡ hs)
+pub same_once : (gs hs : List Gave) → IsProp (gs ≡ hs)
 same_once = hedberg (List-discrete gave-discrete)

@@ -4,8 +4,8 @@ use Prim.Native.Nat.{ℕ}
 use mathlib.Core.Bool.{Bool, true, false, not}
 use mathlib.Core.List.{List, [], map}
 use mathlib.Core.Path.{◌≡◌}
-use lib.List_n.{length, length-map}
-use lib.Int_n.{ℤ}
+use lib.ListN.{length, length-map}
+use lib.IntN.{ℤ}
 use Rattle.refusals.specs.Outcome.{Outcome, accepted, refused, refuse_if, on_accepted, ◌>>=◌}
 use Rattle.calendar.specs.Calendar.{year_in_range}
 use Rattle.table.specs.Table.{Table}
@@ -17,13 +17,13 @@ use Rattle.heights.specs.Series.{series_of}
 use Rattle.turns.specs.Slope.{slope_at, slope_over}
 use Rattle.turns.specs.Search.{Turn, turns_of, first_high, minutes_of}
 use Rattle.turns.specs.Strides.{station_stride}
-use Rattle.turns.specs.Written.{Turns_given, unless_refused, too_many, from_front, given}
+use Rattle.turns.specs.Written.{TurnsGiven, unless_refused, too_many, from_front, given}
 use Rattle.calls.specs.State as state
 use Rattle.calls.specs.State.{Maybe, Dated}
 use Rattle.calls.specs.Calls.{ready, turns_gives}
 use Rattle.calls.specs.Asked.{turns_outside}
 use Rattle.calls.specs.declared.annual.Sheet.{Sheet}
-use Rattle.calls.specs.Year.{sheet_outside, sheet_asked, Year_given, unless_turned_down, beside, sheet_over, year_gives}
+use Rattle.calls.specs.Year.{sheet_outside, sheet_asked, YearGiven, unless_turned_down, beside, sheet_over, year_gives}
 use Rattle.calls.proofs.Posed.{Asked, turns-of}
 use Rattle.claim.specs.Document.{months_on}
 
@@ -42,10 +42,10 @@ ready_by P outside turned there (state.some t) (state.some s) (state.some m) = n
     nine false = there t s m
 
 -- .. or the year's months
-abbrev Asked_of_year : Type 0
-Asked_of_year = Outcome (Table × station.Station × List Month)
+abbrev AskedOfYear : Type 0
+AskedOfYear = Outcome (Table × station.Station × List Month)
 
-sheet-by : (P : List Month → Asked_of_year → Type 0) (sheet : Sheet) (places : ℕ) → ((months : List Month) (number place : ℕ) → P months (refused number place))
+sheet-by : (P : List Month → AskedOfYear → Type 0) (sheet : Sheet) (places : ℕ) → ((months : List Month) (number place : ℕ) → P months (refused number place))
     → ((t : Table) (s : station.Station) (months : List Month) → P months (accepted (t, s, months)))
     → (t : Maybe Table) (s : Maybe station.Station) (m : Maybe Dated) → P (months_on t s sheet.year) (sheet_asked (record { table = t; station = s; month = m }) sheet places)
 unfolding sheet_asked
@@ -68,10 +68,10 @@ sheet-by P sheet places turned there (state.some t) (state.some s) m = eight (no
 
 -- ---- turns: a refusal, with both buffers as they were, or what was found, in front of both
 
-abbrev pub none_found : ℕ → List ℕ → List ℤ → Turns_given
+abbrev pub none_found : ℕ → List ℕ → List ℤ → TurnsGiven
 none_found number ms hs = record { returned = refused number 0; minutes = ms; heights = hs }
 
-abbrev pub all_found : (ℕ → ℤ) → List Turn → List ℕ → List ℤ → Turns_given
+abbrev pub all_found : (ℕ → ℤ) → List Turn → List ℕ → List ℤ → TurnsGiven
 all_found height ts ms hs =
     record {
       returned = accepted (record { count = length ts; high = first_high ts });
@@ -79,7 +79,7 @@ all_found height ts ms hs =
       heights = from_front (map height (minutes_of ts)) hs;
     }
 
-given_by : (P : Turns_given → Type 0) (height : ℕ → ℤ) (ts : List Turn) (ms : List ℕ) (hs : List ℤ) → P (none_found 10 ms hs) → P (all_found height ts ms hs) → P (given height ts ms hs)
+given_by : (P : TurnsGiven → Type 0) (height : ℕ → ℤ) (ts : List Turn) (ms : List ℕ) (hs : List ℤ) → P (none_found 10 ms hs) → P (all_found height ts ms hs) → P (given height ts ms hs)
 unfolding given
 given_by P height ts ms hs none all = room (too_many ts (length ms) (length hs))
   where
@@ -87,7 +87,7 @@ given_by P height ts ms hs none all = room (too_many ts (length ms) (length hs))
     room true = none
     room false = all
 
-pub turns-give : (P : Maybe Dated → Turns_given → Type 0) (first last : ℕ) (ms : List ℕ) (hs : List ℤ) → ((m : Maybe Dated) (number : ℕ) → P m (none_found number ms hs))
+pub turns-give : (P : Maybe Dated → TurnsGiven → Type 0) (first last : ℕ) (ms : List ℕ) (hs : List ℤ) → ((m : Maybe Dated) (number : ℕ) → P m (none_found number ms hs))
     → ((m : Dated) (ts : List Turn) → P (state.some m) (all_found (height_at m.prepared.constituents) ts ms hs))
     → (t : Maybe Table) (s : Maybe station.Station) (m : Maybe Dated) → P m (turns_gives (record { table = t; station = s; month = m }) first last ms hs)
 unfolding turns_gives
@@ -101,7 +101,7 @@ as_many ts = length-map ts (λ (u : Turn). u.minute)
 
 -- ---- a year's sheet: a refusal, with the three buffers as they were, or the series and the turns
 
-pub year-gives : (P : List Month → Year_given → Type 0) (sheet : Sheet) (ss : List ℤ) (ms : List ℕ) (hs : List ℤ)
+pub year-gives : (P : List Month → YearGiven → Type 0) (sheet : Sheet) (ss : List ℤ) (ms : List ℕ) (hs : List ℤ)
     → ((months : List Month) (number place : ℕ) → P months (record { returned = refused number place; series = ss; minutes = ms; heights = hs }))
     → ((months : List Month) (ts : List Turn) → P months (beside (all_found (height_over months) ts ms hs) (series_of (height_over months) sheet.start sheet.step (length ss)) ss))
     → (t : Maybe Table) (s : Maybe station.Station) (m : Maybe Dated) → P (months_on t s sheet.year) (year_gives (record { table = t; station = s; month = m }) sheet ss ms hs)

@@ -4,8 +4,8 @@ use Prim.Native.Nat.{ℕ, zero, suc, ◌+◌, ◌-◌, ◌*◌, ◌<◌, ◌≤�
 use native.Mathlib.Omega.{arith}
 use mathlib.Core.List.{List, ◌++◌, map}
 use mathlib.Core.Path.{◌≡◌, refl, ap, ◌∙◌}
-use lib.Int_n.{ℤ}
-use lib.List_n.{length, get_or, get_or-append}
+use lib.IntN.{ℤ}
+use lib.ListN.{length, get_or, get_or-append}
 use lib.Seq.{get_or-append-add}
 use Rattle.calendar.specs.Calendar.{month_days}
 use Rattle.heights.specs.Series.{series_from, series_of}

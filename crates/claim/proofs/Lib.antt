@@ -3,7 +3,7 @@ pub mod Points
 pub mod Decided
 pub mod Dates
 pub mod Backed
-pub mod At_each_height
+pub mod AtEachHeight
 pub mod Hours
 pub mod Carded
 pub mod Usual

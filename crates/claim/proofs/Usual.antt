@@ -4,9 +4,9 @@ use mathlib.Core.Path.{◌≡◌, ap}
 use Rattle.calls.specs.State.{some}
 use Rattle.calls.proofs.Usual.{usual-turns, usual-year}
 use Rattle.claim.specs.Document.{found, filled, worked_out, gives}
-use Rattle.claim.specs.Claim.{Of_usual_strides}
+use Rattle.claim.specs.Claim.{OfUsualStrides}
 
-pub usual-gives : Of_usual_strides
+pub usual-gives : OfUsualStrides
 unfolding gives worked_out
 usual-gives l s e usual =
     record {

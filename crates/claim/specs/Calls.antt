@@ -10,8 +10,8 @@ use types.Logic.{Logic}
 use contract.Monad.{Fun, fact}
 use contract.Lifetimes.{Lfts}
 use Rattle.std.specs.Borrow.{Bor}
-use denote.Triple.Clauses.{Ended, Clauses, Clauses_at, Lasts, at_exit}
-use borrow.Fn.World.{World, Args_d, Res_d}
+use denote.Triple.Clauses.{Ended, Clauses, ClausesAt, Lasts, at_exit}
+use borrow.Fn.World.{World, ArgsD, ResD}
 use Rattle.refusals.specs.Outcome.{outcome_of}
 use Rattle.refusals.specs.declared.Answer.{Answer}
 use Rattle.columns.specs.Names.{names_from}
@@ -20,19 +20,19 @@ use Rattle.station.specs.declared.strides.Strides.{Strides}
 use Rattle.station.specs.Station.{station_lent}
 use Rattle.station.specs.declared.records.Rows.{Rows}
 use Rattle.station.specs.Records.{records_of}
-use Rattle.hourly.specs.declared.Cards_answer.{Cards_answer}
+use Rattle.hourly.specs.declared.CardsAnswer.{CardsAnswer}
 use Rattle.hourly.specs.Answers.{cards_returned}
 use Rattle.calls.specs.declared.annual.Sheet.{Sheet}
 use Rattle.clock.specs.declared.Clock.{Clock}
 use Rattle.clock.specs.declared.After.{After}
-use Rattle.clock.specs.declared.Height_answer.{Height_answer}
-use Rattle.clock.specs.declared.Turns_answer.{Turns_answer}
-use Rattle.clock.specs.declared.Table_names.{Table_names}
+use Rattle.clock.specs.declared.HeightAnswer.{HeightAnswer}
+use Rattle.clock.specs.declared.TurnsAnswer.{TurnsAnswer}
+use Rattle.clock.specs.declared.TableNames.{TableNames}
 use Rattle.clock.specs.Returned.{height_returned, turns_returned}
 use Rattle.cuvalimodo_c.specs.declared.answers.Verdict.{Verdict}
 use Rattle.cuvalimodo_c.specs.declared.answers.Reading.{Reading}
 use Rattle.cuvalimodo_c.specs.declared.answers.Turnings.{Turnings}
-use Rattle.cuvalimodo_c.specs.declared.answers.Cards.{Cards as Held_cards}
+use Rattle.cuvalimodo_c.specs.declared.answers.Cards.{Cards as HeldCards}
 use Rattle.cuvalimodo_c.specs.Answers.{verdict_returned, reading_returned, turnings_returned, cards_told}
 use Rattle.claim.specs.Document.{Request, Cards, Station, Date, Height, Series, Turns, Year, Bookings, Hourly, Names, Gave, told, predicted, wrote, found, filled, carded, named}
 use Rattle.claim.specs.Zeroed.{zeroed}
@@ -69,17 +69,17 @@ pub record Keeps (P Q : (w : World) → SProp w.𝓤) : Type 2 where
   pub keeps : (φ ψ : Type 0) → ((w : World) → ent w.𝓤 (fact w.𝓤 φ) (P w)) → ((w : World) → ent w.𝓤 (Q w) (fact w.𝓤 ψ)) → φ → ∥ ψ ∥₁
 
 -- the clauses of a function with the signature T, as its module has them
-abbrev pub Clauses_of : Ended → Type 2
-Clauses_of T = (M : Type 1) (𝓤 : Ura M) (𝓛 : Logic 𝓤) → (Memory → SProp 𝓤) → (Routine → Fun 𝓤) → Clauses 𝓤 T
+abbrev pub ClausesOf : Ended → Type 2
+ClausesOf T = (M : Type 1) (𝓤 : Ura M) (𝓛 : Logic 𝓤) → (Memory → SProp 𝓤) → (Routine → Fun 𝓤) → Clauses 𝓤 T
 
 -- .. at the lifetimes of what is lent, at the arguments, and at a model of the logic
-abbrev pub clauses_at : (T : Ended) → Clauses_of T → (κs : Lfts T.signature.lifetimes) → Args_d T.signature κs → (w : World) → Clauses_at w.𝓤 T κs
+abbrev pub clauses_at : (T : Ended) → ClausesOf T → (κs : Lfts T.signature.lifetimes) → ArgsD T.signature κs → (w : World) → ClausesAt w.𝓤 T κs
 clauses_at T C κs given w = C w.M w.𝓤 w.𝓛 w.𝓜.mem w.𝓡.run κs given
 
 -- The function with the signature T and the clauses C, called once: it was given these arguments, returned this result, and left these last
 -- elements in what was lent to be written to (`tt` stands for what is not). All that is known of it is that it keeps its contract. (`bound`
 -- is what a contract may bind beside; none of the clock's binds anything.)
-pub record Once (T : Ended) (C : Clauses_of T) (κs : Lfts T.signature.lifetimes) (given : Args_d T.signature κs) (result : Res_d T.signature κs) (last : Lasts T κs given) : Type 2 where
+pub record Once (T : Ended) (C : ClausesOf T) (κs : Lfts T.signature.lifetimes) (given : ArgsD T.signature κs) (result : ResD T.signature κs) (last : Lasts T κs given) : Type 2 where
   pub bound : (w : World) → (clauses_at T C κs given w).ghost
   pub contract : Keeps (λ w. (clauses_at T C κs given w).requires (bound w)) (λ w. (clauses_at T C κs given w).ensures (bound w) result (at_exit T κs given last))
 
@@ -106,25 +106,25 @@ pub data Call : Clock → Request → Gave → Clock → Type 2 where
   dates : {c : Clock} {year month : ℕ} {r : After}
       → Once date.ended (λ M. date.clauses) tt (c, (year, (month, tt))) r (tt, (tt, (tt, tt)))
       → Call c (Date year month) (told (outcome_of r.answer)) r.clock
-  heights : {c : Clock} {minute : ℕ} {r : Height_answer}
+  heights : {c : Clock} {minute : ℕ} {r : HeightAnswer}
       → Once height.ended (λ M. height.clauses) tt (c, (minute, tt)) r (tt, (tt, tt))
       → Call c (Height minute) (predicted (height_returned r)) c
   serieses : {κs : Lfts 1} {c : Clock} {start step : ℕ} {before : Bor (List ℤ)} {after : List ℤ} {r : Answer}
       → Once series.ended (λ M. series.clauses) κs (c, (start, (step, (before, tt)))) r (tt, (tt, (tt, (after, tt))))
       → Call c (Series start step before.now) (wrote (record { returned = outcome_of r; heights = after })) c
-  searches : {κs : Lfts 2} {c : Clock} {first last : ℕ} {ms : Bor (List ℕ)} {hs : Bor (List ℤ)} {ms' : List ℕ} {hs' : List ℤ} {r : Turns_answer}
+  searches : {κs : Lfts 2} {c : Clock} {first last : ℕ} {ms : Bor (List ℕ)} {hs : Bor (List ℤ)} {ms' : List ℕ} {hs' : List ℤ} {r : TurnsAnswer}
       → Once turns.ended (λ M. turns.clauses) κs (c, (first, (last, (ms, (hs, tt))))) r (tt, (tt, (tt, (ms', (hs', tt)))))
       → Call c (Turns first last ms.now hs.now) (found (record { returned = turns_returned r; minutes = ms'; heights = hs' })) c
-  years : {κs : Lfts 3} {c : Clock} {sheet : Sheet} {ss : Bor (List ℤ)} {ms : Bor (List ℕ)} {hs : Bor (List ℤ)} {ss' : List ℤ} {ms' : List ℕ} {hs' : List ℤ} {r : Turns_answer}
+  years : {κs : Lfts 3} {c : Clock} {sheet : Sheet} {ss : Bor (List ℤ)} {ms : Bor (List ℕ)} {hs : Bor (List ℤ)} {ss' : List ℤ} {ms' : List ℕ} {hs' : List ℤ} {r : TurnsAnswer}
       → Once year.ended (λ M. year.clauses) κs (c, (sheet, (ss, (ms, (hs, tt))))) r (tt, (tt, (ss', (ms', (hs', tt)))))
       → Call c (Year sheet ss.now ms.now hs.now) (filled (record { returned = turns_returned r; series = ss'; minutes = ms'; heights = hs' })) c
   bookings : {κs : Lfts 2} {c : Clock} {minutes : Bor (List ℕ)} {before : Bor (List ℤ)} {after : List ℤ} {r : Answer}
       → Once booking.ended (λ M. booking.clauses) κs (c, (minutes, (before, tt))) r (tt, (tt, (after, tt)))
       → Call c (Bookings minutes.now before.now) (wrote (record { returned = outcome_of r; heights = after })) c
-  hourlies : {κs : Lfts 1} {c : Clock} {number : ℕ} {before : Bor (List ℕ)} {after : List ℕ} {r : Cards_answer}
+  hourlies : {κs : Lfts 1} {c : Clock} {number : ℕ} {before : Bor (List ℕ)} {after : List ℕ} {r : CardsAnswer}
       → Once hourly.ended (λ M. hourly.clauses) κs (c, (number, (before, tt))) r (tt, (tt, (after, tt)))
       → Call c (Hourly number before.now) (carded (record { returned = cards_returned r; buffer = after })) c
-  hands : {c : Clock} {r : Table_names}
+  hands : {c : Clock} {r : TableNames}
       → Once names.ended (λ M. names.clauses) tt (c, tt) r (tt, tt)
       → Call c Names (named (names_from r.bytes 0 r.count)) c
   -- the clock is lent: the call gets what is behind the reference, and leaves what is behind it at the end
@@ -137,7 +137,7 @@ pub data Call : Clock → Request → Gave → Clock → Type 2 where
   held_dates : {κs : Lfts 1} {clock : Bor Clock} {year month : ℕ} {r : Verdict} {left : Clock}
       → Once held_date.ended (λ M. held_date.clauses) κs (clock, (year, (month, tt))) r (left, (tt, (tt, tt)))
       → Call clock.now (Date year month) (told (verdict_returned r)) left
-  lent_heights : {κs : Lfts 1} {clock : Bor Clock} {minute : ℕ} {r : Height_answer}
+  lent_heights : {κs : Lfts 1} {clock : Bor Clock} {minute : ℕ} {r : HeightAnswer}
       → Once height_lent.ended (λ M. height_lent.clauses) κs (clock, (minute, tt)) r (tt, (tt, tt))
       → Call clock.now (Height minute) (predicted (height_returned r)) clock.now
   held_heights : {κs : Lfts 1} {clock : Bor Clock} {minute : ℕ} {r : Reading}
@@ -158,10 +158,10 @@ pub data Call : Clock → Request → Gave → Clock → Type 2 where
   held_bookings : {κs : Lfts 3} {clock : Bor Clock} {minutes : Bor (List ℕ)} {before : Bor (List ℤ)} {after : List ℤ} {r : Verdict}
       → Once held_booking.ended (λ M. held_booking.clauses) κs (clock, (minutes, (before, tt))) r (tt, (tt, (after, tt)))
       → Call clock.now (Bookings minutes.now before.now) (wrote (record { returned = verdict_returned r; heights = after })) clock.now
-  held_hourlies : {κs : Lfts 2} {clock : Bor Clock} {number : ℕ} {before : Bor (List ℕ)} {after : List ℕ} {r : Held_cards}
+  held_hourlies : {κs : Lfts 2} {clock : Bor Clock} {number : ℕ} {before : Bor (List ℕ)} {after : List ℕ} {r : HeldCards}
       → Once held_hourly.ended (λ M. held_hourly.clauses) κs (clock, (number, (before, tt))) r (tt, (tt, (after, tt)))
       → Call clock.now (Hourly number before.now) (carded (record { returned = cards_told r; buffer = after })) clock.now
-  held_hands : {κs : Lfts 1} {clock : Bor Clock} {r : Table_names}
+  held_hands : {κs : Lfts 1} {clock : Bor Clock} {r : TableNames}
       → Once held_names.ended (λ M. held_names.clauses) κs (clock, tt) r (tt, tt)
       → Call clock.now Names (named (names_from r.bytes 0 r.count)) clock.now
 

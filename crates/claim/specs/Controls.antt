@@ -11,22 +11,22 @@ use Rattle.station.specs.declared.records.Rows.{Rows}
 use Rattle.station.specs.Records.{records_of}
 use Rattle.station.specs.Station as stations
 use Rattle.station.specs.Station.{station_lent}
-use Rattle.hourly.specs.declared.Cards_answer.{Cards_answer}
+use Rattle.hourly.specs.declared.CardsAnswer.{CardsAnswer}
 use Rattle.hourly.specs.Answers.{cards_returned}
 use Rattle.calls.specs.declared.annual.Sheet.{Sheet}
 use Rattle.clock.specs.declared.Clock.{Clock}
-use Rattle.clock.specs.declared.Height_answer.{Height_answer}
-use Rattle.clock.specs.declared.Turns_answer.{Turns_answer}
-use Rattle.clock.specs.declared.Table_names.{Table_names}
+use Rattle.clock.specs.declared.HeightAnswer.{HeightAnswer}
+use Rattle.clock.specs.declared.TurnsAnswer.{TurnsAnswer}
+use Rattle.clock.specs.declared.TableNames.{TableNames}
 use Rattle.clock.specs.View.{view}
 use Rattle.calls.specs.Names.{names_in}
 use Rattle.clock.specs.Returned.{height_returned, turns_returned}
-use Rattle.clock.specs.Posts.{New_post, Cards_post, Station_post, Date_post, Height_post, Series_post, Turns_post, Year_post, Bookings_post, Hourly_post}
+use Rattle.clock.specs.Posts.{NewPost, CardsPost, StationPost, DatePost, HeightPost, SeriesPost, TurnsPost, YearPost, BookingsPost, HourlyPost}
 use Rattle.cuvalimodo_c.specs.declared.answers.Verdict.{Verdict}
 use Rattle.cuvalimodo_c.specs.declared.answers.Reading.{Reading}
 use Rattle.cuvalimodo_c.specs.declared.answers.Turnings.{Turnings}
-use Rattle.cuvalimodo_c.specs.declared.answers.Cards.{Cards as Held_cards}
-use Rattle.cuvalimodo_c.specs.Answers.{verdict_returned, reading_returned, turnings_returned, cards_told, Plain, Plain_reading, Plain_turnings, Plain_cards}
+use Rattle.cuvalimodo_c.specs.declared.answers.Cards.{Cards as HeldCards}
+use Rattle.cuvalimodo_c.specs.Answers.{verdict_returned, reading_returned, turnings_returned, cards_told, Plain, PlainReading, PlainTurnings, PlainCards}
 use Rattle.claim.specs.Document.{Request, Cards, Station, Date, Height, Series, Turns, Year, Bookings, Hourly, Names, Gave, told, predicted, wrote, found, filled, carded, named}
 use Rattle.claim.specs.Calls.{New, Call, Calls}
 
@@ -64,44 +64,44 @@ each_refused =
     refusals ++ refusals ++ predicted (refused 21 0) ∷ wrote (record { returned = refused 21 0; heights = pos 5 ∷ [] }) ∷ told (refused 21 0) ∷ named [] ∷ named [] ∷ []
 
 pub record Controls : Type 2 where
-  pub new : (c : Clock) → New_post c → New c
-  pub cards : (c c' : Clock) (file : List ℕ) (answer : Answer) → Cards_post c file (outcome_of answer) c' → Call c (Cards file) (told (outcome_of answer)) c'
-  pub station : (c c' : Clock) (s : stations.Station) (answer : Answer) → Station_post c s (outcome_of answer) c'
+  pub new : (c : Clock) → NewPost c → New c
+  pub cards : (c c' : Clock) (file : List ℕ) (answer : Answer) → CardsPost c file (outcome_of answer) c' → Call c (Cards file) (told (outcome_of answer)) c'
+  pub station : (c c' : Clock) (s : stations.Station) (answer : Answer) → StationPost c s (outcome_of answer) c'
       → Call c (Station s) (told (outcome_of answer)) c'
-  pub placing : (c c' : Clock) (latitude : ℤ) (strides : Strides) (n : ℕ) (rows : Rows) (answer : Answer) → Station_post c (station_lent latitude strides (records_of rows n)) (outcome_of answer) c'
+  pub placing : (c c' : Clock) (latitude : ℤ) (strides : Strides) (n : ℕ) (rows : Rows) (answer : Answer) → StationPost c (station_lent latitude strides (records_of rows n)) (outcome_of answer) c'
       → Call c (Station (station_lent latitude strides (records_of rows n))) (told (outcome_of answer)) c'
-  pub date : (c c' : Clock) (year month : ℕ) (answer : Answer) → Date_post c year month (outcome_of answer) c' → Call c (Date year month) (told (outcome_of answer)) c'
-  pub height : (c : Clock) (minute : ℕ) (answer : Height_answer) → Height_post c minute (height_returned answer) → Call c (Height minute) (predicted (height_returned answer)) c
-  pub series : (c : Clock) (start step : ℕ) (hs hs' : List ℤ) (answer : Answer) → Series_post c start step hs hs' (outcome_of answer)
+  pub date : (c c' : Clock) (year month : ℕ) (answer : Answer) → DatePost c year month (outcome_of answer) c' → Call c (Date year month) (told (outcome_of answer)) c'
+  pub height : (c : Clock) (minute : ℕ) (answer : HeightAnswer) → HeightPost c minute (height_returned answer) → Call c (Height minute) (predicted (height_returned answer)) c
+  pub series : (c : Clock) (start step : ℕ) (hs hs' : List ℤ) (answer : Answer) → SeriesPost c start step hs hs' (outcome_of answer)
       → Call c (Series start step hs) (wrote (record { returned = outcome_of answer; heights = hs' })) c
-  pub turns : (c : Clock) (first last : ℕ) (ms ms' : List ℕ) (hs hs' : List ℤ) (answer : Turns_answer) → Turns_post c first last ms ms' hs hs' (turns_returned answer)
+  pub turns : (c : Clock) (first last : ℕ) (ms ms' : List ℕ) (hs hs' : List ℤ) (answer : TurnsAnswer) → TurnsPost c first last ms ms' hs hs' (turns_returned answer)
       → Call c (Turns first last ms hs) (found (record { returned = turns_returned answer; minutes = ms'; heights = hs' })) c
-  pub year : (c : Clock) (sheet : Sheet) (ss ss' : List ℤ) (ms ms' : List ℕ) (hs hs' : List ℤ) (answer : Turns_answer) → Year_post c sheet ss ss' ms ms' hs hs' (turns_returned answer)
+  pub year : (c : Clock) (sheet : Sheet) (ss ss' : List ℤ) (ms ms' : List ℕ) (hs hs' : List ℤ) (answer : TurnsAnswer) → YearPost c sheet ss ss' ms ms' hs hs' (turns_returned answer)
       → Call c (Year sheet ss ms hs) (filled (record { returned = turns_returned answer; series = ss'; minutes = ms'; heights = hs' })) c
-  pub bookings : (c : Clock) (minutes : List ℕ) (hs hs' : List ℤ) (answer : Answer) → Bookings_post c minutes hs hs' (outcome_of answer)
+  pub bookings : (c : Clock) (minutes : List ℕ) (hs hs' : List ℤ) (answer : Answer) → BookingsPost c minutes hs hs' (outcome_of answer)
       → Call c (Bookings minutes hs) (wrote (record { returned = outcome_of answer; heights = hs' })) c
-  pub hourly : (c : Clock) (number : ℕ) (buffer left : List ℕ) (answer : Cards_answer) → Hourly_post c number buffer left (cards_returned answer)
+  pub hourly : (c : Clock) (number : ℕ) (buffer left : List ℕ) (answer : CardsAnswer) → HourlyPost c number buffer left (cards_returned answer)
       → Call c (Hourly number buffer) (carded (record { returned = cards_returned answer; buffer = left })) c
-  pub names : (c : Clock) (r : Table_names) → names_from r.bytes 0 r.count ≡ names_in (view c) → Call c Names (named (names_from r.bytes 0 r.count)) c
+  pub names : (c : Clock) (r : TableNames) → names_from r.bytes 0 r.count ≡ names_in (view c) → Call c Names (named (names_from r.bytes 0 r.count)) c
   -- with the clock lent: c is what is behind the reference
-  pub held_new : (c c' : Clock) → New_post c' → New c'
-  pub held-cards : (c c' : Clock) (file : List ℕ) (r : Verdict) → Cards_post c file (verdict_returned r) c' → Plain r → Call c (Cards file) (told (verdict_returned r)) c'
-  pub held-station : (c c' : Clock) (s : stations.Station) (r : Verdict) → Station_post c s (verdict_returned r) c' → Plain r
+  pub held_new : (c c' : Clock) → NewPost c' → New c'
+  pub held-cards : (c c' : Clock) (file : List ℕ) (r : Verdict) → CardsPost c file (verdict_returned r) c' → Plain r → Call c (Cards file) (told (verdict_returned r)) c'
+  pub held-station : (c c' : Clock) (s : stations.Station) (r : Verdict) → StationPost c s (verdict_returned r) c' → Plain r
       → Call c (Station s) (told (verdict_returned r)) c'
-  pub held-date : (c c' : Clock) (year month : ℕ) (r : Verdict) → Date_post c year month (verdict_returned r) c' → Plain r → Call c (Date year month) (told (verdict_returned r)) c'
-  pub lent-height : (c : Clock) (minute : ℕ) (answer : Height_answer) → Height_post c minute (height_returned answer) → Call c (Height minute) (predicted (height_returned answer)) c
-  pub held-height : (c : Clock) (minute : ℕ) (r : Reading) → Height_post c minute (reading_returned r) → Plain_reading r → Call c (Height minute) (predicted (reading_returned r)) c
-  pub held-series : (c : Clock) (start step : ℕ) (hs hs' : List ℤ) (r : Verdict) → Series_post c start step hs hs' (verdict_returned r) → Plain r
+  pub held-date : (c c' : Clock) (year month : ℕ) (r : Verdict) → DatePost c year month (verdict_returned r) c' → Plain r → Call c (Date year month) (told (verdict_returned r)) c'
+  pub lent-height : (c : Clock) (minute : ℕ) (answer : HeightAnswer) → HeightPost c minute (height_returned answer) → Call c (Height minute) (predicted (height_returned answer)) c
+  pub held-height : (c : Clock) (minute : ℕ) (r : Reading) → HeightPost c minute (reading_returned r) → PlainReading r → Call c (Height minute) (predicted (reading_returned r)) c
+  pub held-series : (c : Clock) (start step : ℕ) (hs hs' : List ℤ) (r : Verdict) → SeriesPost c start step hs hs' (verdict_returned r) → Plain r
       → Call c (Series start step hs) (wrote (record { returned = verdict_returned r; heights = hs' })) c
-  pub held-turns : (c : Clock) (first last : ℕ) (ms ms' : List ℕ) (hs hs' : List ℤ) (r : Turnings) → Turns_post c first last ms ms' hs hs' (turnings_returned r) → Plain_turnings r
+  pub held-turns : (c : Clock) (first last : ℕ) (ms ms' : List ℕ) (hs hs' : List ℤ) (r : Turnings) → TurnsPost c first last ms ms' hs hs' (turnings_returned r) → PlainTurnings r
       → Call c (Turns first last ms hs) (found (record { returned = turnings_returned r; minutes = ms'; heights = hs' })) c
-  pub held-year : (c : Clock) (sheet : Sheet) (ss ss' : List ℤ) (ms ms' : List ℕ) (hs hs' : List ℤ) (r : Turnings) → Year_post c sheet ss ss' ms ms' hs hs' (turnings_returned r) → Plain_turnings r
+  pub held-year : (c : Clock) (sheet : Sheet) (ss ss' : List ℤ) (ms ms' : List ℕ) (hs hs' : List ℤ) (r : Turnings) → YearPost c sheet ss ss' ms ms' hs hs' (turnings_returned r) → PlainTurnings r
       → Call c (Year sheet ss ms hs) (filled (record { returned = turnings_returned r; series = ss'; minutes = ms'; heights = hs' })) c
-  pub lent-bookings : (c : Clock) (minutes : List ℕ) (hs hs' : List ℤ) (answer : Answer) → Bookings_post c minutes hs hs' (outcome_of answer)
+  pub lent-bookings : (c : Clock) (minutes : List ℕ) (hs hs' : List ℤ) (answer : Answer) → BookingsPost c minutes hs hs' (outcome_of answer)
       → Call c (Bookings minutes hs) (wrote (record { returned = outcome_of answer; heights = hs' })) c
-  pub held-bookings : (c : Clock) (minutes : List ℕ) (hs hs' : List ℤ) (r : Verdict) → Bookings_post c minutes hs hs' (verdict_returned r) → Plain r
+  pub held-bookings : (c : Clock) (minutes : List ℕ) (hs hs' : List ℤ) (r : Verdict) → BookingsPost c minutes hs hs' (verdict_returned r) → Plain r
       → Call c (Bookings minutes hs) (wrote (record { returned = verdict_returned r; heights = hs' })) c
-  pub held-hourly : (c : Clock) (number : ℕ) (buffer left : List ℕ) (r : Held_cards) → Hourly_post c number buffer left (cards_told r) → Plain_cards r
+  pub held-hourly : (c : Clock) (number : ℕ) (buffer left : List ℕ) (r : HeldCards) → HourlyPost c number buffer left (cards_told r) → PlainCards r
       → Call c (Hourly number buffer) (carded (record { returned = cards_told r; buffer = left })) c
-  pub held-names : (c : Clock) (r : Table_names) → names_from r.bytes 0 r.count ≡ names_in (view c) → Call c Names (named (names_from r.bytes 0 r.count)) c
-  pub each-kind : (c : Clock) → New_post c → Calls c each_kind each_refused c
+  pub held-names : (c : Clock) (r : TableNames) → names_from r.bytes 0 r.count ≡ names_in (view c) → Call c Names (named (names_from r.bytes 0 r.count)) c
+  pub each-kind : (c : Clock) → NewPost c → Calls c each_kind each_refused c

@@ -9,15 +9,15 @@ use Rattle.card_file.specs.Cards.{cards_outcome}
 use Rattle.station.specs.Station as station
 use Rattle.month_prepared.specs.Prepared.{Constituent, Month}
 use Rattle.year.specs.Year.{year_of}
-use Rattle.heights.specs.Exact.{Near_over}
+use Rattle.heights.specs.Exact.{NearOver}
 use Rattle.calls.specs.State.{Maybe, none, some, Dated, State}
 use Rattle.calls.specs.Names.{names_in}
-use Rattle.turns.specs.Written.{Turns_found, Turns_given}
-use Rattle.calls.specs.Calls.{cards_returns, station_returns, date_gives, date_returns, height_returns, Series_given, series_gives, turns_gives}
+use Rattle.turns.specs.Written.{TurnsFound, TurnsGiven}
+use Rattle.calls.specs.Calls.{cards_returns, station_returns, date_gives, date_returns, height_returns, SeriesGiven, series_gives, turns_gives}
 use Rattle.calls.specs.declared.annual.Sheet.{Sheet}
-use Rattle.calls.specs.Year.{year_asked, Year_given, year_gives}
+use Rattle.calls.specs.Year.{year_asked, YearGiven, year_gives}
 use Rattle.calls.specs.Bookings.{bookings_gives}
-use Rattle.hourly.specs.Month.{Cards_given}
+use Rattle.hourly.specs.Month.{CardsGiven}
 use Rattle.calls.specs.Hourly.{hourly_gives}
 
 -- "The calls are a card file, a station, a date, a height, a series and turns", each with all that is lent to it; "A call that a change request
@@ -39,10 +39,10 @@ pub data Request : Type 0 where
 pub data Gave : Type 0 where
   told : Outcome Unit → Gave
   predicted : Outcome ℤ → Gave
-  wrote : Series_given → Gave
-  found : Turns_given → Gave
-  filled : Year_given → Gave
-  carded : Cards_given → Gave
+  wrote : SeriesGiven → Gave
+  found : TurnsGiven → Gave
+  filled : YearGiven → Gave
+  carded : CardsGiven → Gave
   named : List (List ℕ) → Gave
 
 -- a date as it is lent
@@ -147,11 +147,11 @@ points_of [] hs = []
 points_of (m ∷ ms) [] = []
 points_of (m ∷ ms) (h ∷ hs) = record { minute = m; height = h } ∷ points_of ms hs
 
-abbrev pub turns_points : Outcome Turns_found → List ℕ → List ℤ → List Point
+abbrev pub turns_points : Outcome TurnsFound → List ℕ → List ℤ → List Point
 turns_points returned minutes heights = on_accepted returned (λ f. points_of (take f.count minutes) (take f.count heights)) []
 
 -- "Every height on the sheet": those of the series and those of the turns, at minutes "counted from 1 January"
-abbrev pub sheet_points : Sheet → Year_given → List Point
+abbrev pub sheet_points : Sheet → YearGiven → List Point
 sheet_points sheet y =
     series_points sheet.start sheet.step y.returned y.series ++ turns_points y.returned y.minutes y.heights
 
@@ -160,8 +160,8 @@ abbrev pub bookings_points : {A : Type 0} → List ℕ → Outcome A → List �
 bookings_points minutes returned heights = on_accepted returned (λ _. points_of minutes heights) []
 
 -- the heights in what was given, by its kind: one that is returned, those that are written, those of turns, those of a year's sheet. Hourly cards have
--- centimetres, for which 02 states no distance (what is said of them: `Of_hourly` in `Claim`)
-abbrev pub points_by : (Outcome ℤ → List Point) → (Series_given → List Point) → (Turns_given → List Point) → (Year_given → List Point) → Gave → List Point
+-- centimetres, for which 02 states no distance (what is said of them: `OfHourly` in `Claim`)
+abbrev pub points_by : (Outcome ℤ → List Point) → (SeriesGiven → List Point) → (TurnsGiven → List Point) → (YearGiven → List Point) → Gave → List Point
 points_by height heights turns sheet (told r) = []
 points_by height heights turns sheet (predicted r) = height r
 points_by height heights turns sheet (wrote s) = heights s
@@ -220,12 +220,12 @@ months_for l (Hourly number buffer) = prepared_month (worked_out l).month
 months_for l Names = prepared_month (worked_out l).month
 
 -- each point near the exact sum of the month that owns its minute
-pub data All_near (months : List Month) : List Point → Type 0 where
-  nil : All_near months []
-  cons : {p : Point} {ps : List Point} → Near_over months p.minute p.height → All_near months ps → All_near months (p ∷ ps)
+pub data AllNear (months : List Month) : List Point → Type 0 where
+  nil : AllNear months []
+  cons : {p : Point} {ps : List Point} → NearOver months p.minute p.height → AllNear months ps → AllNear months (p ∷ ps)
 
 -- each height that a call of the list gives, near the exact sum that follows from what was last accepted before that call
-pub data Each_near : Last → List Request → List Gave → Type 0 where
-  end : {l : Last} → Each_near l [] []
+pub data EachNear : Last → List Request → List Gave → Type 0 where
+  end : {l : Last} → EachNear l [] []
   next : {l : Last} {q : Request} {qs : List Request} {g : Gave} {gs : List Gave}
-      → All_near (months_for l q) (points q g) → Each_near (after l q) qs gs → Each_near l (q ∷ qs) (g ∷ gs)
+      → AllNear (months_for l q) (points q g) → EachNear (after l q) qs gs → EachNear l (q ∷ qs) (g ∷ gs)

@@ -86,10 +86,10 @@ starred A minute =
     ∷ []
 
 -- all of them together
-abbrev pub All_hold : List Case → Type 0
-All_hold [] = Unit {0}
-All_hold ((got gives want) ∷ cases) = (got ≡ want) × All_hold cases
+abbrev pub AllHold : List Case → Type 0
+AllHold [] = Unit {0}
+AllHold ((got gives want) ∷ cases) = (got ≡ want) × AllHold cases
 
 -- what is proved (proofs/cases/Starred.antt)
-abbrev pub Starred_hold : Type 0
-Starred_hold = (A minute : ℕ) → All_hold (starred A minute)
+abbrev pub StarredHold : Type 0
+StarredHold = (A minute : ℕ) → AllHold (starred A minute)

@@ -11,8 +11,8 @@ use Rattle.table.specs.declared.Table.{Table}
 use Rattle.station.specs.declared.Station.{Station}
 use Rattle.station.specs.declared.strides.Strides.{Strides}
 use Rattle.clock.specs.declared.Clock.{Clock}
-use Rattle.clock.specs.contracts.Clock as Clock_type
-use Rattle.clock.proofs.Clock.The_laws as Clock_laws
+use Rattle.clock.specs.contracts.Clock as ClockType
+use Rattle.clock.proofs.Clock.TheLaws as ClockLaws
 
 -- so many zeros, in an array
 abbrev zeros : ℕ → List ℕ
@@ -84,5 +84,5 @@ abbrev mutual
   zeros_of (tcons τ τs) = vcons (zero_of τ) (zeros_of τs)
 
 -- that of a clock's type stands for `zeroed`
-abbrev pub Zeros_are_zeroed : Type 0
-Zeros_are_zeroed = Is Clock_type.the_row zeroed (zero_of Clock_laws.mir ∷ [])
+abbrev pub ZerosAreZeroed : Type 0
+ZerosAreZeroed = Is ClockType.the_row zeroed (zero_of ClockLaws.mir ∷ [])

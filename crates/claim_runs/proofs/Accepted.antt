@@ -9,8 +9,8 @@ use mathlib.Core.Path.{◌≡◌, refl, ap, ap₂, fun_ext, subst, ◌∙◌}
 use mathlib.Core.Bool.{false}
 use mathlib.Core.List.{List, [], ◌∷◌, ◌++◌}
 use lib.Dec.{ltb}
-use lib.Int_n.{ℤ, pos, ◌-ℤ◌, zero-*ℤ}
-use lib.List_n.{length, drop, length-replicate}
+use lib.IntN.{ℤ, pos, ◌-ℤ◌, zero-*ℤ}
+use lib.ListN.{length, drop, length-replicate}
 use mir.Val.{Val}
 use Rattle.limits.specs.Limits.{most_minutes}
 use Rattle.cosine.specs.Fraction.{factorial, arc, unit, term, added, taken, whole, base}
@@ -51,7 +51,7 @@ use Rattle.heights.specs.Share.{share}
 use Rattle.heights.specs.Height.{sum_of_shares, height_at, height_over}
 use Rattle.heights.specs.Series.{series_from}
 use Rattle.hourly.specs.Writing.{decimal, entry_written, written_by, cards_written}
-use Rattle.hourly.specs.Month.{cards_from, cards_of, any_outside, heights_asked, bytes_of, Cards_given, into_buffer}
+use Rattle.hourly.specs.Month.{cards_from, cards_of, any_outside, heights_asked, bytes_of, CardsGiven, into_buffer}
 use Rattle.turns.specs.Slope.{fall, falls_at, slope_at, slope_over}
 use Rattle.turns.specs.Sense.{rising, differ}
 use Rattle.turns.specs.Search.{turns_from}
@@ -66,15 +66,15 @@ use Rattle.calls.specs.Calls.{cards_returns, station_returns, date_gives, date_r
 use Rattle.calls.specs.Year.{sheet_asked, year_gives}
 use Rattle.calls.specs.Bookings.{minutes_from, bookings_heights, bookings_gives}
 use Rattle.calls.specs.Hourly.{hourly_bytes, hourly_gives}
-use Rattle.clock.proofs.Clock.The_laws as Clock_laws
+use Rattle.clock.proofs.Clock.TheLaws as ClockLaws
 use Rattle.claim.specs.Zeroed.{zeroed, zero_of}
 use Rattle.claim.proofs.Zeros.{zeros-are-zeroed}
 use Rattle.claim.specs.Document.{Last, worked_out, gives, after, gives_all}
-use Rattle.claim_runs.specs.Accepted.{z0, frequency_line, five_line, main_line, card_lines, ended, small_file, z0-records, z0-station, none-station, year-sheet, three_minutes, three_places, station_number, stars, july_cards, accepted_calls, Accepted_by_the_document, Accepted_from, Accepted_by_the_machine}
+use Rattle.claim_runs.specs.Accepted.{z0, frequency_line, five_line, main_line, card_lines, ended, small_file, z0-records, z0-station, none-station, year-sheet, three_minutes, three_places, station_number, stars, july_cards, accepted_calls, AcceptedByTheDocument, AcceptedFrom, AcceptedByTheMachine}
 use Rattle.claim_runs.specs.Values.{clock_at, zero_memory}
-use Rattle.claim_runs.specs.Runs.{Started, Give_all}
-use Rattle.claim_runs.proofs.Each_kind.{all-reached, new-run, held-new-run}
-use Rattle.claim_runs.proofs.On_machine.{on-machine, always-ends}
+use Rattle.claim_runs.specs.Runs.{Started, GiveAll}
+use Rattle.claim_runs.proofs.EachKind.{all-reached, new-run, held-new-run}
+use Rattle.claim_runs.proofs.OnMachine.{on-machine, always-ends}
 
 -- ---- the card file: its lines, its parts, its table
 
@@ -279,7 +279,7 @@ unfolding hourly_bytes
 cards-are = rw month-worked (ap (λ (height : ℕ → ℤ). bytes_of (cards_of height station_number 1976 7) 4_300) (fun_ext height-is) ∙ july-bytes)
 
 -- so many bytes are taken, and the rest is as it was
-abbrev taking : ℕ → List ℕ → Cards_given
+abbrev taking : ℕ → List ℕ → CardsGiven
 taking n rest = record { returned = accepted n; buffer = july_cards ++ rest }
 
 hourly-given : hourly_gives (worked_out after_date) station_number (stars 4_300) ≡ record { returned = accepted 4_278; buffer = july_cards ++ stars 22 }
@@ -293,22 +293,22 @@ hourly-given =
 names-given : names_in (worked_out after_date) ≡ z0 ∷ []
 names-given = rw month-worked
 
-pub accepted-by-the-document : Accepted_by_the_document
+pub accepted-by-the-document : AcceptedByTheDocument
 unfolding gives_all gives after
 accepted-by-the-document =
     rw (cards-accepted, none-accepted, station-accepted (some none-station), station-accepted none, date-accepted, height-given, series-given, one-given, turns-given, year-given, one-of-a-year, bookings-given, hourly-given, names-given)
 
 -- the machine's runs of these calls give what the document gives
-accepted-from : (vc : Val) → Started vc → Accepted_from vc
+accepted-from : (vc : Val) → Started vc → AcceptedFrom vc
 accepted-from vc started = (
   started,
-  ∥∥₁_map (all-reached always-ends vc started) (λ x. (x.0, x.1, x.2, subst (Give_all x.1) accepted-by-the-document (on-machine vc x.0 accepted_calls started x.1).exactly)),
+  ∥∥₁_map (all-reached always-ends vc started) (λ x. (x.0, x.1, x.2, subst (GiveAll x.1) accepted-by-the-document (on-machine vc x.0 accepted_calls started x.1).exactly)),
 )
 
-pub accepted-by-the-machine : Accepted_by_the_machine
+pub accepted-by-the-machine : AcceptedByTheMachine
 accepted-by-the-machine =
     record {
       returned = ∥∥₁_map (new-run always-ends) (λ x. (x, accepted-from x.value (Started.returned x)));
-      left = ∥∥₁_map (held-new-run always-ends) (λ m. (zero_of Clock_laws.mir, m.0, m.1, accepted-from (clock_at m.1.left m.0 0) (Started.left zeroed zeros-are-zeroed m.1)));
+      left = ∥∥₁_map (held-new-run always-ends) (λ m. (zero_of ClockLaws.mir, m.0, m.1, accepted-from (clock_at m.1.left m.0 0) (Started.left zeroed zeros-are-zeroed m.1)));
       zeros = accepted-from (clock_at zero_memory 0 0) Started.zeros;
     }

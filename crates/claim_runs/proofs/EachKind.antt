@@ -1,23 +1,23 @@
 -- Each kind of call is run (specs/Accepted.antt): from the memory with which a program begins, in which the card file lies, one routine after
 -- another returns, on the clock's value that the one before returned or left, or where that value was laid into the memory and is lent. Rests on
--- `Always_ends`, and on `Laid` for what is lent. Assumes nothing.
+-- `AlwaysEnds`, and on `Laid` for what is lent. Assumes nothing.
 use Prim.Native.Nat.{ℕ, zero, suc, ◌+◌, ◌<◌, ◌^◌}
 use mathlib.Core.Bool.{Bool, true, false, ◌&&◌}
 use mathlib.Core.List.{List, [], ◌∷◌, ◌++◌, map}
 use mathlib.Core.Logic.{∥∥₁_map, ∥∥₁_elim, ∥∥₁_prop}
 use mathlib.Core.Path.{◌≡◌, refl, sym, ap, ap₂, subst, ◌∙◌}
 use lib.Dec.{T, ltb, ltb→lt, lit<}
-use lib.Int_n.{pos}
-use lib.List_n.{length, length-map, replicate, length-replicate}
+use lib.IntN.{pos}
+use lib.ListN.{length, length-map, replicate, length-replicate}
 use seplogic.Ra.Ura.{Ura}
-use seplogic.Ra.Tree_share.{full_share}
+use seplogic.Ra.TreeShare.{full_share}
 use mir.Syntax.{w8, w32, w64, ty_int}
 use mir.Val.{Val, vint, of_z}
 use base.Logic.{SProp, ent, sep, emp, id⊢, via, mono_l, assoc', emp∗}
 use base.Fml.{Fml, Share, ftrue, fsep, fat}
-use prog.Adequacy_run.{start_mem}
+use prog.AdequacyRun.{start_mem}
 use prog.Memory.{Memory}
-use prog.Model.{All_fit}
+use prog.Model.{AllFit}
 use prog.Routine.{Routine, ends, ≼_refl}
 use prog.Wp.{run}
 use types.Logic.{Logic, sem}
@@ -37,17 +37,17 @@ use denote.Steps.{owned, nothing}
 use borrow.Fn.World.{w₀}
 use Rattle.limits.specs.Limits.{most_records}
 use Rattle.station.specs.declared.records.Rows.{Rows}
-use Rattle.station.specs.contracts.records.Record as Record_type
-use Rattle.station.proofs.records.Record.The_laws as Record_laws
-use Rattle.station.specs.contracts.records.Rows as Rows_type
-use Rattle.station.proofs.records.Rows.The_laws as Rows_laws
-use Rattle.station.specs.contracts.strides.Strides as Strides_type
-use Rattle.station.proofs.strides.Strides.The_laws as Strides_laws
+use Rattle.station.specs.contracts.records.Record as RecordType
+use Rattle.station.proofs.records.Record.TheLaws as RecordLaws
+use Rattle.station.specs.contracts.records.Rows as RowsType
+use Rattle.station.proofs.records.Rows.TheLaws as RowsLaws
+use Rattle.station.specs.contracts.strides.Strides as StridesType
+use Rattle.station.proofs.strides.Strides.TheLaws as StridesLaws
 use Rattle.station.specs.Records.{records_from}
-use Rattle.calls.specs.contracts.annual.Sheet as Sheet_type
-use Rattle.calls.proofs.annual.Sheet.The_laws as Sheet_laws
-use Rattle.clock.specs.contracts.Clock as Clock_type
-use Rattle.clock.proofs.Clock.The_laws as Clock_laws
+use Rattle.calls.specs.contracts.annual.Sheet as SheetType
+use Rattle.calls.proofs.annual.Sheet.TheLaws as SheetLaws
+use Rattle.clock.specs.contracts.Clock as ClockType
+use Rattle.clock.proofs.Clock.TheLaws as ClockLaws
 use Rattle.clock.proofs.new.Symbol as new_code
 use Rattle.clock.proofs.load_cards.Symbol as load_code
 use Rattle.clock.proofs.set_station.Symbol as station_code
@@ -79,7 +79,7 @@ use Rattle.claim.specs.Document.{Request, Cards, Station, Date, Height, Series, 
 use Rattle.claim_runs.specs.Handed.{Assertion, ◌∗◌, ⟦◌⟧₀, ◌⊨◌, Handed, value, reads, writes, sees, changes, passed, Fit, At, lie, Ran}
 use Rattle.claim_runs.specs.Values.{clock_in, clock_at}
 use Rattle.claim_runs.specs.Runs.{Run, Started, routine_of, Runs, ◌then◌, routines_of}
-use Rattle.claim_runs.specs.On_machine.{Every_call_ends, Always_ends}
+use Rattle.claim_runs.specs.OnMachine.{EveryCallEnds, AlwaysEnds}
 use Rattle.claim_runs.specs.Accepted.{z0-record, z0-records, z0-strides, z0-station, none-station, year-sheet, three_minutes, three_places, station_number, stars, cards_asked, accepted_calls, accepted_routines, frequency_line, five_line, main_line, ended, small_file}
 use Rattle.claim_runs.proofs.Handing.{W₀}
 use Rattle.claim_runs.proofs.Parameters.{clock-lawful, clock-means, u32-makes}
@@ -103,7 +103,7 @@ pub below : (n : ℕ) (xs : List ℕ) → T (are_below n xs) → Below n xs
 below n [] t = tt
 below n (x ∷ xs) t = let h : T (ltb x n) × T (are_below n xs) = both_hold (ltb x n) (are_below n xs) t in (ltb→lt x n h.0, below n xs h.1)
 
-all_fit : (xs : List ℕ) → Below (2 ^ 8) xs → All_fit w8 xs
+all_fit : (xs : List ℕ) → Below (2 ^ 8) xs → AllFit w8 xs
 all_fit [] h = tt
 all_fit (x ∷ xs) h = (record { fits = h.0 }, all_fit xs h.1)
 
@@ -121,7 +121,7 @@ as_long : (xs : List ℕ) {n : ℕ} → length xs ≡ n → length (map (λ (x :
 as_long xs e = length-map xs (λ (x : ℕ). x) ∙ e
 
 rows_are : (rows : Rows) → length rows.places ≡ most_records → Below (2 ^ 8) rows.places → length rows.amplitudes ≡ most_records → Below (2 ^ 32) rows.amplitudes
-    → length rows.phases ≡ most_records → Below (2 ^ 32) rows.phases → Is Rows_type.the_row rows (Rows_laws.lowered rows ∷ [])
+    → length rows.phases ≡ most_records → Below (2 ^ 32) rows.phases → Is RowsType.the_row rows (RowsLaws.lowered rows ∷ [])
 rows_are rows l a m b n c =
     let ps : List Val = map (λ (x : ℕ). vint w8 x) rows.places in
     let ms : List Val = map (λ (x : ℕ). vint w32 x) rows.amplitudes in
@@ -134,24 +134,24 @@ rows_are rows l a m b n c =
 abbrev z0-rows : Rows
 z0-rows = record { places = replicate most_records 0; amplitudes = 100 ∷ replicate 145 0; phases = replicate most_records 0 }
 
-z0-rows-are : Is Rows_type.the_row z0-rows (Rows_laws.lowered z0-rows ∷ [])
+z0-rows-are : Is RowsType.the_row z0-rows (RowsLaws.lowered z0-rows ∷ [])
 z0-rows-are = rows_are z0-rows refl (below (2 ^ 8) z0-rows.places tt) refl (below (2 ^ 32) z0-rows.amplitudes tt) refl (below (2 ^ 32) z0-rows.phases tt)
 
 -- ---- Z0's record, places for heights and minutes, to be lent
 
-record-lays : Lays Record_type.the_row
+record-lays : Lays RecordType.the_row
 record-lays =
     record {
-      lowers = Record_laws.lowers;
-      makes = LL.makes Record_type.the_type Record_laws.the_plain w₀.𝓛;
-      lawful = LL.lawful Record_type.the_type Record_laws.the_laws w₀.𝓛 W₀;
+      lowers = RecordLaws.lowers;
+      makes = LL.makes RecordType.the_type RecordLaws.the_plain w₀.𝓛;
+      lawful = LL.lawful RecordType.the_type RecordLaws.the_laws w₀.𝓛 W₀;
     }
 
-z0-strides-are : Is Strides_type.the_row z0-strides (Strides_laws.lowered z0-strides ∷ [])
-z0-strides-are = LL.owes Strides_type.the_type Strides_laws.the_laws z0-strides ((refl, lit< tt), ((refl, lit< tt), ((refl, lit< tt), tt)))
+z0-strides-are : Is StridesType.the_row z0-strides (StridesLaws.lowered z0-strides ∷ [])
+z0-strides-are = LL.owes StridesType.the_type StridesLaws.the_laws z0-strides ((refl, lit< tt), ((refl, lit< tt), ((refl, lit< tt), tt)))
 
-z0-is : Is Record_type.the_row z0-record (Record_laws.lowered z0-record ∷ [])
-z0-is = LL.owes Record_type.the_type Record_laws.the_laws z0-record ((refl, lit< tt), ((refl, lit< tt), ((refl, lit< tt), tt)))
+z0-is : Is RecordType.the_row z0-record (RecordLaws.lowered z0-record ∷ [])
+z0-is = LL.owes RecordType.the_type RecordLaws.the_laws z0-record ((refl, lit< tt), ((refl, lit< tt), ((refl, lit< tt), tt)))
 
 i64-lays : Lays i64
 i64-lays =
@@ -188,8 +188,8 @@ stars-have-room n r = subst (Room u8) (sym (length-replicate n 42)) r
 
 -- ---- the year's sheet, by value
 
-year-sheet-is : Is Sheet_type.the_row year-sheet (Sheet_laws.lowered year-sheet ∷ [])
-year-sheet-is = LL.owes Sheet_type.the_type Sheet_laws.the_laws year-sheet ((refl, lit< tt), ((refl, lit< tt), ((refl, lit< tt), ((refl, lit< tt), ((refl, lit< tt), tt)))))
+year-sheet-is : Is SheetType.the_row year-sheet (SheetLaws.lowered year-sheet ∷ [])
+year-sheet-is = LL.owes SheetType.the_type SheetLaws.the_laws year-sheet ((refl, lit< tt), ((refl, lit< tt), ((refl, lit< tt), ((refl, lit< tt), ((refl, lit< tt), tt)))))
 
 -- ---- the card file lies in the memory with which a program begins
 
@@ -284,24 +284,24 @@ Next v q f = ∥ ((v' : Val) × (y : Run v q v') × (routine_of y ≡ f)) ∥₁
 abbrev u : ℕ → Val
 u n = vint w32 n
 
-module _ (v : Val) (e : Every_call_ends v) where
+module _ (v : Val) (e : EveryCallEnds v) where
   cards-run : Next v (Cards small_file) load_code.routine
   cards-run =
       ∥∥₁_map (e.loads small_file full_share 0 0 (file-has-room, tt) start Rest start-lies) (λ k. (clock_in k.0, Run.loads (ran-of Rest (file-has-room, tt) start-lies k), refl))
 
   station-run : Next v (Station none-station) station_code.routine
   station-run =
-      let hs : List Handed = value i32 (pos 0) (u 0) ∷ value Strides_type.the_row z0-strides (Strides_laws.lowered z0-strides) ∷ reads Record_type.the_row full_share [] 0 0 ∷ [] in
+      let hs : List Handed = value i32 (pos 0) (u 0) ∷ value StridesType.the_row z0-strides (StridesLaws.lowered z0-strides) ∷ reads RecordType.the_row full_share [] 0 0 ∷ [] in
       let fit : Fit hs = ((refl, lit< tt), (z0-strides-are, ((lit< tt, lit< tt), tt))) in
       let lies : start ⊨ ⟦ lie hs ⟧₀ ∗ All = lies-too (lie hs) ((tt, tt), tt) ((refl, tt), tt) in
-      ∥∥₁_map (e.stations (pos 0) z0-strides (u 0) (Strides_laws.lowered z0-strides) [] full_share 0 0 fit start All lies) (λ k. (clock_in k.0, Run.stations {strides = z0-strides} {q = full_share} (ran-of All fit lies k), refl))
+      ∥∥₁_map (e.stations (pos 0) z0-strides (u 0) (StridesLaws.lowered z0-strides) [] full_share 0 0 fit start All lies) (λ k. (clock_in k.0, Run.stations {strides = z0-strides} {q = full_share} (ran-of All fit lies k), refl))
 
   placing-run : Next v (Station z0-station) placing_code.routine
   unfolding records_from
   placing-run =
-      let hs : List Handed = value i32 (pos 0) (u 0) ∷ value Strides_type.the_row z0-strides (Strides_laws.lowered z0-strides) ∷ value usize 1 (vint w64 1) ∷ value Rows_type.the_row z0-rows (Rows_laws.lowered z0-rows) ∷ [] in
+      let hs : List Handed = value i32 (pos 0) (u 0) ∷ value StridesType.the_row z0-strides (StridesLaws.lowered z0-strides) ∷ value usize 1 (vint w64 1) ∷ value RowsType.the_row z0-rows (RowsLaws.lowered z0-rows) ∷ [] in
       let fit : Fit hs = ((refl, lit< tt), (z0-strides-are, ((refl, lit< tt), (z0-rows-are, tt)))) in
-      ∥∥₁_map (e.placed (pos 0) z0-strides 1 z0-rows (u 0) (Strides_laws.lowered z0-strides) (vint w64 1) (Rows_laws.lowered z0-rows) fit start All (lies-too ftrue tt tt)) (λ k. (clock_in k.0, Run.placed {strides = z0-strides} {n = 1} {rows = z0-rows} (ran-of All fit (lies-too ftrue tt tt) k), refl))
+      ∥∥₁_map (e.placed (pos 0) z0-strides 1 z0-rows (u 0) (StridesLaws.lowered z0-strides) (vint w64 1) (RowsLaws.lowered z0-rows) fit start All (lies-too ftrue tt tt)) (λ k. (clock_in k.0, Run.placed {strides = z0-strides} {n = 1} {rows = z0-rows} (ran-of All fit (lies-too ftrue tt tt) k), refl))
 
   date-run : Next v (Date 1976 7) date_code.routine
   date-run =
@@ -329,10 +329,10 @@ module _ (v : Val) (e : Every_call_ends v) where
 
   year-run : Next v (Year year-sheet [] [] []) year_code.routine
   year-run =
-      let hs : List Handed = value Sheet_type.the_row year-sheet (Sheet_laws.lowered year-sheet) ∷ writes i64 [] 0 0 ∷ writes u32 [] 0 0 ∷ writes i64 [] 0 0 ∷ [] in
+      let hs : List Handed = value SheetType.the_row year-sheet (SheetLaws.lowered year-sheet) ∷ writes i64 [] 0 0 ∷ writes u32 [] 0 0 ∷ writes i64 [] 0 0 ∷ [] in
       let fit : Fit hs = (year-sheet-is, ((lit< tt, lit< tt), ((lit< tt, lit< tt), ((lit< tt, lit< tt), tt)))) in
       let lies : start ⊨ ⟦ lie hs ⟧₀ ∗ All = lies-too (lie hs) (tt, (tt, (tt, tt))) (tt, (tt, (tt, tt))) in
-      ∥∥₁_map (e.years year-sheet (Sheet_laws.lowered year-sheet) [] 0 0 [] 0 0 [] 0 0 fit start All lies) (λ k. (v, Run.years {sheet = year-sheet} (ran-of All fit lies k), refl))
+      ∥∥₁_map (e.years year-sheet (SheetLaws.lowered year-sheet) [] 0 0 [] 0 0 [] 0 0 fit start All lies) (λ k. (v, Run.years {sheet = year-sheet} (ran-of All fit lies k), refl))
 
   bookings-run : Next v (Bookings three_minutes three_places) booking_code.routine
   bookings-run =
@@ -350,40 +350,40 @@ module _ (v : Val) (e : Every_call_ends v) where
 
   -- ---- the clock's value laid into memory, beside what is handed over, and lent
 
-  with-clock : (σ : Memory) (P F : Assertion) → σ ⊨ P ∗ F → ∥ ((b : ℕ) × (σ' : Memory) × (σ' ⊨ (⟦ At Clock_type.the_row full_share v b 0 ⟧₀ ∗ P) ∗ F)) ∥₁
+  with-clock : (σ : Memory) (P F : Assertion) → σ ⊨ P ∗ F → ∥ ((b : ℕ) × (σ' : Memory) × (σ' ⊨ (⟦ At ClockType.the_row full_share v b 0 ⟧₀ ∗ P) ∗ F)) ∥₁
   with-clock σ P F s =
-      ∥∥₁_map (e.laid σ (P ∗ F) s) (λ m. (m.0, m.1, sat_weaken w₀.𝓤 w₀.𝓛.H w₀.𝓜 m.1 (assoc' w₀.𝓤 ⟦ At Clock_type.the_row full_share v m.0 0 ⟧₀ P F) m.2))
+      ∥∥₁_map (e.laid σ (P ∗ F) s) (λ m. (m.0, m.1, sat_weaken w₀.𝓤 w₀.𝓛.H w₀.𝓜 m.1 (assoc' w₀.𝓤 ⟦ At ClockType.the_row full_share v m.0 0 ⟧₀ P F) m.2))
 
   held-cards-run : Next v (Cards small_file) held_load_code.routine
   held-cards-run =
       ∥∥₁_elim (with-clock start ⟦ lie (reads u8 full_share small_file 0 0 ∷ []) ⟧₀ Rest start-lies) ∥∥₁_prop (λ m.
-      let fit : Fit (changes Clock_type.the_row v m.0 0 ∷ reads u8 full_share small_file 0 0 ∷ []) = (file-has-room, tt) in
+      let fit : Fit (changes ClockType.the_row v m.0 0 ∷ reads u8 full_share small_file 0 0 ∷ []) = (file-has-room, tt) in
       ∥∥₁_map (e.held_loads m.0 0 small_file full_share 0 0 fit m.1 Rest m.2) (λ k. (clock_at k.1 m.0 0, Run.held_loads {q = full_share} (ran-from m.1 Rest fit m.2 k), refl)))
 
   held-station-run : Next v (Station z0-station) held_station_code.routine
   held-station-run =
-      ∥∥₁_elim (laid-to-read Record_type.the_row record-lays z0-records (Record_laws.lowered z0-record ∷ []) (z0-is, tt) [] start All (lies-too ftrue tt tt)) ∥∥₁_prop (λ r.
-      ∥∥₁_elim (with-clock r.1 ⟦ lie (reads Record_type.the_row full_share z0-records r.0 0 ∷ []) ⟧₀ All r.2) ∥∥₁_prop (λ m.
-      let fit : Fit (changes Clock_type.the_row v m.0 0 ∷ value i32 (pos 0) (u 0) ∷ value Strides_type.the_row z0-strides (Strides_laws.lowered z0-strides) ∷ reads Record_type.the_row full_share z0-records r.0 0 ∷ []) = ((refl, lit< tt), (z0-strides-are, ((lit< tt, lit< tt), tt))) in
-      ∥∥₁_map (e.held_stations m.0 0 (pos 0) z0-strides (u 0) (Strides_laws.lowered z0-strides) z0-records full_share r.0 0 fit m.1 All m.2) (λ k.
+      ∥∥₁_elim (laid-to-read RecordType.the_row record-lays z0-records (RecordLaws.lowered z0-record ∷ []) (z0-is, tt) [] start All (lies-too ftrue tt tt)) ∥∥₁_prop (λ r.
+      ∥∥₁_elim (with-clock r.1 ⟦ lie (reads RecordType.the_row full_share z0-records r.0 0 ∷ []) ⟧₀ All r.2) ∥∥₁_prop (λ m.
+      let fit : Fit (changes ClockType.the_row v m.0 0 ∷ value i32 (pos 0) (u 0) ∷ value StridesType.the_row z0-strides (StridesLaws.lowered z0-strides) ∷ reads RecordType.the_row full_share z0-records r.0 0 ∷ []) = ((refl, lit< tt), (z0-strides-are, ((lit< tt, lit< tt), tt))) in
+      ∥∥₁_map (e.held_stations m.0 0 (pos 0) z0-strides (u 0) (StridesLaws.lowered z0-strides) z0-records full_share r.0 0 fit m.1 All m.2) (λ k.
       (clock_at k.1 m.0 0, Run.held_stations {strides = z0-strides} {q = full_share} (ran-from m.1 All fit m.2 k), refl))))
 
   held-date-run : Next v (Date 1976 7) held_date_code.routine
   held-date-run =
       ∥∥₁_elim (with-clock start ⟦ ftrue ⟧₀ All (lies-too ftrue tt tt)) ∥∥₁_prop (λ m.
-      let fit : Fit (changes Clock_type.the_row v m.0 0 ∷ value u32 1976 (u 1976) ∷ value u32 7 (u 7) ∷ []) = ((refl, lit< tt), ((refl, lit< tt), tt)) in
+      let fit : Fit (changes ClockType.the_row v m.0 0 ∷ value u32 1976 (u 1976) ∷ value u32 7 (u 7) ∷ []) = ((refl, lit< tt), ((refl, lit< tt), tt)) in
       ∥∥₁_map (e.held_dates m.0 0 1976 7 (u 1976) (u 7) fit m.1 All m.2) (λ k. (clock_at k.1 m.0 0, Run.held_dates (ran-from m.1 All fit m.2 k), refl)))
 
   lent-height-run : Next v (Height 0) lent_height_code.routine
   lent-height-run =
       ∥∥₁_elim (with-clock start ⟦ ftrue ⟧₀ All (lies-too ftrue tt tt)) ∥∥₁_prop (λ m.
-      let fit : Fit (sees Clock_type.the_row full_share v m.0 0 ∷ value u32 0 (u 0) ∷ []) = ((refl, lit< tt), tt) in
+      let fit : Fit (sees ClockType.the_row full_share v m.0 0 ∷ value u32 0 (u 0) ∷ []) = ((refl, lit< tt), tt) in
       ∥∥₁_map (e.lent_heights full_share m.0 0 0 (u 0) fit m.1 All m.2) (λ k. (v, Run.lent_heights (ran-from m.1 All fit m.2 k), refl)))
 
   held-height-run : Next v (Height 0) held_height_code.routine
   held-height-run =
       ∥∥₁_elim (with-clock start ⟦ ftrue ⟧₀ All (lies-too ftrue tt tt)) ∥∥₁_prop (λ m.
-      let fit : Fit (sees Clock_type.the_row full_share v m.0 0 ∷ value u32 0 (u 0) ∷ []) = ((refl, lit< tt), tt) in
+      let fit : Fit (sees ClockType.the_row full_share v m.0 0 ∷ value u32 0 (u 0) ∷ []) = ((refl, lit< tt), tt) in
       ∥∥₁_map (e.held_heights full_share m.0 0 0 (u 0) fit m.1 All m.2) (λ k. (v, Run.held_heights (ran-from m.1 All fit m.2 k), refl)))
 
   held-series-run : Next v (Series 0 1 (pos 0 ∷ [])) held_series_code.routine
@@ -391,14 +391,14 @@ module _ (v : Val) (e : Every_call_ends v) where
       ∥∥₁_elim (nought-lies [] (lies-too ftrue tt tt)) ∥∥₁_prop (λ r.
       let place : List Handed = writes i64 (pos 0 ∷ []) r.0 0 ∷ [] in
       ∥∥₁_elim (with-clock r.1 ⟦ lie place ⟧₀ All r.2) ∥∥₁_prop (λ m.
-      let fit : Fit (sees Clock_type.the_row full_share v m.0 0 ∷ value u32 0 (u 0) ∷ value u32 1 (u 1) ∷ place) = ((refl, lit< tt), ((refl, lit< tt), ((lit< tt, lit< tt), tt))) in
+      let fit : Fit (sees ClockType.the_row full_share v m.0 0 ∷ value u32 0 (u 0) ∷ value u32 1 (u 1) ∷ place) = ((refl, lit< tt), ((refl, lit< tt), ((lit< tt, lit< tt), tt))) in
       ∥∥₁_map (e.held_serieses full_share m.0 0 0 1 (u 0) (u 1) (pos 0 ∷ []) r.0 0 fit m.1 All m.2) (λ k. (v, Run.held_serieses (ran-from m.1 All fit m.2 k), refl))))
 
   held-turns-run : Next v (Turns 0 360 [] []) held_turns_code.routine
   held-turns-run =
       let none : List Handed = writes u32 [] 0 0 ∷ writes i64 [] 0 0 ∷ [] in
       ∥∥₁_elim (with-clock start ⟦ lie none ⟧₀ All (lies-too (lie none) (tt, (tt, tt)) (tt, (tt, tt)))) ∥∥₁_prop (λ m.
-      let fit : Fit (sees Clock_type.the_row full_share v m.0 0 ∷ value u32 0 (u 0) ∷ value u32 360 (u 360) ∷ none) = ((refl, lit< tt), ((refl, lit< tt), ((lit< tt, lit< tt), ((lit< tt, lit< tt), tt)))) in
+      let fit : Fit (sees ClockType.the_row full_share v m.0 0 ∷ value u32 0 (u 0) ∷ value u32 360 (u 360) ∷ none) = ((refl, lit< tt), ((refl, lit< tt), ((lit< tt, lit< tt), ((lit< tt, lit< tt), tt)))) in
       ∥∥₁_map (e.held_searches full_share m.0 0 0 360 (u 0) (u 360) [] 0 0 [] 0 0 fit m.1 All m.2) (λ k. (v, Run.held_searches (ran-from m.1 All fit m.2 k), refl)))
 
   held-year-run : Next v (Year year-sheet (pos 0 ∷ []) [] []) held_year_code.routine
@@ -408,7 +408,7 @@ module _ (v : Val) (e : Every_call_ends v) where
       let lent : List Handed = writes i64 (pos 0 ∷ []) r.0 0 ∷ none in
       ∥∥₁_elim (with-clock r.1 ⟦ lie lent ⟧₀ All r.2) ∥∥₁_prop (λ m.
       let numbers : List Handed = value u32 1976 (u 1976) ∷ value u32 0 (u 0) ∷ value u32 1 (u 1) ∷ value u32 0 (u 0) ∷ value u32 360 (u 360) ∷ lent in
-      let fit : Fit (sees Clock_type.the_row full_share v m.0 0 ∷ numbers) = ((refl, lit< tt), ((refl, lit< tt), ((refl, lit< tt), ((refl, lit< tt), ((refl, lit< tt), ((lit< tt, lit< tt), ((lit< tt, lit< tt), ((lit< tt, lit< tt), tt)))))))) in
+      let fit : Fit (sees ClockType.the_row full_share v m.0 0 ∷ numbers) = ((refl, lit< tt), ((refl, lit< tt), ((refl, lit< tt), ((refl, lit< tt), ((refl, lit< tt), ((lit< tt, lit< tt), ((lit< tt, lit< tt), ((lit< tt, lit< tt), tt)))))))) in
       ∥∥₁_map (e.held_years full_share m.0 0 year-sheet (u 1976) (u 0) (u 1) (u 0) (u 360) (pos 0 ∷ []) r.0 0 [] 0 0 [] 0 0 fit m.1 All m.2) (λ k.
       (v, Run.held_years {sheet = year-sheet} (ran-from m.1 All fit m.2 k), refl))))
 
@@ -416,21 +416,21 @@ module _ (v : Val) (e : Every_call_ends v) where
   lent-bookings-run =
       ∥∥₁_elim booked-lie ∥∥₁_prop (λ r.
       ∥∥₁_elim (with-clock r.2 ⟦ lie (booked r.0 r.1) ⟧₀ All r.3) ∥∥₁_prop (λ m.
-      let fit : Fit (sees Clock_type.the_row full_share v m.0 0 ∷ booked r.0 r.1) = booked-fit r.0 r.1 in
+      let fit : Fit (sees ClockType.the_row full_share v m.0 0 ∷ booked r.0 r.1) = booked-fit r.0 r.1 in
       ∥∥₁_map (e.lent_bookings full_share m.0 0 three_minutes full_share r.0 0 three_places r.1 0 fit m.1 All m.2) (λ k. (v, Run.lent_bookings {q = full_share} (ran-from m.1 All fit m.2 k), refl))))
 
   held-bookings-run : Next v (Bookings three_minutes three_places) held_booking_code.routine
   held-bookings-run =
       ∥∥₁_elim booked-lie ∥∥₁_prop (λ r.
       ∥∥₁_elim (with-clock r.2 ⟦ lie (booked r.0 r.1) ⟧₀ All r.3) ∥∥₁_prop (λ m.
-      let fit : Fit (sees Clock_type.the_row full_share v m.0 0 ∷ booked r.0 r.1) = booked-fit r.0 r.1 in
+      let fit : Fit (sees ClockType.the_row full_share v m.0 0 ∷ booked r.0 r.1) = booked-fit r.0 r.1 in
       ∥∥₁_map (e.held_bookings full_share m.0 0 three_minutes full_share r.0 0 three_places r.1 0 fit m.1 All m.2) (λ k. (v, Run.held_bookings {q = full_share} (ran-from m.1 All fit m.2 k), refl))))
 
   held-hourly-run : Next v cards_asked held_hourly_code.routine
   held-hourly-run =
       ∥∥₁_elim carding-lie ∥∥₁_prop (λ r.
       ∥∥₁_elim (with-clock r.1 ⟦ lie (carding r.0) ⟧₀ All r.2) ∥∥₁_prop (λ m.
-      let fit : Fit (sees Clock_type.the_row full_share v m.0 0 ∷ carding r.0) = carding-fit r.0 in
+      let fit : Fit (sees ClockType.the_row full_share v m.0 0 ∷ carding r.0) = carding-fit r.0 in
       ∥∥₁_map (e.held_hourlies full_share m.0 0 station_number (u station_number) (stars 4_300) r.0 0 fit m.1 All m.2) (λ k. (v, Run.held_hourlies (ran-from m.1 All fit m.2 k), refl))))
 
   held-names-run : Next v Names held_names_code.routine
@@ -453,8 +453,8 @@ one-more-routine (y then ys) x = ap (◌∷◌ (routine_of y)) (one-more-routine
 abbrev Reached : Val → List Request → List Routine → Type 2
 Reached vc qs fs = ∥ ((vc' : Val) × (xs : Runs vc qs vc') × (routines_of xs ≡ fs)) ∥₁
 
-module _ (always : Always_ends) where
-  next : {vc : Val} {q : Request} {f : Routine} (qs : List Request) {fs : List Routine} → Started vc → ((v : Val) → Every_call_ends v → Next v q f) → Reached vc qs fs → Reached vc (qs ++ q ∷ []) (fs ++ f ∷ [])
+module _ (always : AlwaysEnds) where
+  next : {vc : Val} {q : Request} {f : Routine} (qs : List Request) {fs : List Routine} → Started vc → ((v : Val) → EveryCallEnds v → Next v q f) → Reached vc qs fs → Reached vc (qs ++ q ∷ []) (fs ++ f ∷ [])
   next {vc} qs started one xs =
       ∥∥₁_elim xs ∥∥₁_prop (λ x. ∥∥₁_elim (always.then vc x.0 qs started x.1) ∥∥₁_prop (λ ends. ∥∥₁_map (one x.0 ends) (λ y.
       (y.0, one_more x.1 y.1, one-more-routine x.1 y.1 ∙ ap₂ (λ (gs : List Routine) (g : Routine). gs ++ g ∷ []) x.2 y.2))))
@@ -469,9 +469,9 @@ module _ (always : Always_ends) where
   pub new-run : ∥ Ran new_code.routine [] [] ∥₁
   new-run = ∥∥₁_map (always.new tt start All (lies-too ftrue tt tt)) (ran-of All tt (lies-too ftrue tt tt))
 
-  pub held-new-run : ∥ ((b : ℕ) × Ran held_new_code.routine [] (changes Clock_type.the_row (zero_of Clock_laws.mir) b 0 ∷ [])) ∥₁
+  pub held-new-run : ∥ ((b : ℕ) × Ran held_new_code.routine [] (changes ClockType.the_row (zero_of ClockLaws.mir) b 0 ∷ [])) ∥₁
   held-new-run =
-      ∥∥₁_elim (laid Clock_type.the_row (clock-means zeroed (zero_of Clock_laws.mir) zeros-are-zeroed) clock-lawful start (⟦ ftrue ⟧₀ ∗ All) (lies-too ftrue tt tt)) ∥∥₁_prop (λ m.
-      let clock : Assertion = ⟦ At Clock_type.the_row full_share (zero_of Clock_laws.mir) m.0 0 ⟧₀ in
+      ∥∥₁_elim (laid ClockType.the_row (clock-means zeroed (zero_of ClockLaws.mir) zeros-are-zeroed) clock-lawful start (⟦ ftrue ⟧₀ ∗ All) (lies-too ftrue tt tt)) ∥∥₁_prop (λ m.
+      let clock : Assertion = ⟦ At ClockType.the_row full_share (zero_of ClockLaws.mir) m.0 0 ⟧₀ in
       let lies : m.1 ⊨ (clock ∗ ⟦ ftrue ⟧₀) ∗ All = sat_weaken w₀.𝓤 w₀.𝓛.H w₀.𝓜 m.1 (assoc' w₀.𝓤 clock ⟦ ftrue ⟧₀ All) m.2 in
-      ∥∥₁_map (always.held_new zeroed (zero_of Clock_laws.mir) zeros-are-zeroed m.0 0 tt m.1 All lies) (λ k. (m.0, ran-from m.1 All tt lies k)))
+      ∥∥₁_map (always.held_new zeroed (zero_of ClockLaws.mir) zeros-are-zeroed m.0 0 tt m.1 All lies) (λ k. (m.0, ran-from m.1 All tt lies k)))

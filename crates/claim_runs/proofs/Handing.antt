@@ -12,16 +12,16 @@ use prog.Routine.{Routine, ◌≼◌}
 use types.Logic.{Logic}
 use contract.Adequate.{sat_weaken, sat_⇛, sat_ex∗, sat_fact}
 use denote.Laws.{Is}
-use denote.Rattle_type.{owns}
+use denote.RattleType.{owns}
 use denote.Shadow.{shadow, shows_shadow}
 use denote.Signature.{type_at}
 use denote.Triple.Bound as entering
 use denote.Triple.Clauses.{Ended, Lasts, lasts}
 use denote.Triple.Entry.{Res, alive}
 use borrow.Fn.World.{w₀}
-use Rattle.claim.specs.Calls.{Clauses_of, Once}
+use Rattle.claim.specs.Calls.{ClausesOf, Once}
 use Rattle.claim_runs.specs.Handed.{Assertion, ◌∗◌, ⟦◌⟧₀, ◌⊨◌, Handed, passed, Fit, lie, lie_after}
-use Rattle.claim_runs.proofs.Lending.{Meant, Names, types_of, denotes, values_of, lender, Lasting, ends, As_many, as_many, lie_again, written, Stand, stand, Made, tokens, Lent, lend-all, lie-after, hand-over, hand-back}
+use Rattle.claim_runs.proofs.Lending.{Meant, Names, types_of, denotes, values_of, lender, Lasting, ends, AsMany, as_many, lie_again, written, Stand, stand, Made, tokens, Lent, lend-all, lie-after, hand-over, hand-back}
 use Rattle.claim_runs.proofs.Ran.{Theorem, Entry, Ghosts, Brings, Returned, returns, every-return}
 
 -- the closed model's rules
@@ -39,7 +39,7 @@ Tokens hs ns = tokens w₀.𝓛 hs ns
 same : (P : Assertion) {P' : Assertion} → P ≡ P' → P ⊢ P'
 same P e = subst (λ (R : Assertion). P ⊢ R) e (id⊢ w₀.𝓤 P)
 
-module _ (T : Ended) (C : Clauses_of T) (hs : List Handed) (ms : Meant hs) where
+module _ (T : Ended) (C : ClausesOf T) (hs : List Handed) (ms : Meant hs) where
   -- The function's parameters are what is handed over, its `requires` is Q, and what it says of them at its end is what is said of their last
   -- elements and values: of each function the equations hold by computing. (`enters` has the lifetimes, shares, arguments and machine's values with which
   -- it is entered.)
@@ -63,7 +63,7 @@ module _ (T : Ended) (C : Clauses_of T) (hs : List Handed) (ms : Meant hs) where
       pub is : Is (type_at T.signature.result (takes.enters names).0.0) result (v ∷ [])
       pub once : Once T C (takes.enters names).0.0 (takes.enters names).0.3 result last
       pub leaves : σ' ⊨ ⟦ lie_after hs (written hs ms (takes.writes names last).0) ⟧₀ ∗ F
-      pub as_many : As_many hs (takes.writes names last).0
+      pub as_many : AsMany hs (takes.writes names last).0
       pub stand : Stand hs ms (takes.writes names last).0
 
     came : (ns : Names hs) (v : Val) (σ' : Memory) (F : Assertion) → Returned T C (entry ns) (ghosts ns) v σ' (⟦ lender hs ms ns ⟧₀ ∗ F) → ∥ Came v σ' F ∥₁

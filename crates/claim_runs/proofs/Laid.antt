@@ -6,24 +6,24 @@ use mathlib.Core.Logic.{∥∥₁_map}
 use mathlib.Core.Path.{◌≡◌, refl, sym, subst}
 use mathlib.Core.Option.{some}
 use lib.Dec.{T}
-use lib.List_n.{length}
+use lib.ListN.{length}
 use seplogic.Bi.Sat
 use seplogic.Bi.Sat.{Sat}
-use seplogic.Ra.Tree_share.{full_share}
+use seplogic.Ra.TreeShare.{full_share}
 use mir.Syntax.{Ty, ty_array}
 use mir.Val.{Val, WT, has_ty}
 use base.Logic.{ent, emp, id⊢, ex, guard, upd, via, mono_l, mono_r, assoc∗, assoc', fst∗, snd∗, ex∗, ex_i, guard_e, Sat_exists, upd_mono, upd_frame}
 use base.Fml.{Fml, feq, fat}
 use prog.Memory.{Memory, alloc_m, store_m}
 use contract.Adequate.{Satisfies, sat_upd, sat_weaken}
-use types.Sem_ty.{cells}
+use types.SemTy.{cells}
 use types.Share.{parts}
 use denote.Array.{each, array_val, Array, Array-Tells, Array-Makes, Array-Lawful}
-use denote.Array_memory.{Single, Array-apart}
+use denote.ArrayMemory.{Single, Array-apart}
 use denote.Laws.{Typed, Is, Makes, Lawful}
 use denote.Lowered.{Lowered}
 use denote.Memory.{cell_at, lone, part_at, mem, shares}
-use denote.Rattle_type.{Rattle_type}
+use denote.RattleType.{RattleType}
 use denote.Shadow.{shadow}
 use borrow.Fn.World.{w₀}
 use Rattle.claim_runs.specs.Handed.{Assertion, ◌∗◌, ⟦◌⟧₀, ◌⊨◌, Handed, reads, writes, Lie, At, lie}
@@ -63,7 +63,7 @@ stored σ τ b v is-typed fits F s =
     ))
 
 -- the machine's value v of the type R, which stands for something
-pub laid : (R : Rattle_type) {v : Val} → Means R v → Lawful w₀.𝓛 R → (σ : Memory) (F : Assertion) → σ ⊨ F → ∥ ((b : ℕ) × (σ' : Memory) × (σ' ⊨ ⟦ At R full_share v b 0 ⟧₀ ∗ F)) ∥₁
+pub laid : (R : RattleType) {v : Val} → Means R v → Lawful w₀.𝓛 R → (σ : Memory) (F : Assertion) → σ ⊨ F → ∥ ((b : ℕ) × (σ' : Memory) × (σ' ⊨ ⟦ At R full_share v b 0 ⟧₀ ∗ F)) ∥₁
 laid R {v} m lawful σ F s =
     let τ : Ty = m.lowers.mir in
     let typed : Typed (τ ∷ []) (v ∷ []) = subst (λ (τs : List Ty). Typed τs (v ∷ [])) m.lowers.layout_is (lawful.typed m.it (v ∷ []) m.is) in
@@ -77,17 +77,17 @@ laid R {v} m lawful σ F s =
 -- ---- a buffer, laid as an array
 
 -- a type whose values are had for nothing, and have one machine's value each
-pub record Lays (R : Rattle_type) : Type 1 where
+pub record Lays (R : RattleType) : Type 1 where
   pub lowers : Lowered R
   pub makes : Makes w₀.𝓛 R (Is R)
   pub lawful : Lawful w₀.𝓛 R
 
 -- a whole share of each element is the elements
-all-cells : (R : Rattle_type) (xs : List R.Denot) (b o : ℕ) → ent w₀.𝓤 ⟦ parts (mem R) (shares R) full_share xs b o ⟧₀ ⟦ cells (mem R) xs b o ⟧₀
+all-cells : (R : RattleType) (xs : List R.Denot) (b o : ℕ) → ent w₀.𝓤 ⟦ parts (mem R) (shares R) full_share xs b o ⟧₀ ⟦ cells (mem R) xs b o ⟧₀
 all-cells R [] b o = id⊢ w₀.𝓤 (emp w₀.𝓤)
 all-cells R (x ∷ xs) b o = mono_r w₀.𝓤 ⟦ part_at R full_share x b o ⟧₀ (all-cells R xs b (o + (mem R).size))
 
-module _ (R : Rattle_type) (lays : Lays R) (xs : List R.Denot) (us : List Val) (are : shadow (each R.Denot R.own xs us)) (hs : List Handed) (σ : Memory) (F : Assertion) (s : σ ⊨ ⟦ lie hs ⟧₀ ∗ F) where
+module _ (R : RattleType) (lays : Lays R) (xs : List R.Denot) (us : List Val) (are : shadow (each R.Denot R.own xs us)) (hs : List Handed) (σ : Memory) (F : Assertion) (s : σ ⊨ ⟦ lie hs ⟧₀ ∗ F) where
   abbrev n : ℕ
   n = length xs
 

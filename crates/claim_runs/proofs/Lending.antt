@@ -3,9 +3,9 @@
 use Prim.Native.Nat.{ℕ, suc}
 use mathlib.Core.List.{List, [], ◌∷◌}
 use mathlib.Core.Path.{◌≡◌, refl, sym, subst, ◌∙◌}
-use lib.List_n.{length}
+use lib.ListN.{length}
 use seplogic.Ra.Ura.{Ura}
-use seplogic.Ra.Tree_share.{full_share}
+use seplogic.Ra.TreeShare.{full_share}
 use mir.Syntax.{named}
 use mir.Val.{Val, vptr}
 use base.Logic.{SProp, ent, sep, ex, emp, id⊢, via, mono_r, mono∗}
@@ -14,26 +14,26 @@ use types.Logic.{Logic, sem}
 use contract.Lifetimes.{Lfts, Shares}
 use types.Kit.{‵, raw, ◌⊛◌, some, later, ◌$◌, ◌∵◌, !, qed, move, keep, drop, rewrite, use0, use1, use3, split, join, pick, fsplit, fjoin, fpick, fpack, await, updating, now as at_once, show, done}
 use types.Tokens.{lft_new, lft_end, lent_back}
-use types.Sem_ty.{cells, Arr, Body}
-use denote.Rattle_type.{Rattle_type, Denots, Valss, owns}
+use types.SemTy.{cells, Arr, Body}
+use denote.RattleType.{RattleType, Denots, Valss, owns}
 use denote.Laws.{Is, Makes, shows}
 use denote.Lend.{Held, lends_slice, slice_back, lends_shr_slice, lends_ref, ref_back, lends_shr}
 use denote.Lowered.{Lowered}
 use denote.Memory.{cell_at, part_at, part_of, mem}
-use denote.Ref.{Mut_bor, Mut_ref, Shr_ref}
+use denote.Ref.{MutBor, MutRef, ShrRef}
 use denote.Shadow.{shadow}
-use denote.Slice.{slice_val, Mut_slice, Shr_slice, Room, finally}
+use denote.Slice.{slice_val, MutSlice, ShrSlice, Room, finally}
 use denote.Steps.{owned, facts, nothing}
 use Rattle.claim_runs.specs.Handed.{Handed, value, reads, writes, sees, changes, Fit, Lie, At, lie, Written, lie_after}
 
 -- the reference to what lies at (b, o)
-abbrev pub lent : {X : Type 0} → ℕ → ℕ → GName → X → Mut_bor X
+abbrev pub lent : {X : Type 0} → ℕ → ℕ → GName → X → MutBor X
 lent b o γ x = record { ref_ptr = (b, o); ghost_name = γ; now = x }
 
 -- ---- what the structs in memory stand for
 
 -- what the machine's value v stands for, of a type whose values have one machine's value each
-pub record Means (R : Rattle_type) (v : Val) : Type 0 where
+pub record Means (R : RattleType) (v : Val) : Type 0 where
   pub it : R.Denot
   pub is : Is R it (v ∷ [])
   pub lowers : Lowered R
@@ -83,13 +83,13 @@ wholes (sees R q v b o ∷ hs) = (full_share, wholes hs)
 wholes (changes R v b o ∷ hs) = (full_share, wholes hs)
 
 -- the types, the first lifetime being number j, with what they denote and the machine's values
-abbrev pub types_of : ℕ → (hs : List Handed) → Names hs → List Rattle_type
+abbrev pub types_of : ℕ → (hs : List Handed) → Names hs → List RattleType
 types_of j [] ns = []
 types_of j (value R x v ∷ hs) ns = R ∷ types_of j hs ns
-types_of j (reads R q ys b o ∷ hs) ns = Shr_slice (named j) (ns.0.0 ∷ []) R ∷ types_of (suc j) hs ns.1
-types_of j (writes R ys b o ∷ hs) ns = Mut_slice (named j) (ns.0.0 ∷ []) R ∷ types_of (suc j) hs ns.1
-types_of j (sees R q v b o ∷ hs) ns = Shr_ref (named j) (ns.0.0 ∷ []) R ∷ types_of (suc j) hs ns.1
-types_of j (changes R v b o ∷ hs) ns = Mut_ref (named j) (ns.0.0 ∷ []) R ∷ types_of (suc j) hs ns.1
+types_of j (reads R q ys b o ∷ hs) ns = ShrSlice (named j) (ns.0.0 ∷ []) R ∷ types_of (suc j) hs ns.1
+types_of j (writes R ys b o ∷ hs) ns = MutSlice (named j) (ns.0.0 ∷ []) R ∷ types_of (suc j) hs ns.1
+types_of j (sees R q v b o ∷ hs) ns = ShrRef (named j) (ns.0.0 ∷ []) R ∷ types_of (suc j) hs ns.1
+types_of j (changes R v b o ∷ hs) ns = MutRef (named j) (ns.0.0 ∷ []) R ∷ types_of (suc j) hs ns.1
 
 abbrev pub denotes : (j : ℕ) (hs : List Handed) → Meant hs → (ns : Names hs) → Denots (types_of j hs ns)
 denotes j [] ms ns = tt
@@ -136,15 +136,15 @@ ends (sees R q v b o ∷ hs) ns ls = fsep ftrue (ends hs ns.1 ls)
 ends (changes R v b o ∷ hs) ns ls = fsep (fres ns.0.1 (R.coded.code ls.0)) (ends hs ns.1 ls.1)
 
 -- as many elements as there were
-abbrev pub As_many : (hs : List Handed) → Lasting hs → Type 0
-As_many [] ls = Unit {0}
-As_many (value R x v ∷ hs) ls = As_many hs ls
-As_many (reads R q ys b o ∷ hs) ls = As_many hs ls
-As_many (writes R ys b o ∷ hs) ls = (length ls.0 ≡ length ys) × As_many hs ls.1
-As_many (sees R q v b o ∷ hs) ls = As_many hs ls
-As_many (changes R v b o ∷ hs) ls = As_many hs ls.1
+abbrev pub AsMany : (hs : List Handed) → Lasting hs → Type 0
+AsMany [] ls = Unit {0}
+AsMany (value R x v ∷ hs) ls = AsMany hs ls
+AsMany (reads R q ys b o ∷ hs) ls = AsMany hs ls
+AsMany (writes R ys b o ∷ hs) ls = (length ls.0 ≡ length ys) × AsMany hs ls.1
+AsMany (sees R q v b o ∷ hs) ls = AsMany hs ls
+AsMany (changes R v b o ∷ hs) ls = AsMany hs ls.1
 
-pub as_many : (hs : List Handed) (ns : Names hs) (ls : Lasting hs) → shadow (ends hs ns ls) → As_many hs ls
+pub as_many : (hs : List Handed) (ns : Names hs) (ls : Lasting hs) → shadow (ends hs ns ls) → AsMany hs ls
 as_many [] ns ls s = tt
 as_many (value R x v ∷ hs) ns ls s = as_many hs ns ls s.1
 as_many (reads R q ys b o ∷ hs) ns ls s = as_many hs ns.1 ls s.1
@@ -261,26 +261,26 @@ module _ {M : Type 1} {𝓤 : Ura M} (𝓛 : Logic 𝓤) where
     take-shr P Says α = qed 𝓛 (‵ (flft (α ∷ []) full_share) ∷ ‵ (flent (α ∷ []) P) ∷ ‵ Says ∷ []) ∵ updating ! $ lft_end ! tt $ lent_back ! tt $ at_once ! $ keep ! (0 ∷ []) $ done !
 
     -- a buffer
-    take-mut : (R : Rattle_type) (n : ℕ) (zs : List R.Denot) (b o α : ℕ) (γ : GName)
+    take-mut : (R : RattleType) (n : ℕ) (zs : List R.Denot) (b o α : ℕ) (γ : GName)
         → ent 𝓤 (sep 𝓤 ⟦ flft (α ∷ []) full_share ⟧ (sep 𝓤 ⟦ flent (α ∷ []) (Held R n b o γ) ⟧ ⟦ fsep (finally R γ zs) (feq ℕ (length zs) n) ⟧)) (H.⇛ ⟦ cells (mem R) zs b o ⟧)
     take-mut R n zs b o α γ =
         qed 𝓛 (‵ (flft (α ∷ []) full_share) ∷ ‵ (flent (α ∷ []) (Held R n b o γ)) ∷ ‵ (fsep (finally R γ zs) (feq ℕ (length zs) n)) ∷ []) ∵ updating ! $ lft_end ! tt $ move ! (2 ∷ []) $ fsplit ! $ move ! (2 ∷ 3 ∷ 0 ∷ []) $
         use3 𝓛 (later (‵ ((Arr (mem R) n).own_at zs b o))) (slice_back 𝓛 R (α ∷ []) γ zs n b o) $ await ! tt $ at_once ! $ fsplit ! $ keep ! (1 ∷ []) $ done !
 
     -- a struct: what its type owns is made, and let go
-    pub owns-too : (R : Rattle_type) (q : Share) {v : Val} (m : Means R v) (b o : ℕ) → Makes 𝓛 R (Is R) → ent 𝓤 ⟦ At R q v b o ⟧ ⟦ part_at R q m.it b o ⟧
+    pub owns-too : (R : RattleType) (q : Share) {v : Val} (m : Means R v) (b o : ℕ) → Makes 𝓛 R (Is R) → ent 𝓤 ⟦ At R q v b o ⟧ ⟦ part_at R q m.it b o ⟧
     unfolding part_of
     owns-too R q {v} m b o makes =
         qed 𝓛 (‵ (At R q v b o) ∷ []) ∵ owned ! R (Is R) makes m.it (v ∷ []) m.is $ move ! (1 ∷ 0 ∷ []) $ fjoin ! $
         fpack ! (List Val) (λ vs. fsep (cell_at q R.mir vs b o) (R.own m.it vs)) (v ∷ []) $ done !
 
-    only-lies : (R : Rattle_type) (q : Share) (l : Lowered R) (x : R.Denot) (us : List Val) (b o : ℕ) → us ≡ l.lowered x ∷ [] → ent 𝓤 ⟦ part_at R q x b o ⟧ ⟦ cell_at q R.mir us b o ⟧
+    only-lies : (R : RattleType) (q : Share) (l : Lowered R) (x : R.Denot) (us : List Val) (b o : ℕ) → us ≡ l.lowered x ∷ [] → ent 𝓤 ⟦ part_at R q x b o ⟧ ⟦ cell_at q R.mir us b o ⟧
     unfolding part_of
     only-lies R q l x us b o e =
         qed 𝓛 (‵ (part_at R q x b o) ∷ []) ∵ fpick ! (λ vs. fsplit ! $ move ! (1 ∷ []) $ facts ! R (Is R) (shows 𝓛 R) x vs (λ is.
         rewrite ! 0 (λ (ws : List Val). ‵ (cell_at q R.mir ws b o)) (l.val_is x vs is ∙ sym e) refl $ done !))
 
-    take-changed : (R : Rattle_type) (x : R.Denot) (b o α : ℕ) (γ : GName)
+    take-changed : (R : RattleType) (x : R.Denot) (b o α : ℕ) (γ : GName)
         → ent 𝓤 (sep 𝓤 ⟦ flft (α ∷ []) full_share ⟧ (sep 𝓤 ⟦ flent (α ∷ []) (Body (mem R) b o γ) ⟧ ⟦ fres γ (R.coded.code x) ⟧)) (H.⇛ ⟦ part_at R full_share x b o ⟧)
     take-changed R x b o α γ =
         qed 𝓛 (‵ (flft (α ∷ []) full_share) ∷ ‵ (flent (α ∷ []) (Body (mem R) b o γ)) ∷ ‵ (fres γ (R.coded.code x)) ∷ []) ∵ updating ! $ lft_end ! tt $
@@ -297,23 +297,23 @@ module _ {M : Type 1} {𝓤 : Ura M} (𝓛 : Logic 𝓤) where
         pick ! (λ ns. split ! $ move ! (1 ∷ []) $ split ! $ owned ! R (Is R) made.0 x (v ∷ []) fit.0 $ fjoin ! $ move ! (2 ∷ 0 ∷ 1 ∷ []) $
         at_once ! $ show ! (Lent j (value R x v ∷ hs) ms) ns $ done !)
     lend-all j (reads R q ys b o ∷ hs) ms fit made =
-        let Own : ℕ → GName → Fml = λ α γ. (Shr_slice (named j) (α ∷ []) R).own_val (lent b o γ ys) (slice_val (b, o) (length ys) ∷ []) in
+        let Own : ℕ → GName → Fml = λ α γ. (ShrSlice (named j) (α ∷ []) R).own_val (lent b o γ ys) (slice_val (b, o) (length ys) ∷ []) in
         let Kept : ℕ → GName → Fml = λ α γ. Lie R q ys b o in
         lend-first (suc j) hs ms (Lie R q ys b o) Own Kept (lend-one (Lie R q ys b o) Own Kept (λ α. lends_shr_slice 𝓛 R (named j) (α ∷ []) q ys b o fit.0)) (lend-all (suc j) hs ms fit.1 made)
     lend-all j (writes R ys b o ∷ hs) ms fit made =
-        let Own : ℕ → GName → Fml = λ α γ. (Mut_slice (named j) (α ∷ []) R).own_val (lent b o γ ys) (slice_val (b, o) (length ys) ∷ []) in
+        let Own : ℕ → GName → Fml = λ α γ. (MutSlice (named j) (α ∷ []) R).own_val (lent b o γ ys) (slice_val (b, o) (length ys) ∷ []) in
         let Kept : ℕ → GName → Fml = λ α γ. Held R (length ys) b o γ in
         lend-first (suc j) hs ms (cells (mem R) ys b o) Own Kept (lend-one (cells (mem R) ys b o) Own Kept (λ α. lends_slice 𝓛 R (named j) (α ∷ []) ys b o fit.0)) (lend-all (suc j) hs ms fit.1 made)
     lend-all j (sees R q v b o ∷ hs) ms fit made =
         let x : R.Denot = ms.0.it in
-        let Own : ℕ → GName → Fml = λ α γ. (Shr_ref (named j) (α ∷ []) R).own_val (lent b o γ x) (vptr b o ∷ []) in
+        let Own : ℕ → GName → Fml = λ α γ. (ShrRef (named j) (α ∷ []) R).own_val (lent b o γ x) (vptr b o ∷ []) in
         let Kept : ℕ → GName → Fml = λ α γ. part_at R q x b o in
         lend-first (suc j) hs ms.1 (At R q v b o) Own Kept
         (lend-one (At R q v b o) Own Kept (λ α. via 𝓤 ⟦ part_at R q x b o ⟧ (owns-too R q ms.0 b o made.0) (lends_shr 𝓛 R (named j) (α ∷ []) q x b o)))
         (lend-all (suc j) hs ms.1 fit made.1)
     lend-all j (changes R v b o ∷ hs) ms fit made =
         let x : R.Denot = ms.0.it in
-        let Own : ℕ → GName → Fml = λ α γ. (Mut_ref (named j) (α ∷ []) R).own_val (lent b o γ x) (vptr b o ∷ []) in
+        let Own : ℕ → GName → Fml = λ α γ. (MutRef (named j) (α ∷ []) R).own_val (lent b o γ x) (vptr b o ∷ []) in
         let Kept : ℕ → GName → Fml = λ α γ. Body (mem R) b o γ in
         lend-first (suc j) hs ms.1 (At R full_share v b o) Own Kept
         (lend-one (At R full_share v b o) Own Kept (λ α. via 𝓤 ⟦ part_at R full_share x b o ⟧ (owns-too R full_share ms.0 b o made.0) (lends_ref 𝓛 R (named j) (α ∷ []) x b o)))

@@ -5,6 +5,6 @@ mod Parameters
 mod Values
 mod Loads
 mod Laid
-mod Each_kind
-pub mod On_machine
+mod EachKind
+pub mod OnMachine
 pub mod Accepted

@@ -5,26 +5,26 @@ use mathlib.Core.List.{List, [], ◌∷◌}
 use mathlib.Core.Logic.{∥∥₁_map, ∥∥₁_elim, ∥∥₁_prop}
 use mathlib.Core.Option.{Option, some}
 use mathlib.Core.Path.{◌≡◌, refl, sym, ap, ap₂, subst, ◌∙◌}
-use lib.Int_n.{ℤ}
-use lib.List_n.{length}
-use seplogic.Ra.Tree_share.{full_share}
+use lib.IntN.{ℤ}
+use lib.ListN.{length}
+use seplogic.Ra.TreeShare.{full_share}
 use mir.Syntax.{Width, w8, w32, w64, Ty, ty_int}
 use mir.Val.{Val, to_z, bytes}
-use mir.Val_laws.{to_z-of_z}
+use mir.ValLaws.{to_z-of_z}
 use base.Logic.{emp, never, never_e, via, mono_l, mono_r, comm∗, assoc∗, fst∗, snd∗}
 use base.Fml.{Share, Fml, ftrue, fsep, fat}
 use base.Stored.{Coded}
 use prog.Memory.{Memory, load_m, size}
 use contract.Adequate.{sat_weaken, sat_fact, sat_ex∗}
 use contract.Monad.{fact, guard→fact}
-use types.Sem_ty.{Sem_ty, cells}
+use types.SemTy.{SemTy, cells}
 use denote.Builtin.{u8, u32, i64}
 use denote.Laws.{Is}
 use denote.Memory.{mem, raw_all, cell_raw, lone, part_of}
-use denote.Rattle_type.{Rattle_type}
+use denote.RattleType.{RattleType}
 use denote.Shadow.{shadow, shows_shadow}
 use borrow.Fn.World.{w₀}
-use Rattle.clock.specs.contracts.Clock as Clock_type
+use Rattle.clock.specs.contracts.Clock as ClockType
 use Rattle.claim.specs.Zeroed.{zeroed}
 use Rattle.claim.proofs.Zeros.{zeros-are-zeroed}
 use Rattle.claim_runs.specs.Handed.{Assertion, ◌∗◌, ⟦◌⟧₀, ◌⊨◌, At}
@@ -66,7 +66,7 @@ module _ (σ : Memory) where
   cell-loads q (τ ∷ υ ∷ τs) vs b o F s = none-lies F s
 
 -- a struct's value
-pub value-loads : (σ : Memory) (R : Rattle_type) (q : Share) (v : Val) (b o : ℕ) (F : Assertion) → σ ⊨ ⟦ At R q v b o ⟧₀ ∗ F → ∥ (v ≡ value_at σ R b o) ∥₁
+pub value-loads : (σ : Memory) (R : RattleType) (q : Share) (v : Val) (b o : ℕ) (F : Assertion) → σ ⊨ ⟦ At R q v b o ⟧₀ ∗ F → ∥ (v ≡ value_at σ R b o) ∥₁
 unfolding value_at
 value-loads σ R q v b o F s = ∥∥₁_map (cell-loads σ q (raw_all R.mir) (v ∷ []) b o F s) (λ k. ap first k.1 ∙ sym (ap value_in k.2))
 
@@ -95,7 +95,7 @@ module _ (σ : Memory) (w : Width) {D : Type 0} (own : D → List Val → Fml) (
 
 -- numbers of the width w that lie side by side, of a type whose values can be read off the machine's
 module _ (w : Width) {D : Type 0} (c : Coded D) (own : D → List Val → Fml) (read : ℕ → D) (reads : (h : D) (v : Val) → shadow (own h (v ∷ [])) → read (number_in v) ≡ h) where
-  abbrev Number : Sem_ty
+  abbrev Number : SemTy
   Number = record { rep = D; coded = c; size = size (ty_int w); own_at = part_of (ty_int w ∷ []) own full_share }
 
   elements-read : (σ : Memory) (hs : List D) (b o : ℕ) (F : Assertion) → σ ⊨ ⟦ cells Number hs b o ⟧₀ ∗ F → ∥ (elements_at read w σ b o (length hs) ≡ hs) ∥₁
@@ -163,6 +163,6 @@ sheet-left σ ss ss' b o ms ms' b₁ o₁ hs hs' b₂ o₂ F l m n s =
 
 -- ---- memory of nothing but zeros
 
-pub zeros_load : Is Clock_type.the_row zeroed (clock_at zero_memory 0 0 ∷ [])
+pub zeros_load : Is ClockType.the_row zeroed (clock_at zero_memory 0 0 ∷ [])
 unfolding value_at
 zeros_load = zeros-are-zeroed

@@ -1,4 +1,4 @@
--- THE CLAIM, OF THE MACHINE (specs/On_machine.antt): each run is a call of `Calls`, so the clock that it leaves holds what the document works
+-- THE CLAIM, OF THE MACHINE (specs/OnMachine.antt): each run is a call of `Calls`, so the clock that it leaves holds what the document works
 -- out, and what it gives is what the document gives. Rests on each function's theorem (`Handing`) and on the claim's step for a call.
 -- Assumes nothing.
 use Prim.Native.Nat.{ℕ}
@@ -6,8 +6,8 @@ use mathlib.Core.List.{List, [], ◌∷◌}
 use mathlib.Core.HLevel.{⊥_prop, Unit-prop, ×_prop}
 use mathlib.Core.Logic.{∥∥₁_map, ∥∥₁_elim, ∥∥₁_prop}
 use mathlib.Core.Path.{◌≡◌, sym, ap, ap₂, subst, ◌∙◌}
-use lib.Int_n.{ℤ}
-use seplogic.Ra.Tree_share.{full_share}
+use lib.IntN.{ℤ}
+use seplogic.Ra.TreeShare.{full_share}
 use mir.Val.{Val}
 use base.Logic.{ent, emp}
 use base.Fml.{Share}
@@ -20,19 +20,19 @@ use denote.Laws.{Is}
 use borrow.Fn.World.{w₀}
 use Rattle.station.specs.Station.{station_lent}
 use Rattle.refusals.specs.Outcome.{Outcome}
-use Rattle.turns.specs.Written.{Turns_found}
+use Rattle.turns.specs.Written.{TurnsFound}
 use Rattle.clock.specs.declared.Clock.{Clock}
 use Rattle.clock.specs.declared.After.{After}
 use Rattle.clock.specs.View.{Made}
-use Rattle.clock.specs.contracts.Clock as Clock_type
-use Rattle.clock.proofs.Clock.The_laws as Clock_laws
-use Rattle.clock.specs.contracts.After as After_type
+use Rattle.clock.specs.contracts.Clock as ClockType
+use Rattle.clock.proofs.Clock.TheLaws as ClockLaws
+use Rattle.clock.specs.contracts.After as AfterType
 use Rattle.clock.specs.contracts.new as new
 use Rattle.clock.proofs.new.Symbol as new_code
 use Rattle.clock.proofs.new.Met as new_met
 use Rattle.cuvalimodo_c.specs.Answers as answers
 use Rattle.cuvalimodo_c.specs.declared.answers.Verdict.{Verdict}
-use Rattle.cuvalimodo_c.specs.contracts.answers.Verdict as Verdict_type
+use Rattle.cuvalimodo_c.specs.contracts.answers.Verdict as VerdictType
 use Rattle.cuvalimodo_c.specs.contracts.cuvalimodo_new as held_new
 use Rattle.cuvalimodo_c.proofs.cuvalimodo_new.Symbol as held_new_code
 use Rattle.cuvalimodo_c.proofs.cuvalimodo_new.Met as held_new_met
@@ -45,8 +45,8 @@ use Rattle.claim.proofs.Decided.{gave-once}
 use Rattle.claim.proofs.Claim.{Agrees, new-agrees, call-agrees}
 use Rattle.claim_runs.specs.Handed.{Assertion, ◌∗◌, ⟦◌⟧₀, ◌⊨◌, Handed, value, sees, changes, Lie, At, Written, lie_after, Ran, Leaves}
 use Rattle.claim_runs.specs.Values.{clock_in, answer_in, turns_in, cards_in, verdict_in, turnings_in, held_cards_in, clock_at}
-use Rattle.claim_runs.specs.Runs.{Run, loads, stations, placed, dates, heights, serieses, searches, years, bookings, hourlies, hands, held_loads, held_stations, held_dates, lent_heights, held_heights, held_serieses, held_searches, held_years, lent_bookings, held_bookings, held_hourlies, held_hands, Gives, Started, returned, left, zeros, Runs, done, ◌then◌, Give_all}
-use Rattle.claim_runs.specs.On_machine.{Of_any_runs, Returns, Every_call_ends, Always_ends}
+use Rattle.claim_runs.specs.Runs.{Run, loads, stations, placed, dates, heights, serieses, searches, years, bookings, hourlies, hands, held_loads, held_stations, held_dates, lent_heights, held_heights, held_serieses, held_searches, held_years, lent_bookings, held_bookings, held_hourlies, held_hands, Gives, Started, returned, left, zeros, Runs, done, ◌then◌, GiveAll}
+use Rattle.claim_runs.specs.OnMachine.{OfAnyRuns, Returns, EveryCallEnds, AlwaysEnds}
 use Rattle.claim_runs.proofs.Handing.{Came, comes, every-comes}
 use Rattle.claim_runs.proofs.Parameters.{clock-makes, clock-lawful, Callable, new-takes, load-call, station-call, placing-call, date-call, height-call, series-call, turns-call, year-call, bookings-call, hourly-call, names-call, clock-means, held-new-takes, held-load-call, held-station-call, held-date-call, lent-height-call, held-height-call, held-series-call, held-turns-call, held-year-call, lent-bookings-call, held-bookings-call, held-hourly-call, held-names-call}
 use Rattle.claim_runs.proofs.Loads.{zeros_load, in-front, behind, value-loads, heights-left, heights-left-behind, bytes_left, turns-left, sheet-left}
@@ -56,7 +56,7 @@ use Rattle.claim_runs.proofs.Values.{answer-reads, height-reads, turns-reads, ca
 -- a clock with the machine's value vc, whose state is what is worked out from l
 pub record Holds (vc : Val) (l : Last) : Type 0 where
   pub clock : Clock
-  pub is : Is Clock_type.the_row clock (vc ∷ [])
+  pub is : Is ClockType.the_row clock (vc ∷ [])
   pub agrees : Agrees clock l
 
 -- it is a clock that a call made
@@ -64,16 +64,16 @@ asked : {vc : Val} {l : Last} (h : Holds vc l) → ent w₀.𝓤 (emp w₀.𝓤)
 asked h = fact_i w₀.𝓤 (Made h.clock) (emp w₀.𝓤) h.agrees.made
 
 -- the machine's value that a run left in a clock's place is what is loaded there
-clock-left : {f : Routine} {hs : List Handed} {vc : Val} {b o : ℕ} (x : Ran f [] (changes Clock_type.the_row vc b o ∷ hs)) (ws : Written hs) (v : Val) → Leaves x (v, ws) → ∥ (v ≡ clock_at x.left b o) ∥₁
+clock-left : {f : Routine} {hs : List Handed} {vc : Val} {b o : ℕ} (x : Ran f [] (changes ClockType.the_row vc b o ∷ hs)) (ws : Written hs) (v : Val) → Leaves x (v, ws) → ∥ (v ≡ clock_at x.left b o) ∥₁
 clock-left {hs = hs} {b = b} {o = o} x ws v lies =
-    let P : Assertion = ⟦ At Clock_type.the_row full_share v b o ⟧₀ in
+    let P : Assertion = ⟦ At ClockType.the_row full_share v b o ⟧₀ in
     let Q : Assertion = ⟦ lie_after hs ws ⟧₀ in
-    value-loads x.left Clock_type.the_row full_share v b o (Q ∗ x.rest) (in-front x.left P Q x.rest lies)
+    value-loads x.left ClockType.the_row full_share v b o (Q ∗ x.rest) (in-front x.left P Q x.rest lies)
 
 -- what a run left beside a clock that it saw
-beside-clock : {f : Routine} {hs : List Handed} {vc : Val} {s : Share} {b o : ℕ} (x : Ran f [] (sees Clock_type.the_row s vc b o ∷ hs)) (ws : Written hs) → Leaves x ws
-    → x.left ⊨ ⟦ lie_after hs ws ⟧₀ ∗ (⟦ At Clock_type.the_row s vc b o ⟧₀ ∗ x.rest)
-beside-clock {hs = hs} {vc = vc} {s = s} {b = b} {o = o} x ws lies = behind x.left ⟦ At Clock_type.the_row s vc b o ⟧₀ ⟦ lie_after hs ws ⟧₀ x.rest lies
+beside-clock : {f : Routine} {hs : List Handed} {vc : Val} {s : Share} {b o : ℕ} (x : Ran f [] (sees ClockType.the_row s vc b o ∷ hs)) (ws : Written hs) → Leaves x ws
+    → x.left ⊨ ⟦ lie_after hs ws ⟧₀ ∗ (⟦ At ClockType.the_row s vc b o ⟧₀ ∗ x.rest)
+beside-clock {hs = hs} {vc = vc} {s = s} {b = b} {o = o} x ws lies = behind x.left ⟦ At ClockType.the_row s vc b o ⟧₀ ⟦ lie_after hs ws ⟧₀ x.rest lies
 
 module _ {vc : Val} (l : Last) (h : Holds vc l) where
   -- a run of a function of the clock that is handed this one
@@ -82,25 +82,25 @@ module _ {vc : Val} (l : Last) (h : Holds vc l) where
       every-comes t.ended t.clauses hs t.meant t.takes f t.met t.makes (asked h) x.fit x.before x.rest x.lent x.routine x.below x.value x.left x.run
 
   -- a run on this value is a run that is handed the clock
-  abbrev on_value : {f : Routine} {hs : List Handed} → Ran f (vc ∷ []) hs → Ran f [] (value Clock_type.the_row h.clock vc ∷ hs)
+  abbrev on_value : {f : Routine} {hs : List Handed} → Ran f (vc ∷ []) hs → Ran f [] (value ClockType.the_row h.clock vc ∷ hs)
   on_value x =
       record { routine = x.routine; below = x.below; fit = (h.is, x.fit); before = x.before; rest = x.rest; lent = x.lent; value = x.value; left = x.left; run = x.run }
 
   -- what a call gives is what the document gives; it leaves a clock, in what it returns, in memory, or the one that it got
-  leaves : {q : Request} {g : Gave} {c' : Clock} {v : Val} → Is Clock_type.the_row c' (v ∷ []) → Call h.clock q g c' → ∥ ((gives l q ≡ g) × Holds v (after l q)) ∥₁
+  leaves : {q : Request} {g : Gave} {c' : Clock} {v : Val} → Is ClockType.the_row c' (v ∷ []) → Call h.clock q g c' → ∥ ((gives l q ≡ g) × Holds v (after l q)) ∥₁
   leaves {c' = c'} is k = ∥∥₁_map (call-agrees l h.agrees k) (λ a. (sym a.0, record { clock = c'; is = is; agrees = a.1 }))
 
-  left-anew : {q : Request} {g : Gave} {v : Val} (r : After) → Is After_type.the_row r (v ∷ []) → Call h.clock q g r.clock → ∥ ((gives l q ≡ g) × Holds (clock_in v) (after l q)) ∥₁
+  left-anew : {q : Request} {g : Gave} {v : Val} (r : After) → Is AfterType.the_row r (v ∷ []) → Call h.clock q g r.clock → ∥ ((gives l q ≡ g) × Holds (clock_in v) (after l q)) ∥₁
   left-anew r is k = leaves (clock-is r _ is) k
 
   left-same : {q : Request} {g : Gave} → Call h.clock q g h.clock → ∥ ((gives l q ≡ g) × Holds vc (after l q)) ∥₁
   left-same k = leaves h.is k
 
-  left_there : {f : Routine} {hs : List Handed} {b o : ℕ} {q : Request} (x : Ran f [] (changes Clock_type.the_row vc b o ∷ hs)) (ws : Written hs) (r : Verdict) (c' : Clock)
-      → Is Verdict_type.the_row r (x.value ∷ []) → Is Clock_type.the_row c' (Clock_laws.lowered c' ∷ []) → Leaves x (Clock_laws.lowered c', ws) → Call h.clock q (told (answers.verdict_returned r)) c'
+  left_there : {f : Routine} {hs : List Handed} {b o : ℕ} {q : Request} (x : Ran f [] (changes ClockType.the_row vc b o ∷ hs)) (ws : Written hs) (r : Verdict) (c' : Clock)
+      → Is VerdictType.the_row r (x.value ∷ []) → Is ClockType.the_row c' (ClockLaws.lowered c' ∷ []) → Leaves x (ClockLaws.lowered c', ws) → Call h.clock q (told (answers.verdict_returned r)) c'
       → ∥ ((Leaves x (clock_at x.left b o, ws) × (gives l q ≡ told (verdict_in x.value))) × Holds (clock_at x.left b o) (after l q)) ∥₁
   left_there {b = b} {o = o} {q = q} x ws r c' is is-clock lies k =
-      ∥∥₁_elim (clock-left x ws (Clock_laws.lowered c') lies) ∥∥₁_prop (λ e.
+      ∥∥₁_elim (clock-left x ws (ClockLaws.lowered c') lies) ∥∥₁_prop (λ e.
       ∥∥₁_map (leaves is-clock k) (λ a.
       subst (λ (v : Val). (Leaves x (v, ws) × (gives l q ≡ told (verdict_in x.value))) × Holds v (after l q)) e ((lies, a.0 ∙ ap told (sym (verdict-reads r x.value is))), a.1)))
 
@@ -151,7 +151,7 @@ module _ {vc : Val} (l : Last) (h : Holds vc l) where
       ∥∥₁_map (left-same (call.searches k.once)) (λ a. (
         subst (λ (zs : List ℕ × List ℤ). Leaves x (zs.0, (zs.1, tt)) × (gives l (Turns first last ms hs) ≡ found (record { returned = turns_in x.value; minutes = zs.0; heights = zs.1 })))
             (ap₂ (λ (ys : List ℕ) (zs : List ℤ). (ys, zs)) e.0 e.1)
-            (k.leaves, a.0 ∙ ap (λ (r : Outcome Turns_found). found (record { returned = r; minutes = ms'; heights = hs' })) (sym (turns-reads k.result x.value k.is))),
+            (k.leaves, a.0 ∙ ap (λ (r : Outcome TurnsFound). found (record { returned = r; minutes = ms'; heights = hs' })) (sym (turns-reads k.result x.value k.is))),
         a.1,
       ))))
   run-gives (years {sheet = sheet} {vs = vs} {ss = ss} {b = b} {o = o} {ms = ms} {b₁ = b₁} {o₁ = o₁} {hs = hs} {b₂ = b₂} {o₂ = o₂} x) =
@@ -162,7 +162,7 @@ module _ {vc : Val} (l : Last) (h : Holds vc l) where
       ∥∥₁_elim (sheet-left x.left ss ss' b o ms ms' b₁ o₁ hs hs' b₂ o₂ x.rest k.as_many.0 k.as_many.1.0 k.as_many.1.1.0 k.leaves) ∥∥₁_prop (λ e.
       ∥∥₁_map (left-same (call.years k.once)) (λ a. (
         subst (λ (zs : List ℤ × (List ℕ × List ℤ)). Leaves x (zs.0, (zs.1.0, (zs.1.1, tt))) × (gives l (Year sheet ss ms hs) ≡ filled (record { returned = turns_in x.value; series = zs.0; minutes = zs.1.0; heights = zs.1.1 }))) e
-            (k.leaves, a.0 ∙ ap (λ (r : Outcome Turns_found). filled (record { returned = r; series = ss'; minutes = ms'; heights = hs' })) (sym (turns-reads k.result x.value k.is))),
+            (k.leaves, a.0 ∙ ap (λ (r : Outcome TurnsFound). filled (record { returned = r; series = ss'; minutes = ms'; heights = hs' })) (sym (turns-reads k.result x.value k.is))),
         a.1,
       ))))
   run-gives (bookings {minutes = minutes} {q = q} {b = b} {o = o} {hs = hs} {b₁ = b₁} {o₁ = o₁} x) =
@@ -192,16 +192,16 @@ module _ {vc : Val} (l : Last) (h : Holds vc l) where
   run-gives (held_serieses {s = s} {b = b} {o = o} {start = start} {step = step} {vs = vs} {vt = vt} {hs = hs} {b₁ = b₁} {o₁ = o₁} x) =
       ∥∥₁_elim (ran (held-series-call h.clock vc h.is s b o start step vs vt hs b₁ o₁) x) ∥∥₁_prop (λ k.
       left-written heights-given {q = Series start step hs} (λ zs. Leaves x (zs, tt)) (verdict_in x.value) (verdict-reads k.result x.value k.is) k.leaves (call.held_serieses k.once)
-      (heights-left x.left hs _ b₁ o₁ (⟦ At Clock_type.the_row s vc b o ⟧₀ ∗ x.rest) k.as_many.0 (beside-clock x (k.last.1.1.1.0, tt) k.leaves)))
+      (heights-left x.left hs _ b₁ o₁ (⟦ At ClockType.the_row s vc b o ⟧₀ ∗ x.rest) k.as_many.0 (beside-clock x (k.last.1.1.1.0, tt) k.leaves)))
   run-gives (held_searches {s = s} {b = b} {o = o} {first = first} {last = last} {vf = vf} {vl = vl} {ms = ms} {b₁ = b₁} {o₁ = o₁} {hs = hs} {b₂ = b₂} {o₂ = o₂} x) =
       ∥∥₁_elim (ran (held-turns-call h.clock vc h.is s b o first last vf vl ms b₁ o₁ hs b₂ o₂) x) ∥∥₁_prop (λ k.
       let ms' : List ℕ = k.last.1.1.1.0 in
       let hs' : List ℤ = k.last.1.1.1.1.0 in
-      ∥∥₁_elim (turns-left x.left ms ms' b₁ o₁ hs hs' b₂ o₂ (⟦ At Clock_type.the_row s vc b o ⟧₀ ∗ x.rest) k.as_many.0 k.as_many.1.0 (beside-clock x (ms', (hs', tt)) k.leaves)) ∥∥₁_prop (λ e.
+      ∥∥₁_elim (turns-left x.left ms ms' b₁ o₁ hs hs' b₂ o₂ (⟦ At ClockType.the_row s vc b o ⟧₀ ∗ x.rest) k.as_many.0 k.as_many.1.0 (beside-clock x (ms', (hs', tt)) k.leaves)) ∥∥₁_prop (λ e.
       ∥∥₁_map (left-same (call.held_searches k.once)) (λ a. (
         subst (λ (zs : List ℕ × List ℤ). Leaves x (zs.0, (zs.1, tt)) × (gives l (Turns first last ms hs) ≡ found (record { returned = turnings_in x.value; minutes = zs.0; heights = zs.1 })))
             (ap₂ (λ (ys : List ℕ) (zs : List ℤ). (ys, zs)) e.0 e.1)
-            (k.leaves, a.0 ∙ ap (λ (r : Outcome Turns_found). found (record { returned = r; minutes = ms'; heights = hs' })) (sym (turnings-read k.result x.value k.is))),
+            (k.leaves, a.0 ∙ ap (λ (r : Outcome TurnsFound). found (record { returned = r; minutes = ms'; heights = hs' })) (sym (turnings-read k.result x.value k.is))),
         a.1,
       ))))
   run-gives (held_years {s = s} {b = b} {o = o} {sheet = sheet} {vy = vy} {vs = vs} {vt = vt} {vf = vf} {vl = vl} {ss = ss} {b₁ = b₁} {o₁ = o₁} {ms = ms} {b₂ = b₂} {o₂ = o₂} {hs = hs} {b₃ = b₃} {o₃ = o₃} x) =
@@ -209,24 +209,24 @@ module _ {vc : Val} (l : Last) (h : Holds vc l) where
       let ss' : List ℤ = k.last.1.1.1.1.1.1.0 in
       let ms' : List ℕ = k.last.1.1.1.1.1.1.1.0 in
       let hs' : List ℤ = k.last.1.1.1.1.1.1.1.1.0 in
-      ∥∥₁_elim (sheet-left x.left ss ss' b₁ o₁ ms ms' b₂ o₂ hs hs' b₃ o₃ (⟦ At Clock_type.the_row s vc b o ⟧₀ ∗ x.rest) k.as_many.0 k.as_many.1.0 k.as_many.1.1.0 (beside-clock x (ss', (ms', (hs', tt))) k.leaves)) ∥∥₁_prop (λ e.
+      ∥∥₁_elim (sheet-left x.left ss ss' b₁ o₁ ms ms' b₂ o₂ hs hs' b₃ o₃ (⟦ At ClockType.the_row s vc b o ⟧₀ ∗ x.rest) k.as_many.0 k.as_many.1.0 k.as_many.1.1.0 (beside-clock x (ss', (ms', (hs', tt))) k.leaves)) ∥∥₁_prop (λ e.
       ∥∥₁_map (left-same (call.held_years k.once)) (λ a. (
         subst (λ (zs : List ℤ × (List ℕ × List ℤ)). Leaves x (zs.0, (zs.1.0, (zs.1.1, tt))) × (gives l (Year sheet ss ms hs) ≡ filled (record { returned = turnings_in x.value; series = zs.0; minutes = zs.1.0; heights = zs.1.1 }))) e
-            (k.leaves, a.0 ∙ ap (λ (r : Outcome Turns_found). filled (record { returned = r; series = ss'; minutes = ms'; heights = hs' })) (sym (turnings-read k.result x.value k.is))),
+            (k.leaves, a.0 ∙ ap (λ (r : Outcome TurnsFound). filled (record { returned = r; series = ss'; minutes = ms'; heights = hs' })) (sym (turnings-read k.result x.value k.is))),
         a.1,
       ))))
   run-gives (lent_bookings {s = s} {b = b} {o = o} {minutes = minutes} {q = q} {b₁ = b₁} {o₁ = o₁} {hs = hs} {b₂ = b₂} {o₂ = o₂} x) =
       ∥∥₁_elim (ran (lent-bookings-call h.clock vc h.is s b o minutes q b₁ o₁ hs b₂ o₂) x) ∥∥₁_prop (λ k.
       left-written heights-given {q = Bookings minutes hs} (λ zs. Leaves x (zs, tt)) (answer_in x.value) (answer-reads k.result x.value k.is) k.leaves (call.lent_bookings k.once)
-      (heights-left-behind x.left (Lie u32 q minutes b₁ o₁) hs _ b₂ o₂ (⟦ At Clock_type.the_row s vc b o ⟧₀ ∗ x.rest) k.as_many.0 (beside-clock x (k.last.1.1.0, tt) k.leaves)))
+      (heights-left-behind x.left (Lie u32 q minutes b₁ o₁) hs _ b₂ o₂ (⟦ At ClockType.the_row s vc b o ⟧₀ ∗ x.rest) k.as_many.0 (beside-clock x (k.last.1.1.0, tt) k.leaves)))
   run-gives (held_bookings {s = s} {b = b} {o = o} {minutes = minutes} {q = q} {b₁ = b₁} {o₁ = o₁} {hs = hs} {b₂ = b₂} {o₂ = o₂} x) =
       ∥∥₁_elim (ran (held-bookings-call h.clock vc h.is s b o minutes q b₁ o₁ hs b₂ o₂) x) ∥∥₁_prop (λ k.
       left-written heights-given {q = Bookings minutes hs} (λ zs. Leaves x (zs, tt)) (verdict_in x.value) (verdict-reads k.result x.value k.is) k.leaves (call.held_bookings k.once)
-      (heights-left-behind x.left (Lie u32 q minutes b₁ o₁) hs _ b₂ o₂ (⟦ At Clock_type.the_row s vc b o ⟧₀ ∗ x.rest) k.as_many.0 (beside-clock x (k.last.1.1.0, tt) k.leaves)))
+      (heights-left-behind x.left (Lie u32 q minutes b₁ o₁) hs _ b₂ o₂ (⟦ At ClockType.the_row s vc b o ⟧₀ ∗ x.rest) k.as_many.0 (beside-clock x (k.last.1.1.0, tt) k.leaves)))
   run-gives (held_hourlies {s = s} {b = b} {o = o} {number = number} {vn = vn} {cards = cards} {b₁ = b₁} {o₁ = o₁} x) =
       ∥∥₁_elim (ran (held-hourly-call h.clock vc h.is s b o number vn cards b₁ o₁) x) ∥∥₁_prop (λ k.
       left-written cards-given {q = Hourly number cards} (λ zs. Leaves x (zs, tt)) (held_cards_in x.value) (held-cards-read k.result x.value k.is) k.leaves (call.held_hourlies k.once)
-      (bytes_left x.left cards _ b₁ o₁ (⟦ At Clock_type.the_row s vc b o ⟧₀ ∗ x.rest) k.as_many.0 (beside-clock x (k.last.1.1.0, tt) k.leaves)))
+      (bytes_left x.left cards _ b₁ o₁ (⟦ At ClockType.the_row s vc b o ⟧₀ ∗ x.rest) k.as_many.0 (beside-clock x (k.last.1.1.0, tt) k.leaves)))
   run-gives (held_hands {s = s} {b = b} {o = o} x) =
       ∥∥₁_elim (ran (held-names-call h.clock vc h.is s b o) x) ∥∥₁_prop (λ k.
       ∥∥₁_map (left-same (call.held_hands k.once)) (λ a. ((k.leaves, a.0 ∙ ap named (sym (names-read k.result x.value k.is))), a.1)))
@@ -235,10 +235,10 @@ module _ {vc : Val} (l : Last) (h : Holds vc l) where
   ends-lent : {f : Routine} {hs : List Handed} → Callable h.clock f hs → Returns f [] hs
   ends-lent {f} {hs} t fit σ F s = ∥∥₁_map (comes t.ended t.clauses hs t.meant t.takes f t.met t.makes (asked h) fit σ F s) (λ k. (k.0, k.1, k.2))
 
-  ends_on : {f : Routine} {hs : List Handed} → Callable h.clock f (value Clock_type.the_row h.clock vc ∷ hs) → Returns f (vc ∷ []) hs
+  ends_on : {f : Routine} {hs : List Handed} → Callable h.clock f (value ClockType.the_row h.clock vc ∷ hs) → Returns f (vc ∷ []) hs
   ends_on t fit = ends-lent t (h.is, fit)
 
-  every-call-ends : Every_call_ends vc
+  every-call-ends : EveryCallEnds vc
   every-call-ends =
       record {
         loads = λ file q b o. ends_on (load-call h.clock vc file q b o);
@@ -252,7 +252,7 @@ module _ {vc : Val} (l : Last) (h : Holds vc l) where
         bookings = λ minutes q b o hs b₁ o₁. ends_on (bookings-call h.clock vc minutes q b o hs b₁ o₁);
         hourlies = λ number vn cards b o. ends_on (hourly-call h.clock vc number vn cards b o);
         hands = ends_on (names-call h.clock vc);
-        laid = laid Clock_type.the_row (clock-means h.clock vc h.is) clock-lawful;
+        laid = laid ClockType.the_row (clock-means h.clock vc h.is) clock-lawful;
         held_loads = λ b o file q b₁ o₁. ends-lent (held-load-call h.clock vc h.is b o file q b₁ o₁);
         held_stations = λ b o latitude strides vl vt records q b₁ o₁. ends-lent (held-station-call h.clock vc h.is b o latitude strides vl vt records q b₁ o₁);
         held_dates = λ b o year month vy vm. ends-lent (held-date-call h.clock vc h.is b o year month vy vm);
@@ -268,18 +268,18 @@ module _ {vc : Val} (l : Last) (h : Holds vc l) where
       }
 
 -- the runs of a list give what the document gives, and leave a clock that holds what is worked out after them
-runs-give : {vc vc' : Val} {qs : List Request} (l : Last) → Holds vc l → (xs : Runs vc qs vc') → ∥ (Give_all xs (gives_all l qs) × Holds vc' (last_after l qs)) ∥₁
-unfolding gives_all last_after Give_all
+runs-give : {vc vc' : Val} {qs : List Request} (l : Last) → Holds vc l → (xs : Runs vc qs vc') → ∥ (GiveAll xs (gives_all l qs) × Holds vc' (last_after l qs)) ∥₁
+unfolding gives_all last_after GiveAll
 runs-give l h done = ∣ (tt, h) ∣₁
 runs-give l h (◌then◌ {q = q} x xs) =
     ∥∥₁_elim (run-gives l h x) ∥∥₁_prop (λ k. ∥∥₁_map (runs-give (after l q) k.1 xs) (λ all. ((k.0, all.0), all.1)))
 
 -- what runs gave is a proposition
-lies-once : (σ : Memory) (P : Assertion) → Is_prop (σ ⊨ P)
+lies-once : (σ : Memory) (P : Assertion) → IsProp (σ ⊨ P)
 unfolding Satisfies
 lies-once σ P = ∥∥₁_prop
 
-gives-once : {vc vc' : Val} {q : Request} (x : Run vc q vc') (g : Gave) → Is_prop (Gives x g)
+gives-once : {vc vc' : Val} {q : Request} (x : Run vc q vc') (g : Gave) → IsProp (Gives x g)
 unfolding Gives
 gives-once (loads x) g = ×_prop (lies-once x.left _) (gave-once g _)
 gives-once (stations x) g = ×_prop (lies-once x.left _) (gave-once g _)
@@ -305,8 +305,8 @@ gives-once (held_bookings x) g = ×_prop (lies-once x.left _) (gave-once g _)
 gives-once (held_hourlies x) g = ×_prop (lies-once x.left _) (gave-once g _)
 gives-once (held_hands x) g = ×_prop (lies-once x.left _) (gave-once g _)
 
-all_once : {vc vc' : Val} {qs : List Request} (xs : Runs vc qs vc') (gs : List Gave) → Is_prop (Give_all xs gs)
-unfolding Give_all
+all_once : {vc vc' : Val} {qs : List Request} (xs : Runs vc qs vc') (gs : List Gave) → IsProp (GiveAll xs gs)
+unfolding GiveAll
 all_once done [] = Unit-prop
 all_once done (g ∷ gs) = ×_prop ⊥_prop Unit-prop
 all_once (x then xs) [] = ×_prop ⊥_prop Unit-prop
@@ -319,22 +319,22 @@ new-holds (returned x) =
     ∥∥₁_elim (every-comes new.ended (λ M. new.clauses) [] tt new-takes new_code.routine (λ M. new_met.met) tt (top w₀.𝓤 (emp w₀.𝓤)) tt x.before x.rest x.lent x.routine x.below x.value x.left x.run) ∥∥₁_prop (λ k.
     ∥∥₁_map (new-agrees (call.news k.once)) (λ a. record { clock = k.result; is = k.is; agrees = a }))
 new-holds (left {vc = vc} {b = b} {o = o} c is x) =
-    let hs : List Handed = changes Clock_type.the_row vc b o ∷ [] in
+    let hs : List Handed = changes ClockType.the_row vc b o ∷ [] in
     ∥∥₁_elim (every-comes held_new.ended (λ M. held_new.clauses) hs (clock-means c vc is, tt) (held-new-takes c vc is b o) held_new_code.routine (λ M. held_new_met.met) (clock-makes, tt) (top w₀.𝓤 (emp w₀.𝓤)) tt
     x.before x.rest x.lent x.routine x.below x.value x.left x.run) ∥∥₁_prop (λ k.
-    ∥∥₁_elim (clock-left x tt (Clock_laws.lowered k.last.0) k.leaves) ∥∥₁_prop (λ e.
-    ∥∥₁_map (new-agrees (call.held_news k.once)) (λ a. record { clock = k.last.0; is = subst (λ (v : Val). Is Clock_type.the_row k.last.0 (v ∷ [])) e k.stand.0; agrees = a })))
+    ∥∥₁_elim (clock-left x tt (ClockLaws.lowered k.last.0) k.leaves) ∥∥₁_prop (λ e.
+    ∥∥₁_map (new-agrees (call.held_news k.once)) (λ a. record { clock = k.last.0; is = subst (λ (v : Val). Is ClockType.the_row k.last.0 (v ∷ [])) e k.stand.0; agrees = a })))
 new-holds zeros = ∥∥₁_map (new-agrees call.zeros) (λ a. record { clock = zeroed; is = zeros_load; agrees = a })
 
-pub on-machine : Of_any_runs
+pub on-machine : OfAnyRuns
 on-machine vc vc' qs started xs =
     record { exactly = ∥∥₁_elim (new-holds started) (all_once xs _) (λ h. ∥∥₁_elim (runs-give nothing h xs) (all_once xs _) (λ k. k.0)); near = near-calls nothing qs }
 
-pub always-ends : Always_ends
+pub always-ends : AlwaysEnds
 always-ends =
     record {
       held_new = λ c vc is b o fit σ F s.
-          ∥∥₁_map (comes held_new.ended (λ M. held_new.clauses) (changes Clock_type.the_row vc b o ∷ []) (clock-means c vc is, tt) (held-new-takes c vc is b o) held_new_code.routine (λ M. held_new_met.met) (clock-makes, tt)
+          ∥∥₁_map (comes held_new.ended (λ M. held_new.clauses) (changes ClockType.the_row vc b o ∷ []) (clock-means c vc is, tt) (held-new-takes c vc is b o) held_new_code.routine (λ M. held_new_met.met) (clock-makes, tt)
           (top w₀.𝓤 (emp w₀.𝓤)) tt σ F s) (λ k. (k.0, k.1, k.2));
       new = λ fit σ F s. ∥∥₁_map (comes new.ended (λ M. new.clauses) [] tt new-takes new_code.routine (λ M. new_met.met) tt (top w₀.𝓤 (emp w₀.𝓤)) tt σ F s) (λ k. (k.0, k.1, k.2));
       then = λ vc vc' qs started xs. ∥∥₁_elim (new-holds started) ∥∥₁_prop (λ h. ∥∥₁_map (runs-give nothing h xs) (λ k. every-call-ends (last_after nothing qs) k.1));

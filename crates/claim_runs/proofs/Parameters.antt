@@ -3,7 +3,7 @@
 use Prim.Native.Nat.{ℕ}
 use mathlib.Core.List.{List, [], ◌∷◌}
 use mathlib.Core.Path.{refl}
-use lib.Int_n.{ℤ}
+use lib.IntN.{ℤ}
 use mir.Syntax.{w32, w64}
 use mir.Val.{Val}
 use base.Fml.{Share}
@@ -19,18 +19,18 @@ use borrow.Fn.World.{w₀}
 use Rattle.station.specs.declared.records.Record.{Record}
 use Rattle.station.specs.declared.records.Rows.{Rows}
 use Rattle.station.specs.declared.strides.Strides.{Strides}
-use Rattle.station.specs.contracts.records.Record as Record_type
-use Rattle.station.specs.contracts.records.Rows as Rows_type
-use Rattle.station.proofs.records.Rows.The_laws as Rows_laws
-use Rattle.station.specs.contracts.strides.Strides as Strides_type
-use Rattle.station.proofs.strides.Strides.The_laws as Strides_laws
+use Rattle.station.specs.contracts.records.Record as RecordType
+use Rattle.station.specs.contracts.records.Rows as RowsType
+use Rattle.station.proofs.records.Rows.TheLaws as RowsLaws
+use Rattle.station.specs.contracts.strides.Strides as StridesType
+use Rattle.station.proofs.strides.Strides.TheLaws as StridesLaws
 use Rattle.calls.specs.declared.annual.Sheet.{Sheet}
-use Rattle.calls.specs.contracts.annual.Sheet as Sheet_type
-use Rattle.calls.proofs.annual.Sheet.The_laws as Sheet_laws
+use Rattle.calls.specs.contracts.annual.Sheet as SheetType
+use Rattle.calls.proofs.annual.Sheet.TheLaws as SheetLaws
 use Rattle.clock.specs.declared.Clock.{Clock}
 use Rattle.clock.specs.View.{Made}
-use Rattle.clock.specs.contracts.Clock as Clock_type
-use Rattle.clock.proofs.Clock.The_laws as Clock_laws
+use Rattle.clock.specs.contracts.Clock as ClockType
+use Rattle.clock.proofs.Clock.TheLaws as ClockLaws
 use Rattle.clock.specs.contracts.new as new
 use Rattle.clock.specs.contracts.load_cards as load
 use Rattle.clock.proofs.load_cards.Symbol as load_code
@@ -102,7 +102,7 @@ use Rattle.cuvalimodo_c.proofs.cuvalimodo_hourly.Met as held_hourly_met
 use Rattle.cuvalimodo_c.specs.contracts.cuvalimodo_names as held_names
 use Rattle.cuvalimodo_c.proofs.cuvalimodo_names.Symbol as held_names_code
 use Rattle.cuvalimodo_c.proofs.cuvalimodo_names.Met as held_names_met
-use Rattle.claim.specs.Calls.{Clauses_of, clauses_at}
+use Rattle.claim.specs.Calls.{ClausesOf, clauses_at}
 use Rattle.claim_runs.specs.Handed.{Assertion, Handed, value, reads, writes, sees, changes}
 use Rattle.claim_runs.proofs.Lending as had
 use Rattle.claim_runs.proofs.Lending.{lent, Means, Meant, lifetimes, wholes, denotes, values_of}
@@ -111,20 +111,20 @@ use Rattle.claim_runs.proofs.Handing.{W₀, Takes}
 
 -- ---- values are had for nothing
 
-pub clock-makes : Makes w₀.𝓛 Clock_type.the_row (Is Clock_type.the_row)
-clock-makes = LL.makes Clock_type.the_type Clock_laws.the_plain w₀.𝓛
+pub clock-makes : Makes w₀.𝓛 ClockType.the_row (Is ClockType.the_row)
+clock-makes = LL.makes ClockType.the_type ClockLaws.the_plain w₀.𝓛
 
-pub clock-lawful : Lawful w₀.𝓛 Clock_type.the_row
-clock-lawful = LL.lawful Clock_type.the_type Clock_laws.the_laws w₀.𝓛 W₀
+pub clock-lawful : Lawful w₀.𝓛 ClockType.the_row
+clock-lawful = LL.lawful ClockType.the_type ClockLaws.the_laws w₀.𝓛 W₀
 
-pub rows-make : Makes w₀.𝓛 Rows_type.the_row (Is Rows_type.the_row)
-rows-make = LL.makes Rows_type.the_type Rows_laws.the_plain w₀.𝓛
+pub rows-make : Makes w₀.𝓛 RowsType.the_row (Is RowsType.the_row)
+rows-make = LL.makes RowsType.the_type RowsLaws.the_plain w₀.𝓛
 
-pub strides-make : Makes w₀.𝓛 Strides_type.the_row (Is Strides_type.the_row)
-strides-make = LL.makes Strides_type.the_type Strides_laws.the_plain w₀.𝓛
+pub strides-make : Makes w₀.𝓛 StridesType.the_row (Is StridesType.the_row)
+strides-make = LL.makes StridesType.the_type StridesLaws.the_plain w₀.𝓛
 
-pub sheet-makes : Makes w₀.𝓛 Sheet_type.the_row (Is Sheet_type.the_row)
-sheet-makes = LL.makes Sheet_type.the_type Sheet_laws.the_plain w₀.𝓛
+pub sheet-makes : Makes w₀.𝓛 SheetType.the_row (Is SheetType.the_row)
+sheet-makes = LL.makes SheetType.the_type SheetLaws.the_plain w₀.𝓛
 
 pub u32-makes : Makes w₀.𝓛 u32 (Is u32)
 u32-makes = uint_Makes w₀.𝓛 W₀ w32
@@ -139,7 +139,7 @@ i32-makes = sint_Makes w₀.𝓛 W₀ w32
 -- and asks for a clock that a call made.
 pub record Callable (c : Clock) (f : Routine) (hs : List Handed) : Type 2 where
   pub ended : Ended
-  pub clauses : Clauses_of ended
+  pub clauses : ClausesOf ended
   pub met : Theorem ended clauses f
   pub meant : Meant hs
   pub makes : had.Made w₀.𝓛 hs
@@ -159,7 +159,7 @@ new-takes = record { enters = λ ns. ((tt, tt, tt, tt, tt), (λ w. tt), refl, re
 
 module _ (c : Clock) (vc : Val) where
   abbrev clock : Handed
-  clock = value Clock_type.the_row c vc
+  clock = value ClockType.the_row c vc
 
   unfoldable pub load-call : (file : List ℕ) (q : Share) (b o : ℕ) → Callable c load_code.routine (clock ∷ reads u8 q file b o ∷ [])
   load-call file q b o =
@@ -173,9 +173,9 @@ module _ (c : Clock) (vc : Val) where
         takes = record { enters = λ ns. ((lifetimes all ns, wholes all, tt, denotes 0 all tt ns, values_of 0 all ns), (λ w. tt), refl, refl, refl); writes = λ ns ws. (tt, refl) };
       }
 
-  unfoldable pub station-call : (latitude : ℤ) (strides : Strides) (vl vt : Val) (records : List Record) (q : Share) (b o : ℕ) → Callable c station_code.routine (clock ∷ value i32 latitude vl ∷ value Strides_type.the_row strides vt ∷ reads Record_type.the_row q records b o ∷ [])
+  unfoldable pub station-call : (latitude : ℤ) (strides : Strides) (vl vt : Val) (records : List Record) (q : Share) (b o : ℕ) → Callable c station_code.routine (clock ∷ value i32 latitude vl ∷ value StridesType.the_row strides vt ∷ reads RecordType.the_row q records b o ∷ [])
   station-call latitude strides vl vt records q b o =
-      let all : List Handed = clock ∷ value i32 latitude vl ∷ value Strides_type.the_row strides vt ∷ reads Record_type.the_row q records b o ∷ [] in
+      let all : List Handed = clock ∷ value i32 latitude vl ∷ value StridesType.the_row strides vt ∷ reads RecordType.the_row q records b o ∷ [] in
       record {
         ended = station.ended;
         clauses = λ M. station.clauses;
@@ -185,9 +185,9 @@ module _ (c : Clock) (vc : Val) where
         takes = record { enters = λ ns. ((lifetimes all ns, wholes all, tt, denotes 0 all tt ns, values_of 0 all ns), (λ w. tt), refl, refl, refl); writes = λ ns ws. (tt, refl) };
       }
 
-  unfoldable pub placing-call : (latitude : ℤ) (strides : Strides) (n : ℕ) (rows : Rows) (vl vt vn vr : Val) → Callable c placing_code.routine (clock ∷ value i32 latitude vl ∷ value Strides_type.the_row strides vt ∷ value usize n vn ∷ value Rows_type.the_row rows vr ∷ [])
+  unfoldable pub placing-call : (latitude : ℤ) (strides : Strides) (n : ℕ) (rows : Rows) (vl vt vn vr : Val) → Callable c placing_code.routine (clock ∷ value i32 latitude vl ∷ value StridesType.the_row strides vt ∷ value usize n vn ∷ value RowsType.the_row rows vr ∷ [])
   placing-call latitude strides n rows vl vt vn vr =
-      let all : List Handed = clock ∷ value i32 latitude vl ∷ value Strides_type.the_row strides vt ∷ value usize n vn ∷ value Rows_type.the_row rows vr ∷ [] in
+      let all : List Handed = clock ∷ value i32 latitude vl ∷ value StridesType.the_row strides vt ∷ value usize n vn ∷ value RowsType.the_row rows vr ∷ [] in
       record {
         ended = placing.ended;
         clauses = λ M. placing.clauses;
@@ -245,9 +245,9 @@ module _ (c : Clock) (vc : Val) where
         takes = record { enters = λ ns. ((lifetimes all ns, wholes all, tt, denotes 0 all tt ns, values_of 0 all ns), (λ w. tt), refl, refl, refl); writes = λ ns ws. ((ws.1.1.1.0, (ws.1.1.1.1.0, tt)), refl) };
       }
 
-  unfoldable pub year-call : (sheet : Sheet) (vs : Val) (ss : List ℤ) (b o : ℕ) (ms : List ℕ) (b₁ o₁ : ℕ) (hs : List ℤ) (b₂ o₂ : ℕ) → Callable c year_code.routine (clock ∷ value Sheet_type.the_row sheet vs ∷ writes i64 ss b o ∷ writes u32 ms b₁ o₁ ∷ writes i64 hs b₂ o₂ ∷ [])
+  unfoldable pub year-call : (sheet : Sheet) (vs : Val) (ss : List ℤ) (b o : ℕ) (ms : List ℕ) (b₁ o₁ : ℕ) (hs : List ℤ) (b₂ o₂ : ℕ) → Callable c year_code.routine (clock ∷ value SheetType.the_row sheet vs ∷ writes i64 ss b o ∷ writes u32 ms b₁ o₁ ∷ writes i64 hs b₂ o₂ ∷ [])
   year-call sheet vs ss b o ms b₁ o₁ hs b₂ o₂ =
-      let all : List Handed = clock ∷ value Sheet_type.the_row sheet vs ∷ writes i64 ss b o ∷ writes u32 ms b₁ o₁ ∷ writes i64 hs b₂ o₂ ∷ [] in
+      let all : List Handed = clock ∷ value SheetType.the_row sheet vs ∷ writes i64 ss b o ∷ writes u32 ms b₁ o₁ ∷ writes i64 hs b₂ o₂ ∷ [] in
       record {
         ended = year.ended;
         clauses = λ M. year.clauses;
@@ -295,18 +295,18 @@ module _ (c : Clock) (vc : Val) where
 
 -- ---- each function that is lent the clock
 
-module _ (c : Clock) (vc : Val) (is : Is Clock_type.the_row c (vc ∷ [])) where
-  abbrev pub clock-means : Means Clock_type.the_row vc
-  clock-means = record { it = c; is = is; lowers = Clock_laws.lowers }
+module _ (c : Clock) (vc : Val) (is : Is ClockType.the_row c (vc ∷ [])) where
+  abbrev pub clock-means : Means ClockType.the_row vc
+  clock-means = record { it = c; is = is; lowers = ClockLaws.lowers }
 
-  unfoldable pub held-new-takes : (b o : ℕ) → Takes held_new.ended (λ M. held_new.clauses) (changes Clock_type.the_row vc b o ∷ []) (clock-means, tt) (held-new-asks c b o)
+  unfoldable pub held-new-takes : (b o : ℕ) → Takes held_new.ended (λ M. held_new.clauses) (changes ClockType.the_row vc b o ∷ []) (clock-means, tt) (held-new-asks c b o)
   held-new-takes b o =
-      let all : List Handed = changes Clock_type.the_row vc b o ∷ [] in
+      let all : List Handed = changes ClockType.the_row vc b o ∷ [] in
       record { enters = λ ns. ((lifetimes all ns, wholes all, tt, denotes 0 all (clock-means, tt) ns, values_of 0 all ns), (λ w. tt), refl, refl, refl); writes = λ ns ws. ((ws.0, tt), refl) }
 
-  unfoldable pub held-load-call : (b o : ℕ) (file : List ℕ) (q : Share) (b₁ o₁ : ℕ) → Callable c held_load_code.routine (changes Clock_type.the_row vc b o ∷ reads u8 q file b₁ o₁ ∷ [])
+  unfoldable pub held-load-call : (b o : ℕ) (file : List ℕ) (q : Share) (b₁ o₁ : ℕ) → Callable c held_load_code.routine (changes ClockType.the_row vc b o ∷ reads u8 q file b₁ o₁ ∷ [])
   held-load-call b o file q b₁ o₁ =
-      let all : List Handed = changes Clock_type.the_row vc b o ∷ reads u8 q file b₁ o₁ ∷ [] in
+      let all : List Handed = changes ClockType.the_row vc b o ∷ reads u8 q file b₁ o₁ ∷ [] in
       record {
         ended = held_load.ended;
         clauses = λ M. held_load.clauses;
@@ -316,9 +316,9 @@ module _ (c : Clock) (vc : Val) (is : Is Clock_type.the_row c (vc ∷ [])) where
         takes = record { enters = λ ns. ((lifetimes all ns, wholes all, tt, denotes 0 all (clock-means, tt) ns, values_of 0 all ns), (λ w. tt), refl, refl, refl); writes = λ ns ws. ((ws.0, tt), refl) };
       }
 
-  unfoldable pub held-station-call : (b o : ℕ) (latitude : ℤ) (strides : Strides) (vl vt : Val) (records : List Record) (q : Share) (b₁ o₁ : ℕ) → Callable c held_station_code.routine (changes Clock_type.the_row vc b o ∷ value i32 latitude vl ∷ value Strides_type.the_row strides vt ∷ reads Record_type.the_row q records b₁ o₁ ∷ [])
+  unfoldable pub held-station-call : (b o : ℕ) (latitude : ℤ) (strides : Strides) (vl vt : Val) (records : List Record) (q : Share) (b₁ o₁ : ℕ) → Callable c held_station_code.routine (changes ClockType.the_row vc b o ∷ value i32 latitude vl ∷ value StridesType.the_row strides vt ∷ reads RecordType.the_row q records b₁ o₁ ∷ [])
   held-station-call b o latitude strides vl vt records q b₁ o₁ =
-      let all : List Handed = changes Clock_type.the_row vc b o ∷ value i32 latitude vl ∷ value Strides_type.the_row strides vt ∷ reads Record_type.the_row q records b₁ o₁ ∷ [] in
+      let all : List Handed = changes ClockType.the_row vc b o ∷ value i32 latitude vl ∷ value StridesType.the_row strides vt ∷ reads RecordType.the_row q records b₁ o₁ ∷ [] in
       record {
         ended = held_station.ended;
         clauses = λ M. held_station.clauses;
@@ -328,9 +328,9 @@ module _ (c : Clock) (vc : Val) (is : Is Clock_type.the_row c (vc ∷ [])) where
         takes = record { enters = λ ns. ((lifetimes all ns, wholes all, tt, denotes 0 all (clock-means, tt) ns, values_of 0 all ns), (λ w. tt), refl, refl, refl); writes = λ ns ws. ((ws.0, tt), refl) };
       }
 
-  unfoldable pub held-date-call : (b o year month : ℕ) (vy vm : Val) → Callable c held_date_code.routine (changes Clock_type.the_row vc b o ∷ value u32 year vy ∷ value u32 month vm ∷ [])
+  unfoldable pub held-date-call : (b o year month : ℕ) (vy vm : Val) → Callable c held_date_code.routine (changes ClockType.the_row vc b o ∷ value u32 year vy ∷ value u32 month vm ∷ [])
   held-date-call b o year month vy vm =
-      let all : List Handed = changes Clock_type.the_row vc b o ∷ value u32 year vy ∷ value u32 month vm ∷ [] in
+      let all : List Handed = changes ClockType.the_row vc b o ∷ value u32 year vy ∷ value u32 month vm ∷ [] in
       record {
         ended = held_date.ended;
         clauses = λ M. held_date.clauses;
@@ -340,9 +340,9 @@ module _ (c : Clock) (vc : Val) (is : Is Clock_type.the_row c (vc ∷ [])) where
         takes = record { enters = λ ns. ((lifetimes all ns, wholes all, tt, denotes 0 all (clock-means, tt) ns, values_of 0 all ns), (λ w. tt), refl, refl, refl); writes = λ ns ws. ((ws.0, tt), refl) };
       }
 
-  unfoldable pub lent-height-call : (s : Share) (b o minute : ℕ) (vm : Val) → Callable c lent_height_code.routine (sees Clock_type.the_row s vc b o ∷ value u32 minute vm ∷ [])
+  unfoldable pub lent-height-call : (s : Share) (b o minute : ℕ) (vm : Val) → Callable c lent_height_code.routine (sees ClockType.the_row s vc b o ∷ value u32 minute vm ∷ [])
   lent-height-call s b o minute vm =
-      let all : List Handed = sees Clock_type.the_row s vc b o ∷ value u32 minute vm ∷ [] in
+      let all : List Handed = sees ClockType.the_row s vc b o ∷ value u32 minute vm ∷ [] in
       record {
         ended = lent_height.ended;
         clauses = λ M. lent_height.clauses;
@@ -352,9 +352,9 @@ module _ (c : Clock) (vc : Val) (is : Is Clock_type.the_row c (vc ∷ [])) where
         takes = record { enters = λ ns. ((lifetimes all ns, wholes all, tt, denotes 0 all (clock-means, tt) ns, values_of 0 all ns), (λ w. tt), refl, refl, refl); writes = λ ns ws. (tt, refl) };
       }
 
-  unfoldable pub held-height-call : (s : Share) (b o minute : ℕ) (vm : Val) → Callable c held_height_code.routine (sees Clock_type.the_row s vc b o ∷ value u32 minute vm ∷ [])
+  unfoldable pub held-height-call : (s : Share) (b o minute : ℕ) (vm : Val) → Callable c held_height_code.routine (sees ClockType.the_row s vc b o ∷ value u32 minute vm ∷ [])
   held-height-call s b o minute vm =
-      let all : List Handed = sees Clock_type.the_row s vc b o ∷ value u32 minute vm ∷ [] in
+      let all : List Handed = sees ClockType.the_row s vc b o ∷ value u32 minute vm ∷ [] in
       record {
         ended = held_height.ended;
         clauses = λ M. held_height.clauses;
@@ -364,9 +364,9 @@ module _ (c : Clock) (vc : Val) (is : Is Clock_type.the_row c (vc ∷ [])) where
         takes = record { enters = λ ns. ((lifetimes all ns, wholes all, tt, denotes 0 all (clock-means, tt) ns, values_of 0 all ns), (λ w. tt), refl, refl, refl); writes = λ ns ws. (tt, refl) };
       }
 
-  unfoldable pub held-series-call : (s : Share) (b o start step : ℕ) (vs vt : Val) (hs : List ℤ) (b₁ o₁ : ℕ) → Callable c held_series_code.routine (sees Clock_type.the_row s vc b o ∷ value u32 start vs ∷ value u32 step vt ∷ writes i64 hs b₁ o₁ ∷ [])
+  unfoldable pub held-series-call : (s : Share) (b o start step : ℕ) (vs vt : Val) (hs : List ℤ) (b₁ o₁ : ℕ) → Callable c held_series_code.routine (sees ClockType.the_row s vc b o ∷ value u32 start vs ∷ value u32 step vt ∷ writes i64 hs b₁ o₁ ∷ [])
   held-series-call s b o start step vs vt hs b₁ o₁ =
-      let all : List Handed = sees Clock_type.the_row s vc b o ∷ value u32 start vs ∷ value u32 step vt ∷ writes i64 hs b₁ o₁ ∷ [] in
+      let all : List Handed = sees ClockType.the_row s vc b o ∷ value u32 start vs ∷ value u32 step vt ∷ writes i64 hs b₁ o₁ ∷ [] in
       record {
         ended = held_series.ended;
         clauses = λ M. held_series.clauses;
@@ -376,9 +376,9 @@ module _ (c : Clock) (vc : Val) (is : Is Clock_type.the_row c (vc ∷ [])) where
         takes = record { enters = λ ns. ((lifetimes all ns, wholes all, tt, denotes 0 all (clock-means, tt) ns, values_of 0 all ns), (λ w. tt), refl, refl, refl); writes = λ ns ws. ((ws.1.1.1.0, tt), refl) };
       }
 
-  unfoldable pub held-turns-call : (s : Share) (b o first last : ℕ) (vf vl : Val) (ms : List ℕ) (b₁ o₁ : ℕ) (hs : List ℤ) (b₂ o₂ : ℕ) → Callable c held_turns_code.routine (sees Clock_type.the_row s vc b o ∷ value u32 first vf ∷ value u32 last vl ∷ writes u32 ms b₁ o₁ ∷ writes i64 hs b₂ o₂ ∷ [])
+  unfoldable pub held-turns-call : (s : Share) (b o first last : ℕ) (vf vl : Val) (ms : List ℕ) (b₁ o₁ : ℕ) (hs : List ℤ) (b₂ o₂ : ℕ) → Callable c held_turns_code.routine (sees ClockType.the_row s vc b o ∷ value u32 first vf ∷ value u32 last vl ∷ writes u32 ms b₁ o₁ ∷ writes i64 hs b₂ o₂ ∷ [])
   held-turns-call s b o first last vf vl ms b₁ o₁ hs b₂ o₂ =
-      let all : List Handed = sees Clock_type.the_row s vc b o ∷ value u32 first vf ∷ value u32 last vl ∷ writes u32 ms b₁ o₁ ∷ writes i64 hs b₂ o₂ ∷ [] in
+      let all : List Handed = sees ClockType.the_row s vc b o ∷ value u32 first vf ∷ value u32 last vl ∷ writes u32 ms b₁ o₁ ∷ writes i64 hs b₂ o₂ ∷ [] in
       record {
         ended = held_turns.ended;
         clauses = λ M. held_turns.clauses;
@@ -388,9 +388,9 @@ module _ (c : Clock) (vc : Val) (is : Is Clock_type.the_row c (vc ∷ [])) where
         takes = record { enters = λ ns. ((lifetimes all ns, wholes all, tt, denotes 0 all (clock-means, tt) ns, values_of 0 all ns), (λ w. tt), refl, refl, refl); writes = λ ns ws. ((ws.1.1.1.0, (ws.1.1.1.1.0, tt)), refl) };
       }
 
-  unfoldable pub held-year-call : (s : Share) (b o : ℕ) (sheet : Sheet) (vy vs vt vf vl : Val) (ss : List ℤ) (b₁ o₁ : ℕ) (ms : List ℕ) (b₂ o₂ : ℕ) (hs : List ℤ) (b₃ o₃ : ℕ) → Callable c held_year_code.routine (sees Clock_type.the_row s vc b o ∷ value u32 sheet.year vy ∷ value u32 sheet.start vs ∷ value u32 sheet.step vt ∷ value u32 sheet.first vf ∷ value u32 sheet.last vl ∷ writes i64 ss b₁ o₁ ∷ writes u32 ms b₂ o₂ ∷ writes i64 hs b₃ o₃ ∷ [])
+  unfoldable pub held-year-call : (s : Share) (b o : ℕ) (sheet : Sheet) (vy vs vt vf vl : Val) (ss : List ℤ) (b₁ o₁ : ℕ) (ms : List ℕ) (b₂ o₂ : ℕ) (hs : List ℤ) (b₃ o₃ : ℕ) → Callable c held_year_code.routine (sees ClockType.the_row s vc b o ∷ value u32 sheet.year vy ∷ value u32 sheet.start vs ∷ value u32 sheet.step vt ∷ value u32 sheet.first vf ∷ value u32 sheet.last vl ∷ writes i64 ss b₁ o₁ ∷ writes u32 ms b₂ o₂ ∷ writes i64 hs b₃ o₃ ∷ [])
   held-year-call s b o sheet vy vs vt vf vl ss b₁ o₁ ms b₂ o₂ hs b₃ o₃ =
-      let all : List Handed = sees Clock_type.the_row s vc b o ∷ value u32 sheet.year vy ∷ value u32 sheet.start vs ∷ value u32 sheet.step vt ∷ value u32 sheet.first vf ∷ value u32 sheet.last vl ∷ writes i64 ss b₁ o₁ ∷ writes u32 ms b₂ o₂ ∷ writes i64 hs b₃ o₃ ∷ [] in
+      let all : List Handed = sees ClockType.the_row s vc b o ∷ value u32 sheet.year vy ∷ value u32 sheet.start vs ∷ value u32 sheet.step vt ∷ value u32 sheet.first vf ∷ value u32 sheet.last vl ∷ writes i64 ss b₁ o₁ ∷ writes u32 ms b₂ o₂ ∷ writes i64 hs b₃ o₃ ∷ [] in
       record {
         ended = held_year.ended;
         clauses = λ M. held_year.clauses;
@@ -400,9 +400,9 @@ module _ (c : Clock) (vc : Val) (is : Is Clock_type.the_row c (vc ∷ [])) where
         takes = record { enters = λ ns. ((lifetimes all ns, wholes all, tt, denotes 0 all (clock-means, tt) ns, values_of 0 all ns), (λ w. tt), refl, refl, refl); writes = λ ns ws. ((ws.1.1.1.1.1.1.0, (ws.1.1.1.1.1.1.1.0, (ws.1.1.1.1.1.1.1.1.0, tt))), refl) };
       }
 
-  unfoldable pub lent-bookings-call : (s : Share) (b o : ℕ) (minutes : List ℕ) (q : Share) (b₁ o₁ : ℕ) (hs : List ℤ) (b₂ o₂ : ℕ) → Callable c lent_booking_code.routine (sees Clock_type.the_row s vc b o ∷ reads u32 q minutes b₁ o₁ ∷ writes i64 hs b₂ o₂ ∷ [])
+  unfoldable pub lent-bookings-call : (s : Share) (b o : ℕ) (minutes : List ℕ) (q : Share) (b₁ o₁ : ℕ) (hs : List ℤ) (b₂ o₂ : ℕ) → Callable c lent_booking_code.routine (sees ClockType.the_row s vc b o ∷ reads u32 q minutes b₁ o₁ ∷ writes i64 hs b₂ o₂ ∷ [])
   lent-bookings-call s b o minutes q b₁ o₁ hs b₂ o₂ =
-      let all : List Handed = sees Clock_type.the_row s vc b o ∷ reads u32 q minutes b₁ o₁ ∷ writes i64 hs b₂ o₂ ∷ [] in
+      let all : List Handed = sees ClockType.the_row s vc b o ∷ reads u32 q minutes b₁ o₁ ∷ writes i64 hs b₂ o₂ ∷ [] in
       record {
         ended = lent_booking.ended;
         clauses = λ M. lent_booking.clauses;
@@ -412,9 +412,9 @@ module _ (c : Clock) (vc : Val) (is : Is Clock_type.the_row c (vc ∷ [])) where
         takes = record { enters = λ ns. ((lifetimes all ns, wholes all, tt, denotes 0 all (clock-means, tt) ns, values_of 0 all ns), (λ w. tt), refl, refl, refl); writes = λ ns ws. ((ws.1.1.0, tt), refl) };
       }
 
-  unfoldable pub held-bookings-call : (s : Share) (b o : ℕ) (minutes : List ℕ) (q : Share) (b₁ o₁ : ℕ) (hs : List ℤ) (b₂ o₂ : ℕ) → Callable c held_booking_code.routine (sees Clock_type.the_row s vc b o ∷ reads u32 q minutes b₁ o₁ ∷ writes i64 hs b₂ o₂ ∷ [])
+  unfoldable pub held-bookings-call : (s : Share) (b o : ℕ) (minutes : List ℕ) (q : Share) (b₁ o₁ : ℕ) (hs : List ℤ) (b₂ o₂ : ℕ) → Callable c held_booking_code.routine (sees ClockType.the_row s vc b o ∷ reads u32 q minutes b₁ o₁ ∷ writes i64 hs b₂ o₂ ∷ [])
   held-bookings-call s b o minutes q b₁ o₁ hs b₂ o₂ =
-      let all : List Handed = sees Clock_type.the_row s vc b o ∷ reads u32 q minutes b₁ o₁ ∷ writes i64 hs b₂ o₂ ∷ [] in
+      let all : List Handed = sees ClockType.the_row s vc b o ∷ reads u32 q minutes b₁ o₁ ∷ writes i64 hs b₂ o₂ ∷ [] in
       record {
         ended = held_booking.ended;
         clauses = λ M. held_booking.clauses;
@@ -424,9 +424,9 @@ module _ (c : Clock) (vc : Val) (is : Is Clock_type.the_row c (vc ∷ [])) where
         takes = record { enters = λ ns. ((lifetimes all ns, wholes all, tt, denotes 0 all (clock-means, tt) ns, values_of 0 all ns), (λ w. tt), refl, refl, refl); writes = λ ns ws. ((ws.1.1.0, tt), refl) };
       }
 
-  unfoldable pub held-hourly-call : (s : Share) (b o number : ℕ) (vn : Val) (cards : List ℕ) (b₁ o₁ : ℕ) → Callable c held_hourly_code.routine (sees Clock_type.the_row s vc b o ∷ value u32 number vn ∷ writes u8 cards b₁ o₁ ∷ [])
+  unfoldable pub held-hourly-call : (s : Share) (b o number : ℕ) (vn : Val) (cards : List ℕ) (b₁ o₁ : ℕ) → Callable c held_hourly_code.routine (sees ClockType.the_row s vc b o ∷ value u32 number vn ∷ writes u8 cards b₁ o₁ ∷ [])
   held-hourly-call s b o number vn cards b₁ o₁ =
-      let all : List Handed = sees Clock_type.the_row s vc b o ∷ value u32 number vn ∷ writes u8 cards b₁ o₁ ∷ [] in
+      let all : List Handed = sees ClockType.the_row s vc b o ∷ value u32 number vn ∷ writes u8 cards b₁ o₁ ∷ [] in
       record {
         ended = held_hourly.ended;
         clauses = λ M. held_hourly.clauses;
@@ -436,9 +436,9 @@ module _ (c : Clock) (vc : Val) (is : Is Clock_type.the_row c (vc ∷ [])) where
         takes = record { enters = λ ns. ((lifetimes all ns, wholes all, tt, denotes 0 all (clock-means, tt) ns, values_of 0 all ns), (λ w. tt), refl, refl, refl); writes = λ ns ws. ((ws.1.1.0, tt), refl) };
       }
 
-  unfoldable pub held-names-call : (s : Share) (b o : ℕ) → Callable c held_names_code.routine (sees Clock_type.the_row s vc b o ∷ [])
+  unfoldable pub held-names-call : (s : Share) (b o : ℕ) → Callable c held_names_code.routine (sees ClockType.the_row s vc b o ∷ [])
   held-names-call s b o =
-      let all : List Handed = sees Clock_type.the_row s vc b o ∷ [] in
+      let all : List Handed = sees ClockType.the_row s vc b o ∷ [] in
       record {
         ended = held_names.ended;
         clauses = λ M. held_names.clauses;

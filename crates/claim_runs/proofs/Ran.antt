@@ -14,7 +14,7 @@ use types.Logic.{Logic, sem}
 use contract.Adequate.{sat_weaken, sat_⇛, sat_ex∗, sat_fact}
 use contract.Running.{Running, tables}
 use denote.Laws.{Is, shows}
-use denote.Rattle_type.{Rattle_type}
+use denote.RattleType.{RattleType}
 use denote.Signature.{type_at}
 use denote.Triple.Adequate.{adequate}
 use denote.Triple.Bound.{Bound, passed}
@@ -22,11 +22,11 @@ use denote.Triple.Clauses.{Ended, Lasts, at_exit, lasts, closing}
 use denote.Triple.Entry.{Res, alive, on_entry}
 use denote.Triple.Spec.{Back, Meets, triple_of}
 use borrow.Fn.World.{World, w₀}
-use Rattle.claim.specs.Calls.{Clauses_of, clauses_at, Once}
+use Rattle.claim.specs.Calls.{ClausesOf, clauses_at, Once}
 use Rattle.claim.proofs.Backed.{backed}
 use Rattle.claim_runs.specs.Handed.{Assertion, ◌∗◌, ◌⊨◌}
 
-module _ (T : Ended) (C : Clauses_of T) where
+module _ (T : Ended) (C : ClausesOf T) where
   -- that the routine r meets the contract: the type of a function's theorem, its `Statement`
   abbrev pub Theorem : Routine → Type 2
   Theorem r = (M : Type 1) (𝓤 : Ura M) (𝓛 : Logic 𝓤) (𝓜 : Model 𝓤 𝓛.H) (𝓡 : Running 𝓤 𝓛.H 𝓜)
@@ -63,7 +63,7 @@ module _ (T : Ended) (C : Clauses_of T) where
         → ∥ Returned v σ' F ∥₁
     returned v σ' F s =
         let 𝓤 : Ura w₀.M = w₀.𝓤 in
-        let R : Rattle_type = type_at T.signature.result x.0 in
+        let R : RattleType = type_at T.signature.result x.0 in
         let Al : Assertion = alive w₀.𝓛 T.signature x.0 x.1 in
         let O : Res T.signature x.0 → Assertion = λ r. sem w₀.𝓛 (R.own r (v ∷ [])) in
         let B : Res T.signature x.0 → Assertion = Back w₀.𝓛 T.signature x v in

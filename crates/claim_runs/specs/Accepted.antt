@@ -12,7 +12,7 @@ use Rattle.hourly.specs.Format.{narrow}
 use Rattle.hourly.specs.Writing.{cards_written}
 use Rattle.hourly.specs.Month.{cards_of}
 use Rattle.calls.specs.declared.annual.Sheet.{Sheet}
-use Rattle.clock.specs.contracts.Clock as Clock_type
+use Rattle.clock.specs.contracts.Clock as ClockType
 use Rattle.clock.proofs.new.Symbol as new_code
 use Rattle.clock.proofs.load_cards.Symbol as load_code
 use Rattle.clock.proofs.set_station.Symbol as station_code
@@ -41,7 +41,7 @@ use Rattle.cuvalimodo_c.proofs.cuvalimodo_names.Symbol as held_names_code
 use Rattle.claim.specs.Document.{Request, Cards, Station, Date, Height, Series, Turns, Year, Bookings, Hourly, Names, Gave, told, predicted, wrote, found, filled, carded, named, nothing, gives_all}
 use Rattle.claim_runs.specs.Handed.{changes, Ran}
 use Rattle.claim_runs.specs.Values.{clock_at, zero_memory}
-use Rattle.claim_runs.specs.Runs.{Started, Runs, Give_all, routines_of}
+use Rattle.claim_runs.specs.Runs.{Started, Runs, GiveAll, routines_of}
 
 -- ---- a smallest card file: one constituent, Z0, and no other number but 0
 
@@ -215,16 +215,16 @@ all_accepted =
     ∷ named (z0 ∷ [])
     ∷ []
 
-abbrev pub Accepted_by_the_document : Type 0
-Accepted_by_the_document = gives_all nothing accepted_calls ≡ all_accepted
+abbrev pub AcceptedByTheDocument : Type 0
+AcceptedByTheDocument = gives_all nothing accepted_calls ≡ all_accepted
 
 -- There are runs of these calls, of these routines, one after another from a clock's value on, and they give that
-abbrev pub Accepted_from : Val → Type 2
-Accepted_from vc = Started vc × ∥ ((vc' : Val) × (xs : Runs vc accepted_calls vc') × (routines_of xs ≡ accepted_routines) × Give_all xs all_accepted) ∥₁
+abbrev pub AcceptedFrom : Val → Type 2
+AcceptedFrom vc = Started vc × ∥ ((vc' : Val) × (xs : Runs vc accepted_calls vc') × (routines_of xs ≡ accepted_routines) × GiveAll xs all_accepted) ∥₁
 
 -- .. from a value that each of the two `new` gave, and from zeros: so the claim of the machine speaks of each kind of call, accepted. (Whichever
--- calls come next, `Always_ends` says that they return.)
-pub record Accepted_by_the_machine : Type 2 where
-  pub returned : ∥ ((x : Ran new_code.routine [] []) × Accepted_from x.value) ∥₁
-  pub left : ∥ ((vc : Val) × (b : ℕ) × (x : Ran held_new_code.routine [] (changes Clock_type.the_row vc b 0 ∷ [])) × Accepted_from (clock_at x.left b 0)) ∥₁
-  pub zeros : Accepted_from (clock_at zero_memory 0 0)
+-- calls come next, `AlwaysEnds` says that they return.)
+pub record AcceptedByTheMachine : Type 2 where
+  pub returned : ∥ ((x : Ran new_code.routine [] []) × AcceptedFrom x.value) ∥₁
+  pub left : ∥ ((vc : Val) × (b : ℕ) × (x : Ran held_new_code.routine [] (changes ClockType.the_row vc b 0 ∷ [])) × AcceptedFrom (clock_at x.left b 0)) ∥₁
+  pub zeros : AcceptedFrom (clock_at zero_memory 0 0)

@@ -2,14 +2,14 @@
 -- owned.
 -- Assumes nothing.
 use Rattle.std.specs.Prelude.{ℕ, List, [], ◌∷◌, ◌++◌, length}
-use seplogic.Ra.Tree_share.{full_share}
+use seplogic.Ra.TreeShare.{full_share}
 use mir.Val.{Val, vptr}
 use base.Logic.{SProp, sep}
-use Rattle.std.specs.Borrow.{Fml, Share, ftrue, fsep, sem, Rattle_type}
+use Rattle.std.specs.Borrow.{Fml, Share, ftrue, fsep, sem, RattleType}
 use prog.Memory.{Memory}
 use prog.Routine.{Routine, ends, ◌≼◌}
 use contract.Adequate.{Satisfies}
-use types.Sem_ty.{cells}
+use types.SemTy.{cells}
 use types.Share.{arr_parts}
 use denote.Laws.{Is}
 use denote.Memory.{cell_at, mem, shares}
@@ -40,11 +40,11 @@ infix 26 ◌⊨◌
 -- and the block and offset at which they lie; a struct to be seen, of which a share is enough, or to be changed: the machine's value for it, and
 -- the block and offset at which it lies
 pub data Handed : Type 2 where
-  value : (R : Rattle_type) → R.Denot → Val → Handed
-  reads : (R : Rattle_type) → Share → List R.Denot → ℕ → ℕ → Handed
-  writes : (R : Rattle_type) → List R.Denot → ℕ → ℕ → Handed
-  sees : (R : Rattle_type) → Share → Val → ℕ → ℕ → Handed
-  changes : (R : Rattle_type) → Val → ℕ → ℕ → Handed
+  value : (R : RattleType) → R.Denot → Val → Handed
+  reads : (R : RattleType) → Share → List R.Denot → ℕ → ℕ → Handed
+  writes : (R : RattleType) → List R.Denot → ℕ → ℕ → Handed
+  sees : (R : RattleType) → Share → Val → ℕ → ℕ → Handed
+  changes : (R : RattleType) → Val → ℕ → ℕ → Handed
 
 -- the machine's values: a buffer is handed over as its place and its length, a struct as its place
 abbrev pub passed : List Handed → List Val
@@ -65,11 +65,11 @@ Fit (sees R q v b o ∷ hs) = Fit hs
 Fit (changes R v b o ∷ hs) = Fit hs
 
 -- ys lie at (b, o), at a share: enough to read them
-abbrev pub Lie : (R : Rattle_type) → Share → List R.Denot → ℕ → ℕ → Fml
+abbrev pub Lie : (R : RattleType) → Share → List R.Denot → ℕ → ℕ → Fml
 Lie R q ys b o = (arr_parts (shares R) (length ys)).part q ys b o
 
 -- the machine's value v, of the type R, lies at (b, o), at a share: enough to load it
-abbrev pub At : Rattle_type → Share → Val → ℕ → ℕ → Fml
+abbrev pub At : RattleType → Share → Val → ℕ → ℕ → Fml
 At R q v b o = cell_at q R.mir (v ∷ []) b o
 
 -- the buffers and structs lie in memory, one beside the other

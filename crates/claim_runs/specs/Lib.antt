@@ -1,5 +1,5 @@
 pub mod Handed
 pub mod Values
 pub mod Runs
-pub mod On_machine
+pub mod OnMachine
 pub mod Accepted

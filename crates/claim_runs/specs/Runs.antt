@@ -11,13 +11,13 @@ use Rattle.station.specs.declared.records.Rows.{Rows}
 use Rattle.station.specs.declared.strides.Strides.{Strides}
 use Rattle.station.specs.Station.{station_lent}
 use Rattle.station.specs.Records.{records_of}
-use Rattle.station.specs.contracts.records.Record as Record_type
-use Rattle.station.specs.contracts.records.Rows as Rows_type
-use Rattle.station.specs.contracts.strides.Strides as Strides_type
+use Rattle.station.specs.contracts.records.Record as RecordType
+use Rattle.station.specs.contracts.records.Rows as RowsType
+use Rattle.station.specs.contracts.strides.Strides as StridesType
 use Rattle.calls.specs.declared.annual.Sheet.{Sheet}
-use Rattle.calls.specs.contracts.annual.Sheet as Sheet_type
+use Rattle.calls.specs.contracts.annual.Sheet as SheetType
 use Rattle.clock.specs.declared.Clock.{Clock}
-use Rattle.clock.specs.contracts.Clock as Clock_type
+use Rattle.clock.specs.contracts.Clock as ClockType
 use Rattle.clock.proofs.new.Symbol as new_code
 use Rattle.clock.proofs.load_cards.Symbol as load_code
 use Rattle.clock.proofs.set_station.Symbol as station_code
@@ -51,7 +51,7 @@ use Rattle.claim_runs.specs.Values.{answer_in, height_in, turns_in, cards_in, ta
 -- other `new`, which is lent a clock, whichever it is, left in its place; or that is loaded from memory of nothing but zeros
 pub data Started : Val → Type 2 where
   returned : (x : Ran new_code.routine [] []) → Started x.value
-  left : {vc : Val} {b o : ℕ} (c : Clock) → Is Clock_type.the_row c (vc ∷ []) → (x : Ran held_new_code.routine [] (changes Clock_type.the_row vc b o ∷ [])) → Started (clock_at x.left b o)
+  left : {vc : Val} {b o : ℕ} (c : Clock) → Is ClockType.the_row c (vc ∷ []) → (x : Ran held_new_code.routine [] (changes ClockType.the_row vc b o ∷ [])) → Started (clock_at x.left b o)
   zeros : Started (clock_at zero_memory 0 0)
 
 -- One call, run: the machine's value of the clock that it gets, the call with all that is lent to it, and the machine's value of the clock
@@ -61,10 +61,10 @@ pub data Run : Val → Request → Val → Type 2 where
       → (x : Ran load_code.routine (vc ∷ []) (reads u8 q file b o ∷ []))
       → Run vc (Cards file) (clock_in x.value)
   stations : {vc : Val} {latitude : ℤ} {strides : Strides} {vl vt : Val} {records : List Record} {q : Share} {b o : ℕ}
-      → (x : Ran station_code.routine (vc ∷ []) (value i32 latitude vl ∷ value Strides_type.the_row strides vt ∷ reads Record_type.the_row q records b o ∷ []))
+      → (x : Ran station_code.routine (vc ∷ []) (value i32 latitude vl ∷ value StridesType.the_row strides vt ∷ reads RecordType.the_row q records b o ∷ []))
       → Run vc (Station (station_lent latitude strides records)) (clock_in x.value)
   placed : {vc : Val} {latitude : ℤ} {strides : Strides} {n : ℕ} {rows : Rows} {vl vt vn vr : Val}
-      → (x : Ran placing_code.routine (vc ∷ []) (value i32 latitude vl ∷ value Strides_type.the_row strides vt ∷ value usize n vn ∷ value Rows_type.the_row rows vr ∷ []))
+      → (x : Ran placing_code.routine (vc ∷ []) (value i32 latitude vl ∷ value StridesType.the_row strides vt ∷ value usize n vn ∷ value RowsType.the_row rows vr ∷ []))
       → Run vc (Station (station_lent latitude strides (records_of rows n))) (clock_in x.value)
   dates : {vc : Val} {year month : ℕ} {vy vm : Val}
       → (x : Ran date_code.routine (vc ∷ []) (value u32 year vy ∷ value u32 month vm ∷ []))
@@ -79,7 +79,7 @@ pub data Run : Val → Request → Val → Type 2 where
       → Ran turns_code.routine (vc ∷ []) (value u32 first vf ∷ value u32 last vl ∷ writes u32 ms b o ∷ writes i64 hs b₁ o₁ ∷ [])
       → Run vc (Turns first last ms hs) vc
   years : {vc : Val} {sheet : Sheet} {vs : Val} {ss : List ℤ} {b o : ℕ} {ms : List ℕ} {b₁ o₁ : ℕ} {hs : List ℤ} {b₂ o₂ : ℕ}
-      → Ran year_code.routine (vc ∷ []) (value Sheet_type.the_row sheet vs ∷ writes i64 ss b o ∷ writes u32 ms b₁ o₁ ∷ writes i64 hs b₂ o₂ ∷ [])
+      → Ran year_code.routine (vc ∷ []) (value SheetType.the_row sheet vs ∷ writes i64 ss b o ∷ writes u32 ms b₁ o₁ ∷ writes i64 hs b₂ o₂ ∷ [])
       → Run vc (Year sheet ss ms hs) vc
   bookings : {vc : Val} {minutes : List ℕ} {q : Share} {b o : ℕ} {hs : List ℤ} {b₁ o₁ : ℕ}
       → Ran booking_code.routine (vc ∷ []) (reads u32 q minutes b o ∷ writes i64 hs b₁ o₁ ∷ [])
@@ -90,39 +90,39 @@ pub data Run : Val → Request → Val → Type 2 where
   hands : {vc : Val} → Ran names_code.routine (vc ∷ []) [] → Run vc Names vc
   -- the clock lies in memory and is lent: what lies there at the end is the clock that the call leaves
   held_loads : {vc : Val} {b o : ℕ} {file : List ℕ} {q : Share} {b₁ o₁ : ℕ}
-      → (x : Ran held_load_code.routine [] (changes Clock_type.the_row vc b o ∷ reads u8 q file b₁ o₁ ∷ []))
+      → (x : Ran held_load_code.routine [] (changes ClockType.the_row vc b o ∷ reads u8 q file b₁ o₁ ∷ []))
       → Run vc (Cards file) (clock_at x.left b o)
   held_stations : {vc : Val} {b o : ℕ} {latitude : ℤ} {strides : Strides} {vl vt : Val} {records : List Record} {q : Share} {b₁ o₁ : ℕ}
-      → (x : Ran held_station_code.routine [] (changes Clock_type.the_row vc b o ∷ value i32 latitude vl ∷ value Strides_type.the_row strides vt ∷ reads Record_type.the_row q records b₁ o₁ ∷ []))
+      → (x : Ran held_station_code.routine [] (changes ClockType.the_row vc b o ∷ value i32 latitude vl ∷ value StridesType.the_row strides vt ∷ reads RecordType.the_row q records b₁ o₁ ∷ []))
       → Run vc (Station (station_lent latitude strides records)) (clock_at x.left b o)
   held_dates : {vc : Val} {b o : ℕ} {year month : ℕ} {vy vm : Val}
-      → (x : Ran held_date_code.routine [] (changes Clock_type.the_row vc b o ∷ value u32 year vy ∷ value u32 month vm ∷ []))
+      → (x : Ran held_date_code.routine [] (changes ClockType.the_row vc b o ∷ value u32 year vy ∷ value u32 month vm ∷ []))
       → Run vc (Date year month) (clock_at x.left b o)
   lent_heights : {vc : Val} {s : Share} {b o : ℕ} {minute : ℕ} {vm : Val}
-      → Ran lent_height_code.routine [] (sees Clock_type.the_row s vc b o ∷ value u32 minute vm ∷ [])
+      → Ran lent_height_code.routine [] (sees ClockType.the_row s vc b o ∷ value u32 minute vm ∷ [])
       → Run vc (Height minute) vc
   held_heights : {vc : Val} {s : Share} {b o : ℕ} {minute : ℕ} {vm : Val}
-      → Ran held_height_code.routine [] (sees Clock_type.the_row s vc b o ∷ value u32 minute vm ∷ [])
+      → Ran held_height_code.routine [] (sees ClockType.the_row s vc b o ∷ value u32 minute vm ∷ [])
       → Run vc (Height minute) vc
   held_serieses : {vc : Val} {s : Share} {b o : ℕ} {start step : ℕ} {vs vt : Val} {hs : List ℤ} {b₁ o₁ : ℕ}
-      → Ran held_series_code.routine [] (sees Clock_type.the_row s vc b o ∷ value u32 start vs ∷ value u32 step vt ∷ writes i64 hs b₁ o₁ ∷ [])
+      → Ran held_series_code.routine [] (sees ClockType.the_row s vc b o ∷ value u32 start vs ∷ value u32 step vt ∷ writes i64 hs b₁ o₁ ∷ [])
       → Run vc (Series start step hs) vc
   held_searches : {vc : Val} {s : Share} {b o : ℕ} {first last : ℕ} {vf vl : Val} {ms : List ℕ} {b₁ o₁ : ℕ} {hs : List ℤ} {b₂ o₂ : ℕ}
-      → Ran held_turns_code.routine [] (sees Clock_type.the_row s vc b o ∷ value u32 first vf ∷ value u32 last vl ∷ writes u32 ms b₁ o₁ ∷ writes i64 hs b₂ o₂ ∷ [])
+      → Ran held_turns_code.routine [] (sees ClockType.the_row s vc b o ∷ value u32 first vf ∷ value u32 last vl ∷ writes u32 ms b₁ o₁ ∷ writes i64 hs b₂ o₂ ∷ [])
       → Run vc (Turns first last ms hs) vc
   held_years : {vc : Val} {s : Share} {b o : ℕ} {sheet : Sheet} {vy vs vt vf vl : Val} {ss : List ℤ} {b₁ o₁ : ℕ} {ms : List ℕ} {b₂ o₂ : ℕ} {hs : List ℤ} {b₃ o₃ : ℕ}
-      → Ran held_year_code.routine [] (sees Clock_type.the_row s vc b o ∷ value u32 sheet.year vy ∷ value u32 sheet.start vs ∷ value u32 sheet.step vt ∷ value u32 sheet.first vf ∷ value u32 sheet.last vl ∷ writes i64 ss b₁ o₁ ∷ writes u32 ms b₂ o₂ ∷ writes i64 hs b₃ o₃ ∷ [])
+      → Ran held_year_code.routine [] (sees ClockType.the_row s vc b o ∷ value u32 sheet.year vy ∷ value u32 sheet.start vs ∷ value u32 sheet.step vt ∷ value u32 sheet.first vf ∷ value u32 sheet.last vl ∷ writes i64 ss b₁ o₁ ∷ writes u32 ms b₂ o₂ ∷ writes i64 hs b₃ o₃ ∷ [])
       → Run vc (Year sheet ss ms hs) vc
   lent_bookings : {vc : Val} {s : Share} {b o : ℕ} {minutes : List ℕ} {q : Share} {b₁ o₁ : ℕ} {hs : List ℤ} {b₂ o₂ : ℕ}
-      → Ran lent_booking_code.routine [] (sees Clock_type.the_row s vc b o ∷ reads u32 q minutes b₁ o₁ ∷ writes i64 hs b₂ o₂ ∷ [])
+      → Ran lent_booking_code.routine [] (sees ClockType.the_row s vc b o ∷ reads u32 q minutes b₁ o₁ ∷ writes i64 hs b₂ o₂ ∷ [])
       → Run vc (Bookings minutes hs) vc
   held_bookings : {vc : Val} {s : Share} {b o : ℕ} {minutes : List ℕ} {q : Share} {b₁ o₁ : ℕ} {hs : List ℤ} {b₂ o₂ : ℕ}
-      → Ran held_booking_code.routine [] (sees Clock_type.the_row s vc b o ∷ reads u32 q minutes b₁ o₁ ∷ writes i64 hs b₂ o₂ ∷ [])
+      → Ran held_booking_code.routine [] (sees ClockType.the_row s vc b o ∷ reads u32 q minutes b₁ o₁ ∷ writes i64 hs b₂ o₂ ∷ [])
       → Run vc (Bookings minutes hs) vc
   held_hourlies : {vc : Val} {s : Share} {b o : ℕ} {number : ℕ} {vn : Val} {cards : List ℕ} {b₁ o₁ : ℕ}
-      → Ran held_hourly_code.routine [] (sees Clock_type.the_row s vc b o ∷ value u32 number vn ∷ writes u8 cards b₁ o₁ ∷ [])
+      → Ran held_hourly_code.routine [] (sees ClockType.the_row s vc b o ∷ value u32 number vn ∷ writes u8 cards b₁ o₁ ∷ [])
       → Run vc (Hourly number cards) vc
-  held_hands : {vc : Val} {s : Share} {b o : ℕ} → Ran held_names_code.routine [] (sees Clock_type.the_row s vc b o ∷ []) → Run vc Names vc
+  held_hands : {vc : Val} {s : Share} {b o : ℕ} → Ran held_names_code.routine [] (sees ClockType.the_row s vc b o ∷ []) → Run vc Names vc
 
 -- What a run gave is g: g is read off the value that it returned and, where it wrote to a buffer, off the memory at its end; and the buffers
 -- lie there with what is read, and the clock, where it was lent, with what it leaves.
@@ -212,11 +212,11 @@ pub data Runs : Val → List Request → Val → Type 2 where
 
 infixr 5 ◌then◌
 -- what each run of a list gave, the first one first
-unfoldable pub Give_all : {vc vc' : Val} {qs : List Request} → Runs vc qs vc' → List Gave → Type 1
-Give_all done [] = Unit {1}
-Give_all done (g ∷ gs) = ⊥ × Unit {1}
-Give_all (◌then◌ x xs) [] = ⊥ × Unit {1}
-Give_all (◌then◌ x xs) (g ∷ gs) = Gives x g × Give_all xs gs
+unfoldable pub GiveAll : {vc vc' : Val} {qs : List Request} → Runs vc qs vc' → List Gave → Type 1
+GiveAll done [] = Unit {1}
+GiveAll done (g ∷ gs) = ⊥ × Unit {1}
+GiveAll (◌then◌ x xs) [] = ⊥ × Unit {1}
+GiveAll (◌then◌ x xs) (g ∷ gs) = Gives x g × GiveAll xs gs
 
 -- the routines, the first one first
 abbrev pub routines_of : {vc vc' : Val} {qs : List Request} → Runs vc qs vc' → List Routine

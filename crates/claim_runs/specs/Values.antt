@@ -10,12 +10,12 @@ use mir.Syntax.{Width, w8, w32, w64, ty_int}
 use mir.Val.{Val, vunit, vbool, vint, vfloat, vptr, vstruct, Vals, vnil, vcons, as_int, as_bool, to_z, bytes}
 use prog.Memory.{Memory, align, size, load_m}
 use denote.Memory.{raw_all, lone}
-use Rattle.std.specs.Borrow.{Rattle_type}
+use Rattle.std.specs.Borrow.{RattleType}
 use Rattle.columns.specs.Names.{names_from}
 use Rattle.refusals.specs.Outcome.{Outcome, accepted, refused}
-use Rattle.turns.specs.Written.{Turns_found}
-use Rattle.clock.specs.contracts.Clock as Clock_type
-use Rattle.clock.proofs.Clock.The_laws as Clock_laws
+use Rattle.turns.specs.Written.{TurnsFound}
+use Rattle.clock.specs.contracts.Clock as ClockType
+use Rattle.clock.proofs.Clock.TheLaws as ClockLaws
 
 abbrev pub part_in : ℕ → Val → Val
 part_in k vunit = vunit
@@ -46,7 +46,7 @@ abbrev pub height_in : Val → Outcome ℤ
 height_in v = by_tag v (accepted (to_z w64 (number_in (part_in 1 v)))) (refused_in v)
 
 -- "returned: how many, and whether the first is high"
-abbrev pub turns_in : Val → Outcome Turns_found
+abbrev pub turns_in : Val → Outcome TurnsFound
 turns_in v = by_tag v (accepted (record { count = number_in (part_in 1 v); high = as_bool false (part_in 2 v) (λ t. t) })) (refused_in v)
 
 -- "return how many bytes they take"
@@ -82,7 +82,7 @@ verdict_in v = said_in v tt
 abbrev pub reading_in : Val → Outcome ℤ
 reading_in v = said_in v (to_z w64 (number_in (part_in 2 v)))
 
-abbrev pub turnings_in : Val → Outcome Turns_found
+abbrev pub turnings_in : Val → Outcome TurnsFound
 turnings_in v = said_in v (record { count = number_in (part_in 2 v); high = as_bool false (part_in 3 v) (λ t. t) })
 
 abbrev pub held_cards_in : Val → Outcome ℕ
@@ -125,12 +125,12 @@ abbrev pub value_in : Option Val → Val
 value_in none = vunit
 value_in (some v) = v
 
-unfoldable pub value_at : Memory → Rattle_type → ℕ → ℕ → Val
+unfoldable pub value_at : Memory → RattleType → ℕ → ℕ → Val
 value_at σ R b o = value_in (load_m σ (lone (raw_all R.mir)) b o)
 
 abbrev pub clock_at : Memory → ℕ → ℕ → Val
-clock_at σ b o = value_at σ Clock_type.the_row b o
+clock_at σ b o = value_at σ ClockType.the_row b o
 
 -- memory of nothing but zeros, as large as a clock
 abbrev pub zero_memory : Memory
-zero_memory = some (align Clock_laws.mir, replicate (size Clock_laws.mir) (byte 0)) ∷ []
+zero_memory = some (align ClockLaws.mir, replicate (size ClockLaws.mir) (byte 0)) ∷ []

@@ -3,17 +3,17 @@ use mathlib.Core.Path.{◌≡◌, refl}
 use mathlib.Core.Bool.{Bool, false}
 use native.Mathlib.Omega.{arith}
 use Rattle.table.specs.declared.Table.{Table}
-use Rattle.month_prepared.specs.inner.Rows.{In_range}
+use Rattle.month_prepared.specs.inner.Rows.{InRange}
 use Rattle.station.specs.Strides.{stride_outside, strides_outside, usual_strides}
 use Rattle.clock.specs.declared.Clock.{Clock}
 use Rattle.clock.specs.View.{Sound}
-use Rattle.clock.specs.inner.Posts.{Bare_post}
+use Rattle.clock.specs.inner.Posts.{BarePost}
 
 usual-inside : strides_outside usual_strides ≡ false
 unfolding strides_outside stride_outside
 usual-inside = refl
 
-pub bare-sound : (tabled : Bool) (table : Table) (r : Clock) → In_range table.frequencies table.speeds → Bare_post tabled table r → Sound r
+pub bare-sound : (tabled : Bool) (table : Table) (r : Clock) → InRange table.frequencies table.speeds → BarePost tabled table r → Sound r
 bare-sound tabled table r within p =
     record {
       cosines = p.cosines;

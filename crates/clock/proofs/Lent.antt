@@ -5,7 +5,7 @@ use mathlib.Core.Path.{refl}
 use Prim.Native.Nat.{ℕ, ◌+◌}
 use mathlib.Core.List.{List, [], ◌∷◌}
 use mathlib.Core.Option.{Option, none, some}
-use lib.Int_n.{ℤ}
+use lib.IntN.{ℤ}
 use seplogic.Ra.Ura.{Ura}
 use mir.Syntax.{Lifetime, Ty}
 use mir.Val.{Val, vptr}
@@ -15,11 +15,11 @@ use prog.Memory.{field_at}
 use types.Logic.{Logic, sem}
 use types.Kit.{‵, ◌⊛◌, later, ◌$◌, !, qed, by, move, keep, use1, use2, split, fjoin3, feq_i, updating, now, await, frame, join, done, suffices}
 use types.Tokens.{name_new, shr_bor_dup}
-use denote.Rattle_type.{Rattle_type, mirs}
+use denote.RattleType.{RattleType, mirs}
 use denote.Memory.{part_at}
 use denote.Array.{Array}
 use denote.Builtin.{u16, u32, u64, i32}
-use denote.Ref.{Shr_ref}
+use denote.Ref.{ShrRef}
 use denote.Struct.Field.{rows}
 use denote.Struct.Struct.{to_tys}
 use borrow.Struct.Share.{Parts, part_cut}
@@ -32,11 +32,11 @@ use Rattle.table.specs.inner.View.{table_of}
 use Rattle.station.specs.inner.Station.{station_of}
 use Rattle.refusals.specs.Outcome.{Outcome}
 use Rattle.clock.specs.View.{view, Made}
-use Rattle.clock.specs.Posts.{Height_post, Bookings_post}
-use Rattle.clock.specs.inner.Posts.{Parts_made, Height_from, Bookings_from}
+use Rattle.clock.specs.Posts.{HeightPost, BookingsPost}
+use Rattle.clock.specs.inner.Posts.{PartsMade, HeightFrom, BookingsFrom}
 use Rattle.clock.specs.declared.Clock.{Clock}
 use Rattle.clock.specs.contracts.Clock as T
-use Rattle.clock.proofs.Clock.The_laws as T'
+use Rattle.clock.proofs.Clock.TheLaws as T'
 
 -- where in a clock each array lies, in bytes, worked out from the fields before it; the cosines lie at its beginning
 abbrev placed : Option (Ty × ℕ) → ℕ
@@ -64,10 +64,10 @@ qs_at = field_place 14
 module _ {M : Type 1} {𝓤 : Ura M} (𝓛 : Logic 𝓤) where
   open 𝓛 use {H, A}
 
-  abbrev pub Lends : (R F : Rattle_type) → (ℕ → ℕ) → (R.Denot → F.Denot) → Lifetime → Lft → Share → R.Denot → ℕ → ℕ → GName → SProp 𝓤
-  Lends R F at sub ℓ κ q x b o γ = sep 𝓤 (sem 𝓛 ((Shr_ref ℓ κ F).own_val (record { ref_ptr = (b, at o); now = sub x }) (vptr b (at o) ∷ []))) (sep 𝓤 (A.shr_bor κ (λ s. part_at R s x b o)) (A.lft κ q))
+  abbrev pub Lends : (R F : RattleType) → (ℕ → ℕ) → (R.Denot → F.Denot) → Lifetime → Lft → Share → R.Denot → ℕ → ℕ → GName → SProp 𝓤
+  Lends R F at sub ℓ κ q x b o γ = sep 𝓤 (sem 𝓛 ((ShrRef ℓ κ F).own_val (record { ref_ptr = (b, at o); now = sub x }) (vptr b (at o) ∷ []))) (sep 𝓤 (A.shr_bor κ (λ s. part_at R s x b o)) (A.lft κ q))
 
-  pub lends_part : (R F : Rattle_type) (at : ℕ → ℕ) (sub : R.Denot → F.Denot) → Parts 𝓛 R F at sub → (ℓ : Lifetime) (κ : Lft) (q : Share) (x : R.Denot) (b o : ℕ)
+  pub lends_part : (R F : RattleType) (at : ℕ → ℕ) (sub : R.Denot → F.Denot) → Parts 𝓛 R F at sub → (ℓ : Lifetime) (κ : Lft) (q : Share) (x : R.Denot) (b o : ℕ)
       → ent 𝓤 (sep 𝓤 (A.shr_bor κ (λ s. part_at R s x b o)) (A.lft κ q)) (H.⇛ (ex 𝓤 (Lends R F at sub ℓ κ q x b o)))
   lends_part R F at sub pt ℓ κ q x b o = qed 𝓛 (‵ (fshr_bor κ (λ s. part_at R s x b o)) ∷ ‵ (flft κ q) ∷ []) {P = H.⇛ (ex 𝓤 (Lends R F at sub ℓ κ q x b o))} (
       updating ! $ shr_bor_dup ! $ move ! (0 ∷ 2 ∷ []) $ use2 𝓛 (later (‵ (fshr_bor κ (λ s. part_at F s (sub x) b (at o))) ⊛ ‵ (flft κ q))) (pt κ q x b o) $ await ! tt $ split ! $
@@ -102,16 +102,16 @@ module _ {M : Type 1} {𝓤 : Ura M} (𝓛 : Logic 𝓤) where
       (λ s c b o. Cut-Array 𝓛 s T.the_row i32 most_records qs_at c c c.qs c.qs (b, o) (look_at 𝓛 s T.the_type T'.the_laws 14 qs_at refl refl (b, o) c ((T.struct).as_values c) refl)) (halves 𝓛 (c_struct T.the_type T'.the_laws T'.the_copy))
 
 -- the parts of a clock that a call made
-pub parts-made : (c : Clock) → Made c → Parts_made c.tabled c.cosines c.count c.last
+pub parts-made : (c : Clock) → Made c → PartsMade c.tabled c.cosines c.count c.last
 parts-made c made tabled = let sound = made tabled in (sound.cosines, (sound.count, sound.last))
 
 -- a height from the parts of a clock is the clock's
-pub from_parts : (c : Clock) (m : ℕ) (returned : Outcome ℤ) → Height_from c.tabled c.stationed c.dated c.last c.count c.arguments c.lags c.frequencies c.ps c.qs m returned → Height_post c m returned
+pub from_parts : (c : Clock) (m : ℕ) (returned : Outcome ℤ) → HeightFrom c.tabled c.stationed c.dated c.last c.count c.arguments c.lags c.frequencies c.ps c.qs m returned → HeightPost c m returned
 unfolding view
 from_parts c m returned p = record { returns = p.returns (table_of c.table) (station_of c.station) c.year c.month }
 
 -- and so are bookings
 pub bookings-from-parts : (c : Clock) (minutes : List ℕ) (heights left : List ℤ) (returned : Outcome Unit)
-    → Bookings_from c.tabled c.stationed c.dated c.last c.count c.arguments c.lags c.frequencies c.ps c.qs minutes heights left returned → Bookings_post c minutes heights left returned
+    → BookingsFrom c.tabled c.stationed c.dated c.last c.count c.arguments c.lags c.frequencies c.ps c.qs minutes heights left returned → BookingsPost c minutes heights left returned
 unfolding view
 bookings-from-parts c minutes heights left returned p = record { gives = p.gives (table_of c.table) (station_of c.station) c.year c.month }

@@ -3,7 +3,7 @@
 -- Assumes `Logic`.
 use types.Logic.{Logic}
 use denote.Ref.{Bor, shr_vals}
-use Rattle.clock.proofs.Walking.{◌≡◌, refl, ℕ, ◌<◌, ◌^◌, List, [], ◌∷◌, Ura, full_share, named, w32, w64, Val, vint, vptr, id⊢, Fml, Lft, GName, Share, ftrue, flft, Calls, Loops, Item, ‵, raw, ◌⊛◌, some, later, ◌$◌, !, move, drop, use1, use2, split, pick, fsplit, fsplit3, fjoin, await, whole, sub, look_in, look, init, stop, hop, fld, from, load, of_opd, assigns, owns, Is, shows, uint_Makes, u32, usize, Ref_t, ptr-vals, owned, peeks, spelt, found}
+use Rattle.clock.proofs.Walking.{◌≡◌, refl, ℕ, ◌<◌, ◌^◌, List, [], ◌∷◌, Ura, full_share, named, w32, w64, Val, vint, vptr, id⊢, Fml, Lft, GName, Share, ftrue, flft, Calls, Loops, Item, ‵, raw, ◌⊛◌, some, later, ◌$◌, !, move, drop, use1, use2, split, pick, fsplit, fsplit3, fjoin, await, whole, sub, look_in, look, init, stop, hop, fld, from, load, of_opd, assigns, owns, Is, shows, uint_Makes, u32, usize, RefT, ptr-vals, owned, peeks, spelt, found}
 use Prim.Native.Nat.{zero, suc, ◌+◌}
 use mir.Syntax.{Width, w16, Ty, Place, Rv, Body, imm, erased, ty_int, ty_bool, ty_array, ty_ref, place, deref, field, copy, rv_opd, addr_of, assign, seq}
 use mir.Val.{vbool}
@@ -12,12 +12,12 @@ use prog.Wp.{Env, spot_of}
 use contract.Lifetimes.{Lfts, Shares, toks}
 use types.Kit.{Go, Sq, Step, step, Goal, Post, runs}
 use types.Run.{addr}
-use denote.Rattle_type.{Rattle_type, Denots, Valss}
+use denote.RattleType.{RattleType, Denots, Valss}
 use denote.Memory.{part_at, pointee}
 use denote.Array.{Array}
 use denote.Plain.{bool_Makes}
 use denote.Builtin.{u16, u64, i32, bool}
-use denote.Ref.{Shr_ref}
+use denote.Ref.{ShrRef}
 use denote.Steps.{looks, shuts}
 use denote.Struct.Laws as LL
 use borrow.Struct.Share.{Parts}
@@ -26,7 +26,7 @@ use Rattle.cosine.specs.Fixed.{entries}
 use Rattle.clock.specs.declared.Clock.{Clock}
 use Rattle.clock.proofs.Lent.{arguments_at, lags_at, frequencies_at, ps_at, qs_at, lends_part, cosines-part, arguments-part, lags-part, frequencies-part, ps-part, qs-part}
 use Rattle.clock.specs.contracts.Clock as T
-use Rattle.clock.proofs.Clock.The_laws as T'
+use Rattle.clock.proofs.Clock.TheLaws as T'
 
 abbrev pub ref_ty : Ty
 ref_ty = ty_ref (named 0) imm (pointee (T.the_row).written)
@@ -53,11 +53,11 @@ abbrev part : {X : Type 0} → Bor Clock → ℕ → X → GName → Bor X
 part x d y γ = record { ref_ptr = (x.ptr.0, x.ptr.1 + d); now = y }
 
 -- the call's parameters: their types, what they are and their machine values
-abbrev lent_types : Lft → List Rattle_type → List Rattle_type
-lent_types κ ts = Shr_ref (named 0) κ (Array u32 entries) ∷ Shr_ref (named 0) κ (Array u64 most_records) ∷ Shr_ref (named 0) κ (Array u16 most_records) ∷ Shr_ref (named 0) κ (Array u64 most_records) ∷ Shr_ref (named 0) κ (Array i32 most_records) ∷ Shr_ref (named 0) κ (Array i32 most_records)
+abbrev lent_types : Lft → List RattleType → List RattleType
+lent_types κ ts = ShrRef (named 0) κ (Array u32 entries) ∷ ShrRef (named 0) κ (Array u64 most_records) ∷ ShrRef (named 0) κ (Array u16 most_records) ∷ ShrRef (named 0) κ (Array u64 most_records) ∷ ShrRef (named 0) κ (Array i32 most_records) ∷ ShrRef (named 0) κ (Array i32 most_records)
     ∷ bool ∷ bool ∷ bool ∷ u64 ∷ usize ∷ ts
 
-module _ (κ : Lft) (x : Bor Clock) (ts : List Rattle_type) where
+module _ (κ : Lft) (x : Bor Clock) (ts : List RattleType) where
   abbrev pub lent_args : Denots ts → GName → GName → GName → GName → GName → GName → Denots (lent_types κ ts)
   lent_args xs γ₀ γ₁ γ₂ γ₃ γ₄ γ₅ = (part x 0 x.now.cosines γ₀, (part x arguments_at x.now.arguments γ₁, (part x lags_at x.now.lags γ₂, (part x frequencies_at x.now.frequencies γ₃, (part x ps_at x.now.ps γ₄, (part x qs_at x.now.qs γ₅, (x.now.tabled, (x.now.stationed, (x.now.dated, (x.now.last, (x.now.count, xs)))))))))))
 
@@ -80,7 +80,7 @@ module _ {M : Type 1} {𝓤 : Ura M} (𝓛 : Logic 𝓤) where
   Spots E [] i = Unit {0}
   Spots E (l ∷ ls) i = (spot_of 𝓤 H E i ≡ (l.0, l.2, zero)) × Spots E ls (suc i)
 
-  module _ (n : ℕ) (κ : Lft) (κs : Lfts n) (q : Share) (qs : Shares n) (x : Bor Clock) (ts : List Rattle_type) (xs : Denots ts) (vs : Valss ts)
+  module _ (n : ℕ) (κ : Lft) (κs : Lfts n) (q : Share) (qs : Shares n) (x : Bor Clock) (ts : List RattleType) (xs : Denots ts) (vs : Valss ts)
       (τ : Ty) (l₀ l₁ i i₀ i₁ i₂ i₃ i₄ i₅ i₆ i₇ i₈ i₉ i₁₀ : ℕ) (Es : Env 𝓤 H) (Δ : List (Item 𝓤)) where
     abbrev E : Env 𝓤 H
     E = (τ, l₀) ∷ (ref_ty, l₁) ∷ Es
@@ -93,7 +93,7 @@ module _ {M : Type 1} {𝓤 : Ura M} (𝓛 : Logic 𝓤) where
     Tokens = raw (toks 𝓛 (suc n) (κ, κs) (q, qs))
 
     abbrev Before : List (Item 𝓤)
-    Before = ‵ ((Shr_ref (named 0) κ T.the_row).own_val x (shr_vals x)) ∷ ‵ (owns ts xs vs) ∷ Tokens ∷ rooms eleven (‵ (fat full_share ref_ty l₁ zero (vptr x.ptr.0 x.ptr.1)) ∷ Δ)
+    Before = ‵ ((ShrRef (named 0) κ T.the_row).own_val x (shr_vals x)) ∷ ‵ (owns ts xs vs) ∷ Tokens ∷ rooms eleven (‵ (fat full_share ref_ty l₁ zero (vptr x.ptr.0 x.ptr.1)) ∷ Δ)
 
     abbrev After : GName → GName → GName → GName → GName → GName → List (Item 𝓤)
     After γ₀ γ₁ γ₂ γ₃ γ₄ γ₅ = Tokens ∷ ‵ (owns (lent_types κ ts) (lent_args κ x ts xs γ₀ γ₁ γ₂ γ₃ γ₄ γ₅) (lent_vals κ x ts vs)) ∷ cells eleven (‵ (fat full_share ref_ty l₁ zero (vptr x.ptr.0 x.ptr.1)) ∷ Δ)
@@ -112,10 +112,10 @@ module _ {M : Type 1} {𝓤 : Ura M} (𝓛 : Logic 𝓤) where
     abbrev Whole : Fml
     Whole = fshr_bor κ (λ s. part_at T.the_row s x.now x.ref_ptr.0 x.ref_ptr.1)
 
-    abbrev Part : (F : Rattle_type) → ℕ → F.Denot → GName → Item 𝓤
-    Part F d y γ = ‵ ((Shr_ref (named 0) κ F).own_val (part x d y γ) (ptr_to x d ∷ []))
+    abbrev Part : (F : RattleType) → ℕ → F.Denot → GName → Item 𝓤
+    Part F d y γ = ‵ ((ShrRef (named 0) κ F).own_val (part x d y γ) (ptr_to x d ∷ []))
 
-    lending : {Γ : List (Item 𝓤)} {𝓒 : Calls 𝓤 H} {Λ : Loops 𝓤 H} {rest : Body} {K : Post 𝓤 H} (F : Rattle_type) (d : ℕ) (get : Clock → F.Denot) → Parts 𝓛 T.the_row F (λ o. o + d) get
+    lending : {Γ : List (Item 𝓤)} {𝓒 : Calls 𝓤 H} {Λ : Loops 𝓤 H} {rest : Body} {K : Post 𝓤 H} (F : RattleType) (d : ℕ) (get : Clock → F.Denot) → Parts 𝓛 T.the_row F (λ o. o + d) get
         → ((γ : GName) → Sq 𝓛 (‵ Whole ∷ ‵ (flft κ q) ∷ Part F d (get x.now) γ ∷ Γ) (runs 𝓒 Λ E rest K)) → Sq 𝓛 (‵ Whole ∷ ‵ (flft κ q) ∷ Γ) (runs 𝓒 Λ E rest K)
     lending F d get cut next =
         use2 𝓛 (later (some (λ (γ : GName). Part F d (get x.now) γ ⊛ (‵ Whole ⊛ ‵ (flft κ q))))) (lends_part 𝓛 T.the_row F (λ o. o + d) get cut (named 0) κ q x.now x.ref_ptr.0 x.ref_ptr.1) $

@@ -1,12 +1,12 @@
 pub mod Tables
-pub mod Bare_clock
-pub mod Cards_case
+pub mod BareClock
+pub mod CardsCase
 pub mod Stations
 pub mod Months
 pub mod Lent
 pub mod Walking
-pub mod Lent_on
-pub mod Passed_on
-pub mod One_month
+pub mod LentOn
+pub mod PassedOn
+pub mod OneMonth
 pub mod Sheets
 pub mod Hours

@@ -4,14 +4,14 @@ use Prim.Native.Nat.{ℕ, zero, suc, ◌+◌, ◌<◌, min}
 use mathlib.Core.List.{List}
 use native.Mathlib.Omega.{arith}
 use native.Mathlib.Nat.{zero-add, add-zero}
-use lib.List_n.{get_or}
-use lib.Int_n.{ℤ, pos}
+use lib.ListN.{get_or}
+use lib.IntN.{ℤ, pos}
 use Rattle.limits.specs.Limits.{most_records}
 use Rattle.refusals.specs.Outcome.{Outcome, accepted, refused, outcome_of, number_of, answered, on_accepted}
 use Rattle.refusals.proofs.Laws.{not-both}
 use Rattle.refusals.specs.declared.Refusal.{Refusal}
 use Rattle.refusals.specs.declared.Answer.{Answer}
-use Rattle.refusals.specs.declared.Answer.The_variants.{Accepted, Refused}
+use Rattle.refusals.specs.declared.Answer.TheVariants.{Accepted, Refused}
 use Rattle.table.specs.inner.View.{table_of}
 use Rattle.station.specs.inner.Station.{station_of}
 use Rattle.month_prepared.specs.Prepared.{Constituent}
@@ -23,15 +23,15 @@ use Rattle.month.specs.Month.{month_of}
 use Rattle.month.specs.inner.View.{answered_with, prepared_of}
 use Rattle.month.specs.declared.Prepared.{Prepared}
 use Rattle.month.specs.declared.Preparation.{Preparation}
-use Rattle.month.specs.declared.Preparation.The_variants as preparation
+use Rattle.month.specs.declared.Preparation.TheVariants as preparation
 use Rattle.month.proofs.Ranges.{prepared-in-range}
 use Rattle.calls.specs.State.{State}
 use Rattle.clock.specs.declared.Clock.{Clock}
 use Rattle.calls.specs.inner.Flags.{date_by}
 use Rattle.calls.proofs.Dates.{date-refused, date-prepared}
 use Rattle.clock.specs.View.{view, month_in, Sound, Made}
-use Rattle.clock.specs.Posts.{Date_post}
-use Rattle.clock.specs.inner.Posts.{Prepared_post}
+use Rattle.clock.specs.Posts.{DatePost}
+use Rattle.clock.specs.inner.Posts.{PreparedPost}
 use Rattle.clock.specs.inner.Parts.{with_month}
 use Rattle.clock.proofs.Tables.{frequencies-within}
 
@@ -47,11 +47,11 @@ frequency-at vs ls fs ps qs k (suc n) (suc i) none h =
 -- accepted is what is ready
 ready_by : (answer : Preparation) (m : Month) → answered (answered_with answer m) ≡ accepted tt → answered_with answer m ≡ accepted (constituents_of m)
 ready_by preparation.Ready m e = refl
-ready_by (preparation.Too_large place) m e = not-both e
+ready_by (preparation.TooLarge place) m e = not-both e
 
 module _ (c : Clock) (year month : ℕ) (p : Prepared) (answer : Answer) (sound : Sound c)
     (prepares : prepared_of p ≡ month_of (table_of c.table) (station_of c.station) year month) (says : outcome_of answer ≡ answered (prepared_of p)) where
-  pub month-ready : answer ≡ Accepted → Prepared_post c year month Accepted (with_month c year month (month_minutes year month) p.month)
+  pub month-ready : answer ≡ Accepted → PreparedPost c year month Accepted (with_month c year month (month_minutes year month) p.month)
   unfolding view
   month-ready e =
       let ready : month_of (table_of c.table) (station_of c.station) year month ≡ accepted (constituents_of p.month) = sym prepares ∙ ready_by p.answer p.month (sym says ∙ ap outcome_of e) in
@@ -70,7 +70,7 @@ module _ (c : Clock) (year month : ℕ) (p : Prepared) (answer : Answer) (sound 
         leaves = rw ready;
       }
 
-  pub month-refused : (r : Refusal) (place : ℕ) → answer ≡ Refused r place → Prepared_post c year month answer c
+  pub month-refused : (r : Refusal) (place : ℕ) → answer ≡ Refused r place → PreparedPost c year month answer c
   month-refused r place e =
       record { sound = sound; returns = rw (← prepares) says; leaves = rw (← prepares) (by (prepared_of p) (sym says ∙ ap outcome_of e) _) }
     where
@@ -80,14 +80,14 @@ module _ (c : Clock) (year month : ℕ) (p : Prepared) (answer : Answer) (sound 
 
 -- a date that passes returns and leaves what its month says
 pub date-post : (c : Clock) (year month : ℕ) → date_by c.tabled c.stationed year month ≡ accepted tt
-    → (answer : Answer) (left : Clock) → Prepared_post c year month answer left → Date_post c year month (outcome_of answer) left
+    → (answer : Answer) (left : Clock) → PreparedPost c year month answer left → DatePost c year month (outcome_of answer) left
 unfolding view
 date-post c year month e answer left p =
     let law = date-prepared (table_of c.table) (station_of c.station) c.dated (month_in c) year month c.tabled c.stationed e in
     record { made = λ _. p.sound; returns = p.returns ∙ law.0; leaves = p.leaves ∙ law.1 }
 
 pub date-post-refused : (c : Clock) (year month : ℕ) → Made c → (answer : Answer) → outcome_of answer ≡ date_by c.tabled c.stationed year month
-    → (r : Refusal) (place : ℕ) → answer ≡ Refused r place → Date_post c year month (outcome_of answer) c
+    → (r : Refusal) (place : ℕ) → answer ≡ Refused r place → DatePost c year month (outcome_of answer) c
 unfolding view
 date-post-refused c year month made answer says r place e =
     let law = date-refused (table_of c.table) (station_of c.station) c.dated (month_in c) year month c.tabled c.stationed (number_of r) place (sym says ∙ ap outcome_of e) in

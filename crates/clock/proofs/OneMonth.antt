@@ -3,15 +3,15 @@
 use mathlib.Core.Path.{◌≡◌, ap}
 use mathlib.Core.List.{List}
 use native.Mathlib.Omega.{arith}
-use lib.List_n.{get_or}
+use lib.ListN.{get_or}
 use mir.Val.{Val}
 use denote.Laws.{Is}
 use borrow.Author.Rules.{length_unmapped}
 use Rattle.limits.specs.Limits.{most_records}
 use Rattle.month_prepared.specs.Months.{owner_of}
 use Rattle.month_prepared.specs.declared.months.Months.{Months}
-use Rattle.month_prepared.specs.inner.Rows.{Is_row, last_of}
-use Rattle.month_prepared.proofs.One_month.{one_last, one-following, one-row, one-month}
+use Rattle.month_prepared.specs.inner.Rows.{IsRow, last_of}
+use Rattle.month_prepared.proofs.OneMonth.{one_last, one-following, one-row, one-month}
 use Rattle.heights.specs.Height.{height_at, height_over}
 use Rattle.turns.specs.Slope.{slope_at, slope_over}
 use Rattle.turns.specs.inner.Lists.{Rows, slopes_in, heights_in}
@@ -20,7 +20,7 @@ use Rattle.clock.specs.declared.Clock.{Clock}
 use Rattle.clock.specs.contracts.Clock as T
 
 -- a clock's arguments and weights are a row: their arrays have a place for each record
-pub lent_row : (c : Clock) {values : List Val} → Is T.the_row c values → Is_row c.arguments c.ps c.qs
+pub lent_row : (c : Clock) {values : List Val} → Is T.the_row c values → IsRow c.arguments c.ps c.qs
 lent_row c is =
     record {
       arguments = length_unmapped _ c.arguments most_records is.1.1.1.1.1.1.1.1.1.1.1.1.0.1.0.1;
@@ -29,7 +29,7 @@ lent_row c is =
     }
 
 module _ (c : Clock) (months : Months) (is : (months.count ≡ c.count) × ((months.many ≡ 1) × (get_or months.lasts 0 0 ≡ c.last)))
-    (row : Is_row c.arguments c.ps c.qs) where
+    (row : IsRow c.arguments c.ps c.qs) where
   -- its rows are what a search asks for
   pub one-rows : Sound c → Rows c.cosines months c.arguments c.frequencies c.ps c.qs
   one-rows sound =

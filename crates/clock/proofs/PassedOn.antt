@@ -5,7 +5,7 @@ use types.Logic.{Logic}
 use denote.Exit.{Kept, left}
 use denote.Signature.{Slot}
 use denote.Triple.End.{Kepts}
-use denote.Triple.Walked.{Stay, Goes, All_go}
+use denote.Triple.Walked.{Stay, Goes, AllGo}
 
 module _ {n : ℕ} where
   abbrev passed : (s : Slot n) (k : Kept) → Stay s k
@@ -19,6 +19,6 @@ module _ {M : Type 1} {𝓤 : Ura M} (𝓛 : Logic 𝓤) (n : ℕ) where
   passed-goes : (s : Slot n) (k : Kept) → Goes 𝓛 n s k (passed s k)
   passed-goes s k κs x f vs ok = 𝓛.laws.⇛_intro _
 
-  pub all_go : (ss : List (Slot n)) (ks : Kepts ss) → All_go 𝓛 n ss ks (all-passed ss ks)
+  pub all_go : (ss : List (Slot n)) (ks : Kepts ss) → AllGo 𝓛 n ss ks (all-passed ss ks)
   all_go [] ks = tt
   all_go (s ∷ ss) ks = (passed-goes s ks.0, all_go ss ks.1)

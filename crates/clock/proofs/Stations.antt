@@ -3,11 +3,11 @@ use Prim.{Unit}
 use mathlib.Core.Path.{◌≡◌, sym, ap, ◌∙◌}
 use Prim.Native.Nat.{ℕ}
 use mathlib.Core.List.{List}
-use lib.List_n.{length}
-use lib.Int_n.{ℤ}
+use lib.ListN.{length}
+use lib.IntN.{ℤ}
 use Rattle.refusals.specs.Outcome.{Outcome, accepted, outcome_of, number_of}
 use Rattle.refusals.specs.declared.Refusal.{Refusal}
-use Rattle.refusals.specs.declared.Answer.The_variants.{Accepted, Refused}
+use Rattle.refusals.specs.declared.Answer.TheVariants.{Accepted, Refused}
 use Rattle.table.specs.inner.View.{table_of}
 use Rattle.station.specs.declared.records.Record.{Record}
 use Rattle.station.specs.Records.{records_of}
@@ -17,21 +17,21 @@ use Rattle.station.specs.declared.strides.Strides.{Strides}
 use Rattle.station.specs.Station.{Station, station_lent}
 use Rattle.station.specs.inner.Station.{station_of}
 use Rattle.station.specs.declared.Taken.{Taken}
-use Rattle.calls.specs.inner.Posts.{Taken_post}
+use Rattle.calls.specs.inner.Posts.{TakenPost}
 use Rattle.calls.proofs.Stations.{station-accepted, station-strides, station-refused}
 use Rattle.calls.proofs.Lent.{lent_same}
 use Rattle.clock.specs.declared.Clock.{Clock}
 use Rattle.clock.specs.View.{view, month_in, Made}
-use Rattle.clock.specs.Posts.{Station_post}
+use Rattle.clock.specs.Posts.{StationPost}
 use Rattle.clock.specs.inner.Parts.{with_station}
 
-module _ (c : Clock) (station : Station) (made : Made c) (taken : Taken) (says : Taken_post c.tabled c.table station taken) where
+module _ (c : Clock) (station : Station) (made : Made c) (taken : Taken) (says : TakenPost c.tabled c.table station taken) where
   -- what is kept has the strides of what was lent
   strides-kept : station_of taken.station ≡ station → taken.station.strides ≡ station.strides
   unfolding station_of
   strides-kept e = ap (λ (s : Station). s.strides) e
 
-  pub taken-accepted : taken.answer ≡ Accepted → Station_post c station (accepted tt) (with_station c taken.station)
+  pub taken-accepted : taken.answer ≡ Accepted → StationPost c station (accepted tt) (with_station c taken.station)
   unfolding view
   taken-accepted e =
       let asked = sym says.says ∙ ap outcome_of e in
@@ -45,7 +45,7 @@ module _ (c : Clock) (station : Station) (made : Made c) (taken : Taken) (says :
         leaves = rw (says.keeps (ap outcome_of e)) law.1;
       }
 
-  pub taken_refused : (r : Refusal) (place : ℕ) → taken.answer ≡ Refused r place → Station_post c station (outcome_of taken.answer) c
+  pub taken_refused : (r : Refusal) (place : ℕ) → taken.answer ≡ Refused r place → StationPost c station (outcome_of taken.answer) c
   unfolding view
   taken_refused r place e =
       let law = station-refused (table_of c.table) c.stationed (station_of c.station) c.dated (month_in c) station c.tabled (number_of r) place (sym says.says ∙ ap outcome_of e) in
@@ -53,7 +53,7 @@ module _ (c : Clock) (station : Station) (made : Made c) (taken : Taken) (says :
 
 -- what holds of the rows' records holds of those lent
 pub lent-post : (c : Clock) (latitude : ℤ) (strides : Strides) (records : List Record) (returned : Outcome Unit) (left : Clock) (rows : Rows) → rows ≡ rows_of records
-    → Station_post c (station_lent latitude strides (records_of rows (length records))) returned left → Station_post c (station_lent latitude strides records) returned left
+    → StationPost c (station_lent latitude strides (records_of rows (length records))) returned left → StationPost c (station_lent latitude strides records) returned left
 lent-post c latitude strides records returned left rows e p =
     let same = lent_same latitude strides (view c) records rows e in
     record { made = p.made; returns = p.returns ∙ same.0; leaves = p.leaves ∙ same.1 }

@@ -8,17 +8,17 @@ use native.Mathlib.Nat.{zero-add}
 use mathlib.Core.Bool.{Bool, true, false}
 use lib.Dec.{ltb}
 use borrow.Author.Tests.{ltb-true, ltb-false}
-use lib.List_n.{length, get_or, get_or-eq_default}
+use lib.ListN.{length, get_or, get_or-eq_default}
 use Rattle.table.specs.Table as document
 use Rattle.table.specs.Table.{Frequency, no_cards}
 use Rattle.table.specs.inner.View.{table_of, listed, frequency_of}
 use Rattle.table.specs.declared.Table.{Table}
 use Rattle.table.proofs.Rows.{listed-length, listed_at}
-use Rattle.month_prepared.specs.inner.Rows.{In_range}
+use Rattle.month_prepared.specs.inner.Rows.{InRange}
 use Rattle.calls.proofs.settings.Tables.{frequencies-count}
 
 -- a table of no cards has none
-pub none-in-range : (t : Table) → table_of t ≡ no_cards → In_range t.frequencies t.speeds
+pub none-in-range : (t : Table) → table_of t ≡ no_cards → InRange t.frequencies t.speeds
 unfolding no_cards
 none-in-range t e k h =
     let n : t.frequencies ≡ 0 = sym (frequencies-count t) ∙ ap (λ (d : document.Table). length d.frequencies) e in
@@ -26,7 +26,7 @@ none-in-range t e k h =
 
 -- where the document's frequencies are in range, so are the struct's numbers
 pub in-range : (t : Table) → ((none : Frequency) → none.frequency ≡ 0 → (k : ℕ) → (get_or (table_of t).frequencies k none).frequency ≤ 4_999_999_999)
-    → In_range t.frequencies t.speeds
+    → InRange t.frequencies t.speeds
 unfolding table_of frequency_of
 in-range t within k h =
     let none : Frequency = record { name = []; frequency = 0 } in
@@ -34,7 +34,7 @@ in-range t within k h =
     rw (at, zero-add k) at (within none refl k)
 
 -- and the other way: where the struct's numbers are in range, so are the document's frequencies
-pub frequencies-within : (t : Table) → In_range t.frequencies t.speeds
+pub frequencies-within : (t : Table) → InRange t.frequencies t.speeds
     → (none : Frequency) → none.frequency ≡ 0 → (k : ℕ) → (get_or (table_of t).frequencies k none).frequency ≤ 4_999_999_999
 unfolding table_of frequency_of
 frequencies-within t within none z k = by (ltb k t.frequencies) refl

@@ -12,20 +12,20 @@ use denote.Signature.{type_at, types_at}
 use denote.Triple.Bound.{Bound, passed}
 use denote.Triple.Clauses.{Ended, Clauses, Lasts, at_exit, closing}
 use denote.Triple.Entry.{Res, alive}
-use denote.Triple.Walked.{All_go}
+use denote.Triple.Walked.{AllGo}
 pub use mathlib.Core.Path.{◌≡◌, refl, ap, subst}
 pub use Prim.Native.Nat.{ℕ, ◌<◌, ◌^◌}
 pub use mathlib.Core.List.{List, [], ◌∷◌}
-pub use lib.List_n.{length}
+pub use lib.ListN.{length}
 pub use seplogic.Ra.Ura.{Ura}
-pub use seplogic.Ra.Tree_share.{full_share}
+pub use seplogic.Ra.TreeShare.{full_share}
 pub use mir.Syntax.{named, w32, w64}
 pub use mir.Val.{Val, vint, vptr}
 pub use base.Logic.{SProp, ent, sep, emp, via, fst∗, snd∗, ex_e, id⊢}
 pub use base.Fml.{Fml, Lft, GName, Share, ftrue, flft}
 pub use prog.Memory.{Memory}
 pub use prog.Routine.{Routine}
-pub use prog.Wp.{Heap, Calls, Loops, Wp_fn, Tables}
+pub use prog.Wp.{Heap, Calls, Loops, WpFn, Tables}
 pub use ghost.Atoms.{Atoms, meaning}
 use types.Logic.{Logic, sem}
 pub use contract.Monad.{Fun, fact, fact_i}
@@ -33,13 +33,13 @@ unfoldable pub use contract.Running.{given_of, tables, tables_of}
 pub use types.Kit.{Given, Item, ‵, raw, ◌⊛◌, some, later, ⋆, ◌$◌, ◌∵◌, !, qed, by, move, keep, drop, use0, use1, use2, split, join, pick, rewrite, fsplit, fsplit3, fjoin, fjoin3, feq_i, suffices, frame, await, done}
 pub use types.Part.{whole, sub, look_in}
 pub use types.Run.{look, look_raw, store_raw, init, forget, stop, hop, fld, from, load, of_opd, and_then, no_more, assigns, land, returns, enter, alloc1, alloc0, params1, pass1, pass0, free1, free0}
-pub use sound.Wp_laws.{Fm_c, fm_of, Wp_fn-mono}
+pub use sound.WpLaws.{FmC, fm_of, WpFn-mono}
 pub use denote.Exit.{yes}
-pub use denote.Rattle_type.{owns}
+pub use denote.RattleType.{owns}
 pub use denote.Laws.{Is, shows}
 pub use denote.Plain.{uint_vals, uint_Tells, uint_Makes}
 pub use denote.Builtin.{u8, u32, usize}
-pub use denote.Ref.{Bor, Mut_bor, shr_vals, mut_vals}
+pub use denote.Ref.{Bor, MutBor, shr_vals, mut_vals}
 pub use denote.Signature.{plain}
 pub use denote.Steps.{owned, peeks, heard, nothing}
 pub use denote.Struct.Steps.{spelt}
@@ -83,7 +83,7 @@ module _ {M : Type 1} {𝓤 : Ura M} (𝓛 : Logic 𝓤) (T : Ended) (c : Clause
     pub asks : {Γ : List (Item 𝓤)} {E : Env 𝓤 H} {C : Calls 𝓤 H} {Λ : Loops 𝓤 H} {q : Post 𝓤 H} {d : Place} {f : Name} {os : List Operand} {rest : Body}
         → (Q : Res T.signature x.0 → Lasts T x.0 x.3 → Type 0) → ent 𝓤 (emp 𝓤) ((c x.0 x.3).requires g)
         → ((r : Res T.signature x.0) (ws : Lasts T x.0 x.3) → ent 𝓤 ((c x.0 x.3).ensures g r (at_exit T x.0 x.3 ws)) (fact 𝓤 (Q r ws)))
-        → Fm_c 𝓤 H 𝓛.laws C → Triple 𝓤 (C f) Met → Opds (Go {0}) 𝓛 (raw (Met.pre (x, g)) ∷ Γ) E os (passed 𝓛 T.signature x)
+        → FmC 𝓤 H 𝓛.laws C → Triple 𝓤 (C f) Met → Opds (Go {0}) 𝓛 (raw (Met.pre (x, g)) ∷ Γ) E os (passed 𝓛 T.signature x)
         → ((v : Val) (r : Res T.signature x.0) (ws : Lasts T x.0 x.3) → Q r ws → Sq 𝓛 (Returned r v ∷ Tokens ∷ ‵ (lasts T x.0 x.3 ws) ∷ Γ) (lands C Λ E d v rest q))
         → Sq 𝓛 (Tokens ∷ Passed ∷ Γ) (runs C Λ E (seq (call f os d) rest) q)
     asks Q ask says fm known os k =
@@ -97,11 +97,11 @@ module _ {M : Type 1} {𝓤 : Ura M} (𝓛 : Logic 𝓤) (𝓜 : Model 𝓤 𝓛
   open 𝓛 use {H}
 
   pub walks-meet : (k : Name) (e : Fn) → Closed 𝓤 H (tables 𝓤 H 𝓜 𝓡 γ).C (tables 𝓤 H 𝓜 𝓡 γ).Λ k e
-      → All_go 𝓛 T.signature.lifetimes T.signature.params T.kept hs
-      → (Fm_c 𝓤 H 𝓛.laws (tables 𝓤 H 𝓜 𝓡 γ).C → Walks 𝓛 T hs (Wp_fn 𝓤 H (tables 𝓤 H 𝓜 𝓡 γ).C (tables 𝓤 H 𝓜 𝓡 γ).Λ e) c)
+      → AllGo 𝓛 T.signature.lifetimes T.signature.params T.kept hs
+      → (FmC 𝓤 H 𝓛.laws (tables 𝓤 H 𝓜 𝓡 γ).C → Walks 𝓛 T hs (WpFn 𝓤 H (tables 𝓤 H 𝓜 𝓡 γ).C (tables 𝓤 H 𝓜 𝓡 γ).Λ e) c)
       → Triple 𝓤 ((tables 𝓤 H 𝓜 𝓡 γ).C k) (Met 𝓛 T c)
   unfolding tables_of
   walks-meet k e closed gs walks =
       let 𝓣 = tables_of 𝓤 H 𝓜 (tables 𝓤 H 𝓜 𝓡 γ) in
       entered 𝓤 H (Met 𝓛 T c) (tables 𝓤 H 𝓜 𝓡 γ).C (tables 𝓤 H 𝓜 𝓡 γ).Λ k e closed
-      (walk_Meets 𝓛 T hs gs c (Wp_fn 𝓤 H (tables 𝓤 H 𝓜 𝓡 γ).C (tables 𝓤 H 𝓜 𝓡 γ).Λ e) (Wp_fn-mono 𝓤 H 𝓛.laws 𝓣 e) (walks (fm_of 𝓤 H 𝓛.laws 𝓣)))
+      (walk_Meets 𝓛 T hs gs c (WpFn 𝓤 H (tables 𝓤 H 𝓜 𝓡 γ).C (tables 𝓤 H 𝓜 𝓡 γ).Λ e) (WpFn-mono 𝓤 H 𝓛.laws 𝓣 e) (walks (fm_of 𝓤 H 𝓛.laws 𝓣)))

@@ -2,13 +2,13 @@
 -- Assumes nothing.
 use Rattle.std.specs.Prelude.{◌≤◌, true, false, List, ◌≡◌}
 use Rattle.limits.specs.Limits.{most_minutes, most_records}
-use Rattle.cosine.specs.Fixed.{Is_table}
+use Rattle.cosine.specs.Fixed.{IsTable}
 use Rattle.table.specs.inner.View.{table_of}
 use Rattle.station.specs.Strides.{strides_outside}
 use Rattle.station.specs.inner.Station.{station_of}
 use Rattle.month_prepared.specs.Prepared.{Constituent}
 use Rattle.month_prepared.specs.inner.View.{constituents_from}
-use Rattle.month_prepared.specs.inner.Rows.{In_range}
+use Rattle.month_prepared.specs.inner.Rows.{InRange}
 use Rattle.calls.specs.State.{Dated, State}
 use Rattle.calls.specs.inner.Flags.{state_of}
 use Rattle.clock.specs.declared.Clock.{Clock}
@@ -26,11 +26,11 @@ view c = state_of c.tabled (table_of c.table) c.stationed (station_of c.station)
 
 -- What a clock with a table keeps: its table of cosines is the table, and its numbers are in their ranges.
 pub record Sound (c : Clock) : Type 0 where
-  pub cosines : Is_table c.cosines
-  pub table : In_range c.table.frequencies c.table.speeds
+  pub cosines : IsTable c.cosines
+  pub table : InRange c.table.frequencies c.table.speeds
   pub count : c.count ≤ most_records
   pub last : c.last ≤ most_minutes
-  pub month : In_range c.count c.frequencies
+  pub month : InRange c.count c.frequencies
   pub strides : strides_outside c.station.strides ≡ false
 
 -- A clock that a clock call made. Of one without a table nothing is asked: memory that is all zeros is such a clock.

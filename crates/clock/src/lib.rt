@@ -9,8 +9,8 @@ ghost use Rattle.calendar.specs.Calendar.{in_range};
 ghost use Rattle.calls.specs.State.{some};
 ghost use Rattle.calls.specs.Names.{names_there, names_in};
 ghost use Rattle.clock.specs.View.{view, Sound, Made};
-ghost use Rattle.clock.specs.Posts.{New_post, Cards_post, Station_post, Date_post, Height_post, Series_post, Turns_post, Year_post, Bookings_post, Hourly_post};
-ghost use Rattle.clock.specs.inner.Posts.{Bare_post, Prepared_post, Parts_made, Height_from, Bookings_from};
+ghost use Rattle.clock.specs.Posts.{NewPost, CardsPost, StationPost, DatePost, HeightPost, SeriesPost, TurnsPost, YearPost, BookingsPost, HourlyPost};
+ghost use Rattle.clock.specs.inner.Posts.{BarePost, PreparedPost, PartsMade, HeightFrom, BookingsFrom};
 ghost use Rattle.station.specs.Records.{records_of};
 ghost use Rattle.station.specs.Station.{station_lent};
 ghost use Rattle.turns.specs.inner.Answers.{returned_of};
@@ -27,7 +27,7 @@ use calls::hourcards::hourly_answer;
 use calls::{annual, asked, bookings, settings};
 use card_file::reader;
 use cosine::ENTRIES;
-use hourly::Cards_answer;
+use hourly::CardsAnswer;
 use limits::RECORDS;
 use month_prepared::{Month, months};
 use refusals::{Answer, Refusal};
@@ -62,7 +62,7 @@ pub struct Clock {
 // The names of a table's frequencies, five bytes each by place, and how many there are.
 #[repr(C)]
 #[derive(Drop)]
-pub struct Table_names {
+pub struct TableNames {
     pub count: usize,
     pub bytes: [u8; NAMES],
 }
@@ -76,21 +76,21 @@ pub struct After {
 
 // A height, or a refusal.
 #[derive(Drop)]
-pub enum Height_answer {
+pub enum HeightAnswer {
     Height(i64),
     Refused(Refusal, usize),
 }
 
 // How many turns, and whether the first is high; or a refusal.
 #[derive(Drop)]
-pub enum Turns_answer {
+pub enum TurnsAnswer {
     Turns(usize, bool),
     Refused(Refusal, usize),
 }
 
 // A clock with a table or none, and no station or month.
 fn bare(tabled: bool, table: Table) -> Clock
-    ensures { Bare_post tabled table result }
+    ensures { BarePost tabled table result }
 {
     Clock {
         cosines: cosine::cosines(),
@@ -113,7 +113,7 @@ fn bare(tabled: bool, table: Table) -> Clock
 
 // A clock with no table, station or month.
 pub fn new() -> Clock
-    ensures { New_post result }
+    ensures { NewPost result }
 {
     bare(false, table::no_cards())
 }
@@ -161,7 +161,7 @@ fn with_month(clock: Clock, year: u32, month: u32, last: u64, prepared: Month) -
 // A card file: its table takes the place of the old one, with no station and no month; or it is refused.
 pub fn load_cards(clock: Clock, file: &[u8]) -> After
     requires { Made clock }
-    ensures { Cards_post clock file.now (outcome_of result.answer) result.clock }
+    ensures { CardsPost clock file.now (outcome_of result.answer) result.clock }
 {
     let read = reader::read_cards(file);
     let answer = read.answer;
@@ -181,7 +181,7 @@ pub fn load_cards(clock: Clock, file: &[u8]) -> After
 // A station as `set_station` takes it, for a caller whose records lie in plain arrays: n records, of which the first 146 are in the rows.
 pub fn place_station(clock: Clock, latitude: i32, strides: Strides, n: usize, rows: Rows) -> After
     requires { Made clock }
-    ensures { Station_post clock (station_lent latitude strides (records_of rows n)) (outcome_of result.answer) result.clock }
+    ensures { StationPost clock (station_lent latitude strides (records_of rows n)) (outcome_of result.answer) result.clock }
 {
     let taken = settings::station_answer(clock.tabled, clock.table, latitude, strides, n, rows);
     let answer = taken.answer;
@@ -199,7 +199,7 @@ pub fn place_station(clock: Clock, latitude: i32, strides: Strides, n: usize, ro
 // (The thin function over the lent slice of structs: its proof is a walk by hand.)
 pub fn set_station(clock: Clock, latitude: i32, strides: Strides, records: &[Record]) -> After
     requires { Made clock }
-    ensures { Station_post clock (station_lent latitude strides records.now) (outcome_of result.answer) result.clock }
+    ensures { StationPost clock (station_lent latitude strides records.now) (outcome_of result.answer) result.clock }
 {
     let n = records.len();
     let rows = records::rows_of(records);
@@ -209,7 +209,7 @@ pub fn set_station(clock: Clock, latitude: i32, strides: Strides, records: &[Rec
 // The month of a date that is in range.
 fn prepare_month(clock: Clock, year: u32, month: u32) -> After
     requires { Sound clock × (in_range year month ≡ true) }
-    ensures { Prepared_post clock year month result.answer result.clock }
+    ensures { PreparedPost clock year month result.answer result.clock }
 {
     let last = calendar::month_minutes(year, month) as u64;
     let prepared = month::prepare(&clock.cosines, clock.table, clock.station, year, month);
@@ -227,7 +227,7 @@ fn prepare_month(clock: Clock, year: u32, month: u32) -> After
 // A date: its month is prepared, in place of any before; or it is refused.
 pub fn set_date(clock: Clock, year: u32, month: u32) -> After
     requires { Made clock }
-    ensures { Date_post clock year month (outcome_of result.answer) result.clock }
+    ensures { DatePost clock year month (outcome_of result.answer) result.clock }
 {
     let answer = settings::date_answer(clock.tabled, clock.stationed, year, month);
     match answer {
@@ -254,14 +254,14 @@ fn height_from<'a>(
     last: u64,
     count: usize,
     minute: u32,
-) -> Height_answer
-    requires { Parts_made tabled cosines.now count last }
-    ensures { Height_from tabled stationed dated last count arguments.now lags.now frequencies.now ps.now qs.now minute (height_returned result) }
+) -> HeightAnswer
+    requires { PartsMade tabled cosines.now count last }
+    ensures { HeightFrom tabled stationed dated last count arguments.now lags.now frequencies.now ps.now qs.now minute (height_returned result) }
 {
     let asked = asked::height_answer(tabled, stationed, dated, last, minute as u64);
     match asked {
         Answer::Accepted => {
-            return Height_answer::Height(heights::height(
+            return HeightAnswer::Height(heights::height(
                 cosines,
                 arguments,
                 lags,
@@ -273,15 +273,15 @@ fn height_from<'a>(
             ));
         }
         Answer::Refused(refusal, _) => {
-            return Height_answer::Refused(refusal, 0);
+            return HeightAnswer::Refused(refusal, 0);
         }
     }
 }
 
 // The height at a minute of the month, in tenths of a millimetre; or a refusal.
-pub fn height(clock: Clock, minute: u32) -> Height_answer
+pub fn height(clock: Clock, minute: u32) -> HeightAnswer
     requires { Made clock }
-    ensures { Height_post clock minute (height_returned result) }
+    ensures { HeightPost clock minute (height_returned result) }
 {
     height_from(
         &clock.cosines,
@@ -301,9 +301,9 @@ pub fn height(clock: Clock, minute: u32) -> Height_answer
 
 // The height of a lent clock, read where it lies: nothing of it is copied but five numbers.
 // (The thin function over the lent struct: its proof is a walk by hand.)
-pub fn height_lent(lent: &Clock, minute: u32) -> Height_answer
+pub fn height_lent(lent: &Clock, minute: u32) -> HeightAnswer
     requires { Made lent.now }
-    ensures { Height_post lent.now minute (height_returned result) }
+    ensures { HeightPost lent.now minute (height_returned result) }
 {
     height_from(
         &lent.cosines,
@@ -324,7 +324,7 @@ pub fn height_lent(lent: &Clock, minute: u32) -> Height_answer
 // One height for each lent place, at start, start + step, start + 2 × step and so on; or a refusal.
 pub fn series(clock: Clock, start: u32, step: u32, heights: &mut [i64]) -> Answer
     requires { Made clock }
-    ensures { Series_post clock start step heights.old heights.new (outcome_of result) }
+    ensures { SeriesPost clock start step heights.old heights.new (outcome_of result) }
 {
     let asked = asked::series_answer(
         clock.tabled,
@@ -373,8 +373,8 @@ fn bookings_from<'a>(
     minutes: &[u32],
     heights: &mut [i64],
 ) -> Answer
-    requires { Parts_made tabled cosines.now count last }
-    ensures { Bookings_from tabled stationed dated last count arguments.now lags.now frequencies.now ps.now qs.now minutes.now heights.old heights.new (outcome_of result) }
+    requires { PartsMade tabled cosines.now count last }
+    ensures { BookingsFrom tabled stationed dated last count arguments.now lags.now frequencies.now ps.now qs.now minutes.now heights.old heights.new (outcome_of result) }
 {
     let asked = bookings::bookings_answer(tabled, stationed, dated, last, minutes, heights.len());
     match asked {
@@ -401,7 +401,7 @@ fn bookings_from<'a>(
 // The height at each minute of a list, at its place; or a refusal. All minutes are asked before a height is written.
 pub fn bookings(clock: Clock, minutes: &[u32], heights: &mut [i64]) -> Answer
     requires { Made clock }
-    ensures { Bookings_post clock minutes.now heights.old heights.new (outcome_of result) }
+    ensures { BookingsPost clock minutes.now heights.old heights.new (outcome_of result) }
 {
     bookings_from(
         &clock.cosines,
@@ -423,7 +423,7 @@ pub fn bookings(clock: Clock, minutes: &[u32], heights: &mut [i64]) -> Answer
 // The bookings of a lent clock, read where it lies, as `height_lent` reads it.
 pub fn bookings_lent(held: &Clock, minutes: &[u32], heights: &mut [i64]) -> Answer
     requires { Made held.now }
-    ensures { Bookings_post held.now minutes.now heights.old heights.new (outcome_of result) }
+    ensures { BookingsPost held.now minutes.now heights.old heights.new (outcome_of result) }
 {
     bookings_from(
         &held.cosines,
@@ -443,9 +443,9 @@ pub fn bookings_lent(held: &Clock, minutes: &[u32], heights: &mut [i64]) -> Answ
 }
 
 // The month's hourly cards for the harbour office, under a station number, into the lent buffer from its front; or a refusal.
-pub fn hourly(clock: Clock, number: u32, cards: &mut [u8]) -> Cards_answer
+pub fn hourly(clock: Clock, number: u32, cards: &mut [u8]) -> CardsAnswer
     requires { Made clock }
-    ensures { Hourly_post clock number cards.old cards.new (cards_returned result) }
+    ensures { HourlyPost clock number cards.old cards.new (cards_returned result) }
 {
     let asked = hourly_answer(clock.tabled, clock.stationed, clock.dated, number);
     match asked {
@@ -465,18 +465,18 @@ pub fn hourly(clock: Clock, number: u32, cards: &mut [u8]) -> Cards_answer
             );
         }
         Answer::Refused(refusal, place) => {
-            return Cards_answer::Refused(refusal, place);
+            return CardsAnswer::Refused(refusal, place);
         }
     }
 }
 
 // What a search says: how many turns, and whether the first is high; or 10.
-fn found_turns(found: Searched) -> Turns_answer
+fn found_turns(found: Searched) -> TurnsAnswer
     ensures { turns_returned result ≡ returned_of found }
 {
     match found {
-        Searched::Found(s) => Turns_answer::Turns(s.count, s.high),
-        Searched::Too_many => Turns_answer::Refused(Refusal::Too_many_turns, 0),
+        Searched::Found(s) => TurnsAnswer::Turns(s.count, s.high),
+        Searched::TooMany => TurnsAnswer::Refused(Refusal::TooManyTurns, 0),
     }
 }
 
@@ -487,9 +487,9 @@ pub fn turns(
     last: u32,
     minutes: &mut [u32],
     heights: &mut [i64],
-) -> Turns_answer
+) -> TurnsAnswer
     requires { Made clock }
-    ensures { Turns_post clock first last minutes.old minutes.new heights.old heights.new (turns_returned result) }
+    ensures { TurnsPost clock first last minutes.old minutes.new heights.old heights.new (turns_returned result) }
 {
     let asked = asked::turns_answer(
         clock.tabled,
@@ -521,7 +521,7 @@ pub fn turns(
             return found_turns(found);
         }
         Answer::Refused(refusal, _) => {
-            return Turns_answer::Refused(refusal, 0);
+            return TurnsAnswer::Refused(refusal, 0);
         }
     }
 }
@@ -534,9 +534,9 @@ pub fn year(
     series: &mut [i64],
     minutes: &mut [u32],
     heights: &mut [i64],
-) -> Turns_answer
+) -> TurnsAnswer
     requires { Made clock }
-    ensures { Year_post clock sheet series.old series.new minutes.old minutes.new heights.old heights.new (turns_returned result) }
+    ensures { YearPost clock sheet series.old series.new minutes.old minutes.new heights.old heights.new (turns_returned result) }
 {
     let asked = annual::year_answer(clock.tabled, clock.stationed, sheet.year);
     match asked {
@@ -552,17 +552,17 @@ pub fn year(
             );
         }
         Answer::Refused(refusal, _) => {
-            return Turns_answer::Refused(refusal, 0);
+            return TurnsAnswer::Refused(refusal, 0);
         }
     }
 }
 
 // The names of a table's frequencies.
-fn names_of(table: Table) -> Table_names
+fn names_of(table: Table) -> TableNames
     ensures { names_from result.bytes 0 result.count ≡ names_there (some (table_of table)) }
 {
     let bytes = table.names;
-    Table_names {
+    TableNames {
         count: table.frequencies,
         bytes: bytes,
     }
@@ -570,14 +570,14 @@ fn names_of(table: Table) -> Table_names
 
 // The names of the clock's frequencies by place, none where it has no table. (No call of 01: it gives nothing of the tide, and the clock,
 // which it takes by value, stays as it was.)
-pub fn names(clock: Clock) -> Table_names
+pub fn names(clock: Clock) -> TableNames
     requires { Made clock }
     ensures { names_from result.bytes 0 result.count ≡ names_in (view clock) }
 {
     if clock.tabled {
         return names_of(clock.table);
     }
-    Table_names {
+    TableNames {
         count: 0,
         bytes: [0u8; NAMES],
     }

@@ -1,15 +1,15 @@
 // A month's hourly cards, from its constituents and its date.
 ghost use Rattle.std.specs.Prelude.{◌≡◌, ◌/◌, ◌≤◌, length};
 ghost use Rattle.limits.specs.Limits.{most_minutes, most_records};
-ghost use Rattle.cosine.specs.Fixed.{Is_table};
+ghost use Rattle.cosine.specs.Fixed.{IsTable};
 ghost use Rattle.month_prepared.specs.inner.View.{constituents_from};
-ghost use Rattle.month_prepared.specs.inner.Rows.{Is_row};
+ghost use Rattle.month_prepared.specs.inner.Rows.{IsRow};
 ghost use Rattle.heights.specs.Height.{height_at};
 ghost use Rattle.hourly.specs.Answers.{cards_returned};
 ghost use Rattle.hourly.specs.Month.{cards_of, bytes_of, into_buffer};
 
 use cosine::ENTRIES;
-use hourly::Cards_answer;
+use hourly::CardsAnswer;
 use limits::{MINUTES, RECORDS};
 
 // The full hours of the longest month.
@@ -35,8 +35,8 @@ pub fn cards<'a>(
     month: u32,
     number: u32,
     out: &mut [u8],
-) -> Cards_answer
-    requires { Is_table cosines.now × ((count ≤ most_records) × Is_row arguments.now ps.now qs.now) }
+) -> CardsAnswer
+    requires { IsTable cosines.now × ((count ≤ most_records) × IsRow arguments.now ps.now qs.now) }
     ensures { record { returned = cards_returned result; buffer = out.new } ≡ into_buffer (bytes_of (cards_of (height_at (constituents_from arguments.now lags.now frequencies.now ps.now qs.now count)) number year month) (length out.old)) out.old }
 {
     let end = 24 * calendar::month_days(year, month) as usize;

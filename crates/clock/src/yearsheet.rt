@@ -1,14 +1,14 @@
 // A year's sheet, from a table and a station that are there and a year that is in range.
 ghost use Rattle.std.specs.Prelude.{◌≡◌, true, false, length};
 ghost use Rattle.calendar.specs.Calendar.{year_in_range};
-ghost use Rattle.cosine.specs.Fixed.{Is_table};
+ghost use Rattle.cosine.specs.Fixed.{IsTable};
 ghost use Rattle.station.specs.Strides.{strides_outside};
-ghost use Rattle.month_prepared.specs.inner.Rows.{In_range, last_of, months_in};
+ghost use Rattle.month_prepared.specs.inner.Rows.{InRange, last_of, months_in};
 ghost use Rattle.turns.specs.inner.Lists.{Rows};
 ghost use Rattle.clock.specs.Returned.{turns_returned};
-ghost use Rattle.clock.specs.inner.Posts.{Sheet_post, Sheet_within, Written_post};
+ghost use Rattle.clock.specs.inner.Posts.{SheetPost, SheetWithin, WrittenPost};
 
-use crate::Turns_answer;
+use crate::TurnsAnswer;
 use calls::annual;
 use calls::annual::Sheet;
 use cosine::ENTRIES;
@@ -36,10 +36,10 @@ fn written<'a>(
     series: &mut [i64],
     minutes: &mut [u32],
     heights: &mut [i64],
-) -> Turns_answer
+) -> TurnsAnswer
     requires rows { Rows cosines.now months arguments.now frequencies.now ps.now qs.now }
-    requires sheet_within { Sheet_within (last_of months) stride sheet (length series.old) }
-    ensures { Written_post (months_in arguments.now lags.now frequencies.now ps.now qs.now months) stride sheet series.old series.new minutes.old minutes.new heights.old heights.new (turns_returned result) }
+    requires sheet_within { SheetWithin (last_of months) stride sheet (length series.old) }
+    ensures { WrittenPost (months_in arguments.now lags.now frequencies.now ps.now qs.now months) stride sheet series.old series.new minutes.old minutes.new heights.old heights.new (turns_returned result) }
 {
     let reach = Reach {
         stride,
@@ -59,8 +59,8 @@ fn written<'a>(
         heights,
     );
     match found {
-        Searched::Too_many => {
-            return Turns_answer::Refused(Refusal::Too_many_turns, 0);
+        Searched::TooMany => {
+            return TurnsAnswer::Refused(Refusal::TooManyTurns, 0);
         }
         Searched::Found(s) => {
             heights::months::series(
@@ -75,7 +75,7 @@ fn written<'a>(
                 sheet.step as u64,
                 series,
             );
-            return Turns_answer::Turns(s.count, s.high);
+            return TurnsAnswer::Turns(s.count, s.high);
         }
     }
 }
@@ -89,10 +89,10 @@ pub fn sheet(
     series: &mut [i64],
     minutes: &mut [u32],
     heights: &mut [i64],
-) -> Turns_answer
-    requires table { Is_table cosines.now × (In_range table.frequencies table.speeds × (year_in_range sheet.year ≡ true)) }
+) -> TurnsAnswer
+    requires table { IsTable cosines.now × (InRange table.frequencies table.speeds × (year_in_range sheet.year ≡ true)) }
     requires strides_value { strides_outside station.strides ≡ false }
-    ensures { Sheet_post table station sheet series.old series.new minutes.old minutes.new heights.old heights.new (turns_returned result) }
+    ensures { SheetPost table station sheet series.old series.new minutes.old minutes.new heights.old heights.new (turns_returned result) }
 {
     let months = year::months_of(sheet.year, month_prepared::held(station.count));
     let mut frequencies = [0u64; RECORDS];
@@ -110,12 +110,12 @@ pub fn sheet(
         &mut qs,
     );
     match prepared {
-        Preparation::Too_large(place) => {
-            return Turns_answer::Refused(Refusal::Too_large, place);
+        Preparation::TooLarge(place) => {
+            return TurnsAnswer::Refused(Refusal::TooLarge, place);
         }
         Preparation::Ready => {
             if annual::sheet_outside(sheet, series.len()) {
-                return Turns_answer::Refused(Refusal::Bad_minutes, 0);
+                return TurnsAnswer::Refused(Refusal::BadMinutes, 0);
             }
             let stride = station_stride(table, station);
             return written(

@@ -4,7 +4,7 @@ use mathlib.Core.Path.{◌≡◌, refl, ap}
 use Prim.Native.Nat.{ℕ, suc, ◌≤◌}
 use mathlib.Core.List.{List, [], ◌∷◌}
 use mathlib.Core.Bool.{Bool, true, false, cond, ◌&&◌}
-use lib.List_n.{length, take}
+use lib.ListN.{length, take}
 use lib.Dec.{leb, leb-suc-zero, leb-suc-suc}
 use native.Mathlib.Omega.{arith}
 use Rattle.columns.specs.Bytes.{every, leading}

@@ -2,7 +2,7 @@
 use Rattle.std.specs.Prelude.{ℕ, zero, suc, ◌+◌, ◌*◌, List, [], ◌∷◌, Bool, true, false, cond, ◌&&◌, eqb}
 use Rattle.columns.specs.Columns.{padded}
 use Rattle.columns.specs.declared.names.Found.{Found}
-use Rattle.columns.specs.declared.names.Found.The_variants.{At, Nothing}
+use Rattle.columns.specs.declared.names.Found.TheVariants.{At, Nothing}
 
 -- "compared byte by byte"
 unfoldable pub same : List ℕ → List ℕ → Bool

@@ -6,7 +6,7 @@ use mathlib.Core.Path.{◌≡◌, refl}
 use native.Mathlib.Omega.{arith}
 use borrow.Author.Tests.{ltb-true}
 use lib.Dec.{ltb}
-use lib.List_n.{length}
+use lib.ListN.{length}
 use Rattle.commandline.specs.Lengths.{comma_at, length_end}
 
 left-of : (a b : Bool) → (a && b) ≡ true → a ≡ true

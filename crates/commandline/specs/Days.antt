@@ -1,24 +1,24 @@
 -- What holds of the numbers that a command line asks with. Assumes nothing.
 use Rattle.std.specs.Prelude.{ℕ, ◌≤◌, List, get_or}
 use Rattle.commandline.specs.declared.Asked.{Asked}
-use Rattle.commandline.specs.declared.Asked.The_variants.{Help, Refusals, Month, Day, Heights, Series, Month_drawing, Day_drawing, Year, Year_table, Year_drawing, Bookings, Hourly, Wrong}
+use Rattle.commandline.specs.declared.Asked.TheVariants.{Help, Refusals, Month, Day, Heights, Series, MonthDrawing, DayDrawing, Year, YearTable, YearDrawing, Bookings, Hourly, Wrong}
 
 -- where a day is asked, it is at least the month's first: day 0 is a wrong word
-abbrev pub Day_asked : Asked → Type 0
-Day_asked Help = Unit {0}
-Day_asked Refusals = Unit {0}
-Day_asked (Month year month) = Unit {0}
-Day_asked (Day year month day minute) = 1 ≤ day
-Day_asked (Heights year month step) = Unit {0}
-Day_asked (Series year month day minute step count) = 1 ≤ day
-Day_asked (Month_drawing year month) = Unit {0}
-Day_asked (Day_drawing year month day) = 1 ≤ day
-Day_asked (Year year) = Unit {0}
-Day_asked (Year_table year) = Unit {0}
-Day_asked (Year_drawing year) = Unit {0}
-Day_asked (Bookings year month file) = Unit {0}
-Day_asked (Hourly year month station) = Unit {0}
-Day_asked (Wrong wrong start) = Unit {0}
+abbrev pub DayAsked : Asked → Type 0
+DayAsked Help = Unit {0}
+DayAsked Refusals = Unit {0}
+DayAsked (Month year month) = Unit {0}
+DayAsked (Day year month day minute) = 1 ≤ day
+DayAsked (Heights year month step) = Unit {0}
+DayAsked (Series year month day minute step count) = 1 ≤ day
+DayAsked (MonthDrawing year month) = Unit {0}
+DayAsked (DayDrawing year month day) = 1 ≤ day
+DayAsked (Year year) = Unit {0}
+DayAsked (YearTable year) = Unit {0}
+DayAsked (YearDrawing year) = Unit {0}
+DayAsked (Bookings year month file) = Unit {0}
+DayAsked (Hourly year month station) = Unit {0}
+DayAsked (Wrong wrong start) = Unit {0}
 
 -- hourly YEAR MONTH STATION: the values of the words behind the command's own, which is word 0
 abbrev pub hourly_asked : List ℕ → Asked

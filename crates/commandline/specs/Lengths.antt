@@ -3,13 +3,13 @@ use Rattle.std.specs.Prelude.{ℕ, ◌+◌, ◌-◌, Bool, cond, ◌&&◌, List,
 use Rattle.columns.specs.Bytes.{among, leading}
 use Rattle.columns.specs.Columns.{column, columns}
 use Rattle.fields.specs.Number.{contents_of, ranged}
-use Rattle.fields.specs.declared.Format.The_variants.{Whole}
+use Rattle.fields.specs.declared.Format.TheVariants.{Whole}
 use Rattle.fields.specs.declared.Field.{Field}
-use Rattle.fields.specs.declared.Field.The_variants.{Value, Malformed, Out_of_range}
+use Rattle.fields.specs.declared.Field.TheVariants.{Value, Malformed, OutOfRange}
 use Rattle.station.specs.Strides.{usual_strides}
 use Rattle.commandline.specs.Words.{word_at}
 use Rattle.commandline.specs.declared.lengths.Lengths.{Lengths}
-use Rattle.commandline.specs.declared.lengths.Lengths.The_variants.{Three, No_lengths}
+use Rattle.commandline.specs.declared.lengths.Lengths.TheVariants.{Three, NoLengths}
 
 -- where a length ends that begins at a byte: a comma, which is 44, is below the bytes of a number, and so is a blank
 unfoldable pub length_end : List ℕ → ℕ → ℕ
@@ -26,9 +26,9 @@ length_in word from end = ranged (pos 0) (pos 4_294_967_295) (contents_of Whole 
 -- goes on with a field's number; no lengths where there is none
 abbrev pub given : Field → (ℕ → Lengths) → Lengths
 given (Value (pos n)) f = f n
-given (Value (negsuc n)) f = No_lengths
-given Malformed f = No_lengths
-given Out_of_range f = No_lengths
+given (Value (negsuc n)) f = NoLengths
+given Malformed f = NoLengths
+given OutOfRange f = NoLengths
 
 -- three lengths where each is a number
 abbrev pub three_of : Field → Field → Field → Lengths
@@ -42,7 +42,7 @@ lengths_of word =
     let third = length_end word (second + 1) in
     cond (comma_at word first && comma_at word second && eqb third (length word))
     (three_of (length_in word 0 first) (length_in word (first + 1) second) (length_in word (second + 1) third))
-    No_lengths
+    NoLengths
 
 -- the lengths that the word at a place of a command line says; the usual ones where there is no such word, at 0
 unfoldable pub lengths_at : List ℕ → ℕ → Lengths

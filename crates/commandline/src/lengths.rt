@@ -10,7 +10,7 @@ use station::strides::Strides;
 #[derive(Drop)]
 pub enum Lengths {
     Three(Strides),
-    No_lengths,
+    NoLengths,
 }
 
 // Where the bytes of a length end that begins at a byte: a comma is below each of them.
@@ -40,13 +40,13 @@ fn three(first: Narrow, second: Narrow, third: Narrow) -> Lengths
     ensures { result ≡ three_of (narrow_gives first) (narrow_gives second) (narrow_gives third) }
 {
     let Narrow::Value(semidiurnal) = first else {
-        return Lengths::No_lengths;
+        return Lengths::NoLengths;
     };
     let Narrow::Value(mixed) = second else {
-        return Lengths::No_lengths;
+        return Lengths::NoLengths;
     };
     let Narrow::Value(diurnal) = third else {
-        return Lengths::No_lengths;
+        return Lengths::NoLengths;
     };
     Lengths::Three(Strides {
         semidiurnal,
@@ -62,15 +62,15 @@ pub fn lengths_of(word: &[u8]) -> Lengths
     let bytes = word.len();
     let first = length_end(word, 0);
     if !comma_at(word, first) {
-        return Lengths::No_lengths;
+        return Lengths::NoLengths;
     }
     let second = length_end(word, first + 1);
     if !comma_at(word, second) {
-        return Lengths::No_lengths;
+        return Lengths::NoLengths;
     }
     let third = length_end(word, second + 1);
     if third != bytes {
-        return Lengths::No_lengths;
+        return Lengths::NoLengths;
     }
     three(
         length_in(word, 0, first),

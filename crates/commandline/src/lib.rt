@@ -3,7 +3,7 @@
 // The words are lent in one row, each ended by a byte 0, behind those of `defaults`: the two files and the two units that are meant where
 // nothing else is said. A word is named by where it begins.
 ghost use Rattle.std.specs.Prelude.{◌≡◌, ◌+◌, length};
-ghost use Rattle.commandline.specs.Days.{Day_asked, hourly_asked};
+ghost use Rattle.commandline.specs.Days.{DayAsked, hourly_asked};
 ghost use Rattle.commandline.specs.Lengths.{lengths_at};
 ghost use Rattle.commandline.specs.Words.{default_byte, word_at};
 
@@ -26,11 +26,11 @@ pub enum Asked {
     Day(u32, u32, u32, u32),
     Heights(u32, u32, u32),
     Series(u32, u32, u32, u32, u32, u32),
-    Month_drawing(u32, u32),
-    Day_drawing(u32, u32, u32),
+    MonthDrawing(u32, u32),
+    DayDrawing(u32, u32, u32),
     Year(u32),
-    Year_table(u32),
-    Year_drawing(u32),
+    YearTable(u32),
+    YearDrawing(u32),
     Bookings(u32, u32, usize),
     Hourly(u32, u32, u32),
     Wrong(Wrong, usize),
@@ -39,15 +39,15 @@ pub enum Asked {
 // What can be wrong with a command line.
 #[derive(Drop)]
 pub enum Wrong {
-    No_command,
-    No_option,
-    No_value,
-    Too_few,
-    Too_many,
-    Not_number,
-    Not_time,
-    Not_day,
-    Not_lengths,
+    NoCommand,
+    NoOption,
+    NoValue,
+    TooFew,
+    TooMany,
+    NotNumber,
+    NotTime,
+    NotDay,
+    NotLengths,
 }
 
 // What is asked, where the words begin that name the card file, the station file and the unit, and the station's strides, with where their
@@ -107,7 +107,7 @@ enum Command {
     Bookings,
     Hourly,
     Refusals,
-    No_command,
+    NoCommand,
 }
 
 // A command's form: the fewest and the most words, its own among them, all numbers but its own, a time at one place and a file's name at
@@ -375,7 +375,7 @@ fn other_command(word: &[u8]) -> Command {
     if texts::same(word, b"refusals") {
         return Command::Refusals;
     }
-    Command::No_command
+    Command::NoCommand
 }
 
 // So many words, and which of them is a time, or a file's name; 0 where none is.
@@ -401,7 +401,7 @@ fn form_of(command: Command) -> Form {
         Command::Bookings => words_of(4, 4, 0, 3),
         Command::Hourly => words_of(4, 4, 0, 0),
         Command::Refusals => words_of(1, 1, 0, 0),
-        Command::No_command => words_of(0, 8, 0, 0),
+        Command::NoCommand => words_of(0, 8, 0, 0),
     }
 }
 
@@ -428,9 +428,9 @@ fn unfit(kinds: [u8; 8], plain: usize, form: Form) -> usize {
 // What is wrong with the word at a place.
 fn misfit(time: usize, k: usize, start: usize) -> Fit {
     if k == time {
-        return Fit::Misfit(Wrong::Not_time, start);
+        return Fit::Misfit(Wrong::NotTime, start);
     }
-    Fit::Misfit(Wrong::Not_number, start)
+    Fit::Misfit(Wrong::NotNumber, start)
 }
 
 // Where the plain word at a place begins; 0 past the eighth.
@@ -441,11 +441,11 @@ fn start_at(starts: [usize; 8], k: usize) -> usize {
 // How the plain words fit a form.
 fn fitting(plain: usize, starts: [usize; 8], kinds: [u8; 8], form: Form) -> Fit {
     if plain < form.least {
-        return Fit::Misfit(Wrong::Too_few, starts[0]);
+        return Fit::Misfit(Wrong::TooFew, starts[0]);
     }
     let most = form.most;
     if most < plain {
-        return Fit::Misfit(Wrong::Too_many, start_at(starts, most));
+        return Fit::Misfit(Wrong::TooMany, start_at(starts, most));
     }
     let k = unfit(kinds, plain, form);
     if plain <= k {
@@ -456,43 +456,43 @@ fn fitting(plain: usize, starts: [usize; 8], kinds: [u8; 8], form: Form) -> Fit 
 
 // A series' day, minute, step and count behind its year and month. The fourth word, which begins at `day`, is wrong where it is no day.
 fn series_of(day: usize, v: [u32; 8]) -> Asked
-    ensures { Day_asked result }
+    ensures { DayAsked result }
 {
     if v[3] < 1 {
-        return Asked::Wrong(Wrong::Not_day, day);
+        return Asked::Wrong(Wrong::NotDay, day);
     }
     Asked::Series(v[1], v[2], v[3], v[4], v[5], v[6])
 }
 
 // A day's numbers.
 fn day_of(day: usize, v: [u32; 8]) -> Asked
-    ensures { Day_asked result }
+    ensures { DayAsked result }
 {
     if v[3] < 1 {
-        return Asked::Wrong(Wrong::Not_day, day);
+        return Asked::Wrong(Wrong::NotDay, day);
     }
     Asked::Day(v[1], v[2], v[3], v[4])
 }
 
 // A drawing's, of a year, with a third word of a month, or with a fourth of a day.
 fn drawing_of(plain: usize, day: usize, v: [u32; 8]) -> Asked
-    ensures { Day_asked result }
+    ensures { DayAsked result }
 {
     if plain < 3 {
-        return Asked::Year_drawing(v[1]);
+        return Asked::YearDrawing(v[1]);
     }
     if plain < 4 {
-        return Asked::Month_drawing(v[1], v[2]);
+        return Asked::MonthDrawing(v[1], v[2]);
     }
     if v[3] < 1 {
-        return Asked::Wrong(Wrong::Not_day, day);
+        return Asked::Wrong(Wrong::NotDay, day);
     }
-    Asked::Day_drawing(v[1], v[2], v[3])
+    Asked::DayDrawing(v[1], v[2], v[3])
 }
 
 // A month's heights, an hour apart where no step is given.
 fn heights_of(plain: usize, v: [u32; 8]) -> Asked
-    ensures { Day_asked result }
+    ensures { DayAsked result }
 {
     if plain < 4 {
         return Asked::Heights(v[1], v[2], 60);
@@ -503,14 +503,14 @@ fn heights_of(plain: usize, v: [u32; 8]) -> Asked
 // The hourly cards of a month, under the harbour office's number of the station.
 fn hourly_of(v: [u32; 8]) -> Asked
     ensures value { result ≡ hourly_asked v }
-    ensures day_asked { Day_asked result }
+    ensures day_asked { DayAsked result }
 {
     Asked::Hourly(v[1], v[2], v[3])
 }
 
 // What a command asks with words that fit its form, its own beginning at `start` and its fourth, a day or a file's name, at `fourth`.
 fn with_numbers(command: Command, plain: usize, start: usize, fourth: usize, v: [u32; 8]) -> Asked
-    ensures { Day_asked result }
+    ensures { DayAsked result }
 {
     match command {
         Command::Year => Asked::Year(v[1]),
@@ -522,7 +522,7 @@ fn with_numbers(command: Command, plain: usize, start: usize, fourth: usize, v: 
         Command::Bookings => Asked::Bookings(v[1], v[2], fourth),
         Command::Hourly => hourly_of(v),
         Command::Refusals => Asked::Refusals,
-        Command::No_command => Asked::Wrong(Wrong::No_command, start),
+        Command::NoCommand => Asked::Wrong(Wrong::NoCommand, start),
     }
 }
 
@@ -534,7 +534,7 @@ fn with_words(
     kinds: [u8; 8],
     values: [u32; 8],
 ) -> Asked
-    ensures { Day_asked result }
+    ensures { DayAsked result }
 {
     let form = form_of(command);
     let fit = fitting(plain, starts, kinds, form);
@@ -546,16 +546,16 @@ fn with_words(
 
 // What is asked with --csv, which stands at a byte: the year's turns as rows. With any other view it is one word too many.
 fn as_table(asked: Asked, csv: usize) -> Asked
-    requires { Day_asked asked }
-    ensures { Day_asked result }
+    requires { DayAsked asked }
+    ensures { DayAsked result }
 {
     if csv == 0 {
         return asked;
     }
     match asked {
-        Asked::Year(year) => Asked::Year_table(year),
+        Asked::Year(year) => Asked::YearTable(year),
         Asked::Wrong(wrong, start) => Asked::Wrong(wrong, start),
-        _ => Asked::Wrong(Wrong::Too_many, csv),
+        _ => Asked::Wrong(Wrong::TooMany, csv),
     }
 }
 
@@ -573,25 +573,25 @@ fn lengths_at(words: &[u8], at: usize) -> Lengths
 fn strides_in(lengths: Lengths) -> Strides {
     match lengths {
         Lengths::Three(strides) => strides,
-        Lengths::No_lengths => strides::usual(),
+        Lengths::NoLengths => strides::usual(),
     }
 }
 
 // What the words ask, with these stride lengths.
 fn asked_by(words: &[u8], parsed: Parsed, lengths: Lengths) -> Asked
-    ensures { Day_asked result }
+    ensures { DayAsked result }
 {
     if parsed.help {
         return Asked::Help;
     }
     if 0 < parsed.unknown {
-        return Asked::Wrong(Wrong::No_option, parsed.unknown);
+        return Asked::Wrong(Wrong::NoOption, parsed.unknown);
     }
     if 0 < parsed.missing {
-        return Asked::Wrong(Wrong::No_value, parsed.missing);
+        return Asked::Wrong(Wrong::NoValue, parsed.missing);
     }
-    if let Lengths::No_lengths = lengths {
-        return Asked::Wrong(Wrong::Not_lengths, parsed.lengths);
+    if let Lengths::NoLengths = lengths {
+        return Asked::Wrong(Wrong::NotLengths, parsed.lengths);
     }
     if parsed.plain < 1 {
         return Asked::Help;
@@ -617,7 +617,7 @@ fn default_unit(station: usize) -> usize {
 
 // What the words ask, and their files, unit and strides. With no word it is the help. A day that is asked is at least the first.
 pub fn parse(words: &[u8]) -> Request
-    ensures { Day_asked result.asked }
+    ensures { DayAsked result.asked }
 {
     let parsed = all_words(words);
     let lengths = lengths_at(words, parsed.lengths);

@@ -8,7 +8,7 @@ use fields::{Format, Narrow};
 #[derive(Drop)]
 pub enum Time {
     At(u32),
-    No_time,
+    NoTime,
 }
 
 // The time that a word is.
@@ -16,18 +16,18 @@ pub fn time_of(word: &[u8]) -> Time
     ensures { result ≡ time_of word.now }
 {
     if word.len() != 5 {
-        return Time::No_time;
+        return Time::NoTime;
     }
     if columns::column(word, 2) != b':' {
-        return Time::No_time;
+        return Time::NoTime;
     }
     let hours = fields::narrow_field(word, 0, 2, Format::Whole, 23);
     let Narrow::Value(hour) = hours else {
-        return Time::No_time;
+        return Time::NoTime;
     };
     let minutes = fields::narrow_field(word, 3, 2, Format::Whole, 59);
     let Narrow::Value(minute) = minutes else {
-        return Time::No_time;
+        return Time::NoTime;
     };
     Time::At(60 * hour + minute)
 }

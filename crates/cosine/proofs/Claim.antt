@@ -8,10 +8,10 @@ use native.Mathlib.Nat.{one-mul, div-mul-le_self, lt-div-mul-add, div-add-mod', 
 use native.Mathlib.Omega.{arith}
 use borrow.Author.Tests.{eqb-true, eqb-false, le-ltb}
 use lib.Dec.{eqb, lit≤, lit<}
-use lib.Int_n.{ℤ, pos, sub_ℕ, nat_abs, ◌*ℤ◌}
+use lib.IntN.{ℤ, pos, sub_ℕ, nat_abs, ◌*ℤ◌}
 use lib.Arith.{lt_of_le-ne}
 use Rattle.cosine.specs.Fraction.{quarter, factorial, arc, unit, term, added, taken, whole, base, around, cosine}
-use Rattle.cosine.specs.Fixed.{one, nearest, entry, line, fixed_base, Within, Is_nearest}
+use Rattle.cosine.specs.Fixed.{one, nearest, entry, line, fixed_base, Within, IsNearest}
 use Rattle.cosine.proofs.Natural.{nearest_ℕ, entry_ℕ, fixed_base_ℕ, entry-is, line-is}
 use Rattle.cosine.proofs.Line.{Near, Close, between, fallen}
 use Rattle.cosine.proofs.Series.{added_bend, taken_bend, added-chorded, taken-chorded}
@@ -67,7 +67,7 @@ near h i p = near-test (i * h) p (eqb (i * h) quarter) refl
 
 -- each entry is the whole number nearest to 2^30 times the base cosine
 nearest-test : (a c : ℕ) → Near one whole c (added a) (taken a) → (t : Bool) → eqb a quarter ≡ t → (t ≡ true → c ≡ 0)
-    → Is_nearest (pos c) (cond t (pos 0) (sub_ℕ (added a) (taken a)))
+    → IsNearest (pos c) (cond t (pos 0) (sub_ℕ (added a) (taken a)))
 nearest-test a c n true e z = apart (2 * c * whole) (2 * one * 0) whole (simp (z refl) (omega arith)) (omega arith)
 nearest-test a c n false e z =
     subst (λ (k : ℕ). Off whole (2 * one) k (pos (2 * c)) (sub_ℕ (added a) (taken a))) (one-mul whole)
@@ -77,10 +77,10 @@ end-zero : (h i : ℕ) → eqb (i * h) quarter ≡ true → entry_ℕ h i ≡ 0
 unfolding entry_ℕ base
 end-zero h i e = simp e no_size
 
-pub entry-nearest : (h i : ℕ) → taken (i * h) ≤ added (i * h) → Is_nearest (entry h i) (base (i * h))
+pub entry-nearest : (h i : ℕ) → taken (i * h) ≤ added (i * h) → IsNearest (entry h i) (base (i * h))
 unfolding base
 entry-nearest h i p =
-    subst (λ (c : ℤ). Is_nearest c (base (i * h))) (sym (entry-is h i p))
+    subst (λ (c : ℤ). IsNearest c (base (i * h))) (sym (entry-is h i p))
     (nearest-test (i * h) (entry_ℕ h i) (near h i p) (eqb (i * h) quarter) refl (end-zero h i))
 
 -- ---- the theorem

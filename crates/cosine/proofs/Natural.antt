@@ -7,7 +7,7 @@ use native.Mathlib.Nat.{le_trans, mul-zero, zero-div, mul-le-mul_left, div-le_of
 use native.Mathlib.Omega.{arith}
 use borrow.Author.Tests.{eqb-true, le-ltb}
 use lib.Dec.{eqb}
-use lib.Int_n.{ℤ, pos, nat_abs, sub_ℕ, ◌-ℤ◌, ◌*ℤ◌}
+use lib.IntN.{ℤ, pos, nat_abs, sub_ℕ, ◌-ℤ◌, ◌*ℤ◌}
 use Rattle.angles.specs.Floor.{floor_div}
 use Rattle.cosine.specs.Fraction.{quarter, added, taken, whole, base}
 use Rattle.cosine.specs.Fixed.{one, nearest, entry, line, fixed_base}

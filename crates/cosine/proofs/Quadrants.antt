@@ -8,7 +8,7 @@ use native.Mathlib.Nat.{mul_comm, mul-div_cancel, mul-mod_left, mod-lt, mod-eq_o
 use native.Mathlib.Omega.{arith}
 use borrow.Author.Tests.{ne_eqb}
 use lib.Arith.{mod-mul}
-use lib.Int_n.{ℤ, pos, neg_ℤ, nat_abs, ◌+ℤ◌, ◌-ℤ◌, ◌*ℤ◌, +ℤ_idl, +ℤ_idr, +ℤ_assoc, +ℤ_invr, neg_ℤ-+ℤ, neg_ℤ-neg_ℤ}
+use lib.IntN.{ℤ, pos, neg_ℤ, nat_abs, ◌+ℤ◌, ◌-ℤ◌, ◌*ℤ◌, +ℤ_idl, +ℤ_idr, +ℤ_assoc, +ℤ_invr, neg_ℤ-+ℤ, neg_ℤ-neg_ℤ}
 use mir.Syntax.{w64}
 use mir.Val.{Fits}
 use Rattle.angles.specs.Floor.{floor_div}

@@ -8,10 +8,10 @@ use native.Mathlib.Omega.{arith}
 use native.Mathlib.Nat.{le_trans}
 use native.Mathlib.Numerals.{add-one}
 use lib.Dec.{T, eqb, leb, eqb→eq, leb→le}
-use lib.Int_n.{pos}
-use lib.List_n.{length, get_or}
+use lib.IntN.{pos}
+use lib.ListN.{length, get_or}
 use Rattle.cosine.specs.Fraction.{quarter, added, taken, whole, base}
-use Rattle.cosine.specs.Fixed.{one, entry, Is_nearest}
+use Rattle.cosine.specs.Fixed.{one, entry, IsNearest}
 use Rattle.cosine.proofs.Natural.{entry_ℕ, entry-is}
 use Rattle.cosine.proofs.Series.{added_bend, taken_bend}
 use Rattle.cosine.proofs.Every.{both, both_left, both_right, every, at, below, below_at}
@@ -52,7 +52,7 @@ module _ {E h m N : ℕ} (p : Passed E h m N) where
   is-sound k l = leb→le (taken (k * h)) (added (k * h)) (below_at (sound h) (suc N) p.all_sound k l)
 
   -- each entry is the whole number nearest to 2^30 times the base cosine
-  pub is-nearest : (k : ℕ) → k < suc N → Is_nearest (entry h k) (base (k * h))
+  pub is-nearest : (k : ℕ) → k < suc N → IsNearest (entry h k) (base (k * h))
   is-nearest k l = entry-nearest h k (is-sound k l)
 
   pub natural : (k : ℕ) → k < suc N → entry h k ≡ pos (entry_ℕ h k)

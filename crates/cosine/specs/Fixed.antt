@@ -28,8 +28,8 @@ unfoldable pub entry : ℕ → ℕ → ℤ
 entry h i = nearest (pos one *ℤ base (i * h)) whole
 
 -- The same as a relation: c is a whole number nearest 2^30 × m / whole, at most a half from it, both sides times 2 × `whole`. (proofs/Computed.antt: each entry is.)
-abbrev pub Is_nearest : ℤ → ℤ → Type 0
-Is_nearest c m = nat_abs (pos 2 *ℤ c *ℤ pos whole -ℤ pos (2 * one) *ℤ m) ≤ whole
+abbrev pub IsNearest : ℤ → ℤ → Type 0
+IsNearest c m = nat_abs (pos 2 *ℤ c *ℤ pos whole -ℤ pos (2 * one) *ℤ m) ≤ whole
 
 -- "For remainder r past entry i the fixed cosine is C(i) when r is 0, else C(i) - floor((C(i) - C(i+1)) × r / ..),"
 abbrev pub line : ℕ → ℤ → ℤ → ℕ → ℤ
@@ -51,16 +51,16 @@ abbrev pub Within : ℕ → ℤ → ℤ → Type 0
 Within e f c = nat_abs (f *ℤ pos whole -ℤ pos one *ℤ c) ≤ e * whole
 
 -- What is proved of them (proofs/Computed.antt), of every angle and every entry:
-abbrev pub Cosine_within : Type 0
-Cosine_within = (t : ℕ) → Within bound (fixed_cosine t) (cosine t)
+abbrev pub CosineWithin : Type 0
+CosineWithin = (t : ℕ) → Within bound (fixed_cosine t) (cosine t)
 
-abbrev pub Sine_within : Type 0
-Sine_within = (t : ℕ) → Within bound (fixed_sine t) (sine t)
+abbrev pub SineWithin : Type 0
+SineWithin = (t : ℕ) → Within bound (fixed_sine t) (sine t)
 
 -- "each the whole number nearest 2^30 times the base fraction"
-abbrev pub Entries_nearest : Type 0
-Entries_nearest = (i : ℕ) → i < entries → Is_nearest (entry step i) (base (i * step))
+abbrev pub EntriesNearest : Type 0
+EntriesNearest = (i : ℕ) → i < entries → IsNearest (entry step i) (base (i * step))
 
 -- The list is the table.
-pub record Is_table (xs : List ℕ) : Type 0 where
+pub record IsTable (xs : List ℕ) : Type 0 where
   pub each : (i : ℕ) → i < entries → pos (get_or xs i 0) ≡ entry step i

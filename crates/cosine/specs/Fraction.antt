@@ -1,7 +1,7 @@
 -- 01, "Cosine": the cosine of an angle in ticks as an exact fraction, `cosine t / whole`.
 -- Assumes nothing.
 use Rattle.std.specs.Prelude.{ℕ, zero, suc, ◌+◌, ◌-◌, ◌*◌, ◌/◌, ◌%◌, ◌^◌, cond, eqb, ℤ, pos, neg_ℤ}
-use Rattle.std.proofs.Math.Int_n.{sub_ℕ}
+use Rattle.std.proofs.Math.IntN.{sub_ℕ}
 use Rattle.angles.specs.Ticks.{turn}
 
 -- T/4

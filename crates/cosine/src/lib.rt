@@ -1,7 +1,7 @@
 // The cosine and sine of an angle in ticks, in units of 2^-30, by a table that is made once and lent.
 ghost use Rattle.std.specs.Prelude.{◌≡◌, ◌+◌, ◌<◌, ◌≤◌, cond, pos, neg_ℤ, nat_abs};
 ghost use Rattle.cosine.specs.Fraction.{in_quadrant};
-ghost use Rattle.cosine.specs.Fixed.{one, entries, step, entry, line, fixed_cosine, fixed_sine, Is_table};
+ghost use Rattle.cosine.specs.Fixed.{one, entries, step, entry, line, fixed_cosine, fixed_sine, IsTable};
 
 mod constants;
 
@@ -17,14 +17,14 @@ pub struct CosineAndSine {
 
 // The table, to be made once and lent.
 pub fn cosines() -> [u32; ENTRIES]
-    ensures { Is_table result }
+    ensures { IsTable result }
 {
     COSINES
 }
 
 // The number on the line from entry i to the next, r ticks past entry i: entry i less the fall, rounded down.
 fn on_line(table: &[u32; ENTRIES], i: usize, r: u64) -> u64
-    requires table { Is_table table.now }
+    requires table { IsTable table.now }
     requires i_bound { (i + 1 < entries) × (r ≤ step) }
     ensures result_value { pos result ≡ line step (entry step i) (entry step (i + 1)) r }
     ensures upper_bound { result ≤ one }
@@ -66,7 +66,7 @@ fn in_quadrant(q: u64, near: u64, far: u64) -> i64
 // The fixed cosine and the fixed sine of any number of ticks, by one division into quadrant, entry and remainder.
 // The mirror image of the remainder in its quadrant, on the line before the mirrored entry, serves the odd quadrants.
 pub fn wave(table: &[u32; ENTRIES], ticks: u64) -> CosineAndSine
-    requires { Is_table table.now }
+    requires { IsTable table.now }
     ensures cosine_value { result.cosine ≡ fixed_cosine ticks }
     ensures sine_value { result.sine ≡ fixed_sine ticks }
     ensures cosine_bound { (nat_abs result.cosine ≤ one) × (nat_abs result.sine ≤ one) }

@@ -17,7 +17,7 @@ use page::shown::{Date, YEAR_TURNS};
 use refusals::{Answer, Refusal};
 use station::records::Rows;
 use station::strides::Strides;
-use station_file::stationfile::Station_cards;
+use station_file::stationfile::StationCards;
 use station_file::{stationcards, stationfaults, stationfile};
 
 // A file's length in its buffer, and whether it is there whole.
@@ -104,7 +104,7 @@ fn open(name: &[u8], own: bool) -> i32 {
 fn is_whole(name: &[u8], end: End) -> bool {
     match end {
         End::Whole => true,
-        End::Too_large => {
+        End::TooLarge => {
             messages::too_large(name);
             false
         }
@@ -148,11 +148,11 @@ fn asked_date(asked: Asked) -> Date {
         Asked::Day(year, month, day, _) => date_of(year, month, day),
         Asked::Heights(year, month, _) => date_of(year, month, 0),
         Asked::Series(year, month, day, _, _, _) => date_of(year, month, day),
-        Asked::Month_drawing(year, month) => date_of(year, month, 0),
-        Asked::Day_drawing(year, month, day) => date_of(year, month, day),
+        Asked::MonthDrawing(year, month) => date_of(year, month, 0),
+        Asked::DayDrawing(year, month, day) => date_of(year, month, day),
         Asked::Year(year) => date_of(year, 0, 0),
-        Asked::Year_table(year) => date_of(year, 0, 0),
-        Asked::Year_drawing(year) => date_of(year, 0, 0),
+        Asked::YearTable(year) => date_of(year, 0, 0),
+        Asked::YearDrawing(year) => date_of(year, 0, 0),
         Asked::Bookings(year, month, _) => date_of(year, month, 0),
         Asked::Hourly(year, month, _) => date_of(year, month, 0),
         Asked::Help => date_of(0, 0, 0),
@@ -167,8 +167,8 @@ fn show_year(clock: Clock, face: Face, date: Date, asked: Asked) -> Answer
 {
     match asked {
         Asked::Year(_) => views::year(clock, face, date),
-        Asked::Year_table(_) => views::year_table(clock, face, date),
-        Asked::Year_drawing(_) => drawing::year(clock, face, date),
+        Asked::YearTable(_) => views::year_table(clock, face, date),
+        Asked::YearDrawing(_) => drawing::year(clock, face, date),
         _ => Answer::Accepted,
     }
 }
@@ -203,8 +203,8 @@ fn show(clock: Clock, face: Face, date: Date, words: &[u8], asked: Asked)
         Asked::Series(_, _, _, minute, step, count) => {
             views::series(clock, face, date, minute, step, count)
         }
-        Asked::Month_drawing(_, _) => drawing::month(clock, face, date),
-        Asked::Day_drawing(_, _, _) => drawing::day(clock, face, date),
+        Asked::MonthDrawing(_, _) => drawing::month(clock, face, date),
+        Asked::DayDrawing(_, _, _) => drawing::day(clock, face, date),
         Asked::Bookings(_, _, at) => show_bookings(clock, face, date, words, at),
         Asked::Hourly(_, _, station) => views::hourly(clock, date, station),
         _ => {}
@@ -270,8 +270,8 @@ fn with_asked(clock: Clock, face: Face, words: &[u8], request: Request)
     let asked = request.asked;
     match asked {
         Asked::Year(_) => with_year(clock, face, words, request),
-        Asked::Year_table(_) => with_year(clock, face, words, request),
-        Asked::Year_drawing(_) => with_year(clock, face, words, request),
+        Asked::YearTable(_) => with_year(clock, face, words, request),
+        Asked::YearDrawing(_) => with_year(clock, face, words, request),
         _ => with_date(clock, face, words, request),
     }
 }
@@ -298,7 +298,7 @@ fn say_records(path: &[u8], rows: Rows, refusal: Refusal, place: usize) {
 
 // What the sheets of a station stand on: what was read of it, its strides, and the two files' checksums.
 fn ground_of<'a>(
-    read: Station_cards,
+    read: StationCards,
     strides: Strides,
     cards: &'a [u8],
     station: &'a [u8],
@@ -334,7 +334,7 @@ fn with_clock(after: After, rows: Rows, face: Face, words: &[u8], request: Reque
 }
 
 // A station that was read, of a clock with a table.
-fn with_station(clock: Clock, read: Station_cards, face: Face, words: &[u8], request: Request)
+fn with_station(clock: Clock, read: StationCards, face: Face, words: &[u8], request: Request)
     requires { Made clock }
 {
     let rows = read.rows;
@@ -343,7 +343,7 @@ fn with_station(clock: Clock, read: Station_cards, face: Face, words: &[u8], req
 }
 
 // The station file's cards, by the names of the clock's table.
-fn station_cards(clock: Clock, station: &[u8]) -> Station_cards
+fn station_cards(clock: Clock, station: &[u8]) -> StationCards
     requires { Made clock }
 {
     let names = clock::names(clock);

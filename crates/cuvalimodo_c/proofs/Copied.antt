@@ -2,20 +2,20 @@
 -- Assumes `Logic`.
 use types.Logic.{Logic}
 use denote.Ref.{Bor, shr_vals}
-use Rattle.clock.proofs.Walking.{refl, ℕ, List, [], ◌∷◌, Ura, full_share, named, vptr, Fml, Lft, Share, flft, Calls, Loops, Item, ‵, ◌$◌, !, move, drop, fsplit3, fjoin, look, look_raw, init, stop, hop, from, load, of_opd, assigns, Is, shows, Ref_t, ptr-vals, owned, peeks, spelt}
+use Rattle.clock.proofs.Walking.{refl, ℕ, List, [], ◌∷◌, Ura, full_share, named, vptr, Fml, Lft, Share, flft, Calls, Loops, Item, ‵, ◌$◌, !, move, drop, fsplit3, fjoin, look, look_raw, init, stop, hop, from, load, of_opd, assigns, Is, shows, RefT, ptr-vals, owned, peeks, spelt}
 use Prim.Native.Nat.{zero}
 use mir.Syntax.{Ty, Body, place, deref, copy, rv_opd, assign, seq}
 use base.Fml.{fsep, fat, froom}
 use prog.Wp.{Env}
 use types.Kit.{Go, Post, Step, step, runs}
 use types.Run.{Finds}
-use denote.Ref.{Shr_ref}
+use denote.Ref.{ShrRef}
 use denote.Steps.{looks, shuts}
 use denote.Struct.Laws as LL
 use Rattle.clock.specs.declared.Clock.{Clock}
-use Rattle.clock.proofs.Lent_on.{ref_ty}
+use Rattle.clock.proofs.LentOn.{ref_ty}
 use Rattle.clock.specs.contracts.Clock as T
-use Rattle.clock.proofs.Clock.The_laws as T'
+use Rattle.clock.proofs.Clock.TheLaws as T'
 use Rattle.cuvalimodo_c.proofs.Stored.{clock_val}
 
 module _ {M : Type 1} {𝓤 : Ura M} (𝓛 : Logic 𝓤) (κ : Lft) (q : Share) (x : Bor Clock) (τ : Ty) (l₀ l₁ i lᵢ : ℕ) (Es : Env 𝓤 𝓛.H) (F : Fml) (Δ : List (Item 𝓤)) where
@@ -25,7 +25,7 @@ module _ {M : Type 1} {𝓤 : Ura M} (𝓛 : Logic 𝓤) (κ : Lft) (q : Share) 
   E = (τ, l₀) ∷ (ref_ty, l₁) ∷ Es
 
   abbrev Before : List (Item 𝓤)
-  Before = ‵ ((Shr_ref (named 0) κ T.the_row).own_val x (shr_vals x)) ∷ ‵ F ∷ ‵ (flft κ q) ∷ ‵ (froom T'.mir lᵢ zero) ∷ ‵ (fat full_share ref_ty l₁ zero (vptr x.ptr.0 x.ptr.1)) ∷ Δ
+  Before = ‵ ((ShrRef (named 0) κ T.the_row).own_val x (shr_vals x)) ∷ ‵ F ∷ ‵ (flft κ q) ∷ ‵ (froom T'.mir lᵢ zero) ∷ ‵ (fat full_share ref_ty l₁ zero (vptr x.ptr.0 x.ptr.1)) ∷ Δ
 
   abbrev After : List (Item 𝓤)
   After = ‵ (fsep ((T.the_row).own_val x.now (clock_val x.now ∷ [])) F) ∷ ‵ (flft κ q) ∷ ‵ (fat full_share T'.mir lᵢ zero (clock_val x.now)) ∷ ‵ (fat full_share ref_ty l₁ zero (vptr x.ref_ptr.0 x.ref_ptr.1)) ∷ Δ

@@ -3,26 +3,26 @@ use Prim.Native.Nat.{ℕ}
 use mathlib.Core.Path.{◌≡◌, refl}
 use Rattle.refusals.specs.Outcome.{refused, number_of}
 use Rattle.refusals.specs.declared.Refusal.{Refusal}
-use Rattle.refusals.specs.declared.Refusal.The_variants.{Bad_line, Malformed, Out_of_range, Bad_name, Missing, Too_many, Ended, Bad_date, Bad_minutes, Too_many_turns, Too_large, No_table, No_station, No_month, Unequal_buffers, Bad_station_number, Bad_height, Short_buffer, Bad_stride}
+use Rattle.refusals.specs.declared.Refusal.TheVariants.{BadLine, Malformed, OutOfRange, BadName, Missing, TooMany, Ended, BadDate, BadMinutes, TooManyTurns, TooLarge, NoTable, NoStation, NoMonth, UnequalBuffers, BadStationNumber, BadHeight, ShortBuffer, BadStride}
 use Rattle.cuvalimodo_c.specs.Answers.{returned_by}
 
 pub refusal-read : {A : Type 0} (r : Refusal) (place : ℕ) (a : A) → returned_by (number_of r) place a ≡ refused (number_of r) place
-refusal-read Bad_line place a = refl
+refusal-read BadLine place a = refl
 refusal-read Malformed place a = refl
-refusal-read Out_of_range place a = refl
-refusal-read Bad_name place a = refl
+refusal-read OutOfRange place a = refl
+refusal-read BadName place a = refl
 refusal-read Missing place a = refl
-refusal-read Too_many place a = refl
+refusal-read TooMany place a = refl
 refusal-read Ended place a = refl
-refusal-read Bad_date place a = refl
-refusal-read Bad_minutes place a = refl
-refusal-read Too_many_turns place a = refl
-refusal-read Too_large place a = refl
-refusal-read No_table place a = refl
-refusal-read No_station place a = refl
-refusal-read No_month place a = refl
-refusal-read Unequal_buffers place a = refl
-refusal-read Bad_station_number place a = refl
-refusal-read Bad_height place a = refl
-refusal-read Short_buffer place a = refl
-refusal-read Bad_stride place a = refl
+refusal-read BadDate place a = refl
+refusal-read BadMinutes place a = refl
+refusal-read TooManyTurns place a = refl
+refusal-read TooLarge place a = refl
+refusal-read NoTable place a = refl
+refusal-read NoStation place a = refl
+refusal-read NoMonth place a = refl
+refusal-read UnequalBuffers place a = refl
+refusal-read BadStationNumber place a = refl
+refusal-read BadHeight place a = refl
+refusal-read ShortBuffer place a = refl
+refusal-read BadStride place a = refl

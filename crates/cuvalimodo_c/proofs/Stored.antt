@@ -2,26 +2,26 @@
 -- function that has them, whatever other parameters it has. F is what the call's other parameters own, toks its tokens, and Δ the rest.
 -- Assumes `Logic`.
 use types.Logic.{Logic}
-use denote.Ref.{Mut_bor, mut_vals}
-use Rattle.clock.proofs.Walking.{◌≡◌, refl, ap, subst, ℕ, List, [], ◌∷◌, Ura, full_share, named, Val, vptr, SProp, Fml, Lft, Share, flft, Calls, Loops, Item, ‵, raw, ◌$◌, !, move, drop, rewrite, fsplit3, fjoin, fjoin3, feq_i, whole, sub, look_in, look, look_raw, store_raw, init, forget, stop, hop, fld, from, load, of_opd, assigns, land, returns, Is, shows, Ref_t, ptr-vals, owned, peeks, spelt, found}
+use denote.Ref.{MutBor, mut_vals}
+use Rattle.clock.proofs.Walking.{◌≡◌, refl, ap, subst, ℕ, List, [], ◌∷◌, Ura, full_share, named, Val, vptr, SProp, Fml, Lft, Share, flft, Calls, Loops, Item, ‵, raw, ◌$◌, !, move, drop, rewrite, fsplit3, fjoin, fjoin3, feq_i, whole, sub, look_in, look, look_raw, store_raw, init, forget, stop, hop, fld, from, load, of_opd, assigns, land, returns, Is, shows, RefT, ptr-vals, owned, peeks, spelt, found}
 use Prim.Native.Nat.{zero}
 use mir.Syntax.{Ty, Name, Opd as Operand, Body, mut, ty_ref, place, deref, field, copy, rv_opd, assign, call, seq, return}
 use base.Fml.{fsep, fat, froom, fobor, fobs, fauth}
 use prog.Wp.{Env, spot_of}
 use types.Kit.{Sq, runs, lands, frees, prop, at_ret}
-use types.Sem_ty.{Body as Held}
+use types.SemTy.{Body as Held}
 use denote.Memory.{pointee, cell_at, mem}
-use denote.Ref.{Mut_ref, at_last}
+use denote.Ref.{MutRef, at_last}
 use denote.Steps.{only, opens, closes}
 use denote.Struct.Laws as LL
 use Rattle.clock.specs.declared.Clock.{Clock}
 use Rattle.clock.specs.contracts.Clock as T
-use Rattle.clock.proofs.Clock.The_laws as T'
+use Rattle.clock.proofs.Clock.TheLaws as T'
 use Rattle.cuvalimodo_c.specs.declared.byvalue.Left.{Left}
 use Rattle.cuvalimodo_c.specs.contracts.answers.Verdict as D
-use Rattle.cuvalimodo_c.proofs.answers.Verdict.The_laws as D'
+use Rattle.cuvalimodo_c.proofs.answers.Verdict.TheLaws as D'
 use Rattle.cuvalimodo_c.specs.contracts.byvalue.Left as O
-use Rattle.cuvalimodo_c.proofs.byvalue.Left.The_laws as O'
+use Rattle.cuvalimodo_c.proofs.byvalue.Left.TheLaws as O'
 
 abbrev pub clock_val : Clock → Val
 clock_val = LL.val T.the_type T'.the_laws
@@ -51,12 +51,12 @@ stores j =
 abbrev pub steps : ℕ → ℕ → Name → List Operand → Body
 steps i j g xs = seq (assign (place i []) (rv_opd (copy (place 1 (deref T'.mir ∷ []))))) (seq (call g xs (place j [])) (stores j))
 
-module _ {M : Type 1} {𝓤 : Ura M} (𝓛 : Logic 𝓤) (κ : Lft) (q : Share) (x : Mut_bor Clock) where
+module _ {M : Type 1} {𝓤 : Ura M} (𝓛 : Logic 𝓤) (κ : Lft) (q : Share) (x : MutBor Clock) where
   -- the reference, with c behind it
   open 𝓛 use {H}
 
   abbrev pub Ref : Clock → Fml
-  Ref c = (Mut_ref (named 0) κ T.the_row).own_val (at_last x c) (mut_vals x)
+  Ref c = (MutRef (named 0) κ T.the_row).own_val (at_last x c) (mut_vals x)
 
   module _ (l₀ l₁ i j lᵢ lⱼ : ℕ) (Es : Env 𝓤 H) (toks : SProp 𝓤) (F : Fml) (Δ : List (Item 𝓤)) where
     abbrev pub E : Env 𝓤 H

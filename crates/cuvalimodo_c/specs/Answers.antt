@@ -3,7 +3,7 @@
 use Prim.{Unit}
 use Rattle.std.specs.Prelude.{ℕ, zero, suc, false, ◌≡◌, ℤ, pos}
 use Rattle.refusals.specs.Outcome.{Outcome, accepted, refused}
-use Rattle.turns.specs.Written.{Turns_found}
+use Rattle.turns.specs.Written.{TurnsFound}
 use Rattle.cuvalimodo_c.specs.declared.answers.Verdict.{Verdict}
 use Rattle.cuvalimodo_c.specs.declared.answers.Reading.{Reading}
 use Rattle.cuvalimodo_c.specs.declared.answers.Turnings.{Turnings}
@@ -21,7 +21,7 @@ abbrev pub reading_returned : Reading → Outcome ℤ
 reading_returned r = returned_by r.number r.place r.height
 
 -- "returned: how many, and whether the first is high"
-abbrev pub turnings_returned : Turnings → Outcome Turns_found
+abbrev pub turnings_returned : Turnings → Outcome TurnsFound
 turnings_returned t = returned_by t.number t.place (record { count = t.count; high = t.high })
 
 -- "return how many bytes they take"
@@ -38,7 +38,7 @@ abbrev pub reading_of : Outcome ℤ → Reading
 reading_of (accepted h) = record { number = 0; place = 0; height = h }
 reading_of (refused number place) = record { number = number; place = place; height = pos 0 }
 
-abbrev pub turnings_of : Outcome Turns_found → Turnings
+abbrev pub turnings_of : Outcome TurnsFound → Turnings
 turnings_of (accepted f) = record { number = 0; place = 0; count = f.count; high = f.high }
 turnings_of (refused number place) = record { number = number; place = place; count = 0; high = false }
 
@@ -50,11 +50,11 @@ cards_told_of (refused number place) = record { number = number; place = place; 
 abbrev pub Plain : Verdict → Type 0
 Plain v = v ≡ verdict_of (verdict_returned v)
 
-abbrev pub Plain_reading : Reading → Type 0
-Plain_reading r = r ≡ reading_of (reading_returned r)
+abbrev pub PlainReading : Reading → Type 0
+PlainReading r = r ≡ reading_of (reading_returned r)
 
-abbrev pub Plain_turnings : Turnings → Type 0
-Plain_turnings t = t ≡ turnings_of (turnings_returned t)
+abbrev pub PlainTurnings : Turnings → Type 0
+PlainTurnings t = t ≡ turnings_of (turnings_returned t)
 
-abbrev pub Plain_cards : Cards → Type 0
-Plain_cards c = c ≡ cards_told_of (cards_told c)
+abbrev pub PlainCards : Cards → Type 0
+PlainCards c = c ≡ cards_told_of (cards_told c)

@@ -3,10 +3,10 @@ ghost use Rattle.std.specs.Prelude.{◌≡◌};
 ghost use Rattle.refusals.specs.Outcome.{outcome_of};
 ghost use Rattle.hourly.specs.Answers.{cards_returned};
 ghost use Rattle.clock.specs.Returned.{height_returned, turns_returned};
-ghost use Rattle.cuvalimodo_c.specs.Answers.{verdict_returned, reading_returned, turnings_returned, cards_told, Plain, Plain_reading, Plain_turnings, Plain_cards};
+ghost use Rattle.cuvalimodo_c.specs.Answers.{verdict_returned, reading_returned, turnings_returned, cards_told, Plain, PlainReading, PlainTurnings, PlainCards};
 
-use clock::{Height_answer, Turns_answer};
-use hourly::Cards_answer;
+use clock::{HeightAnswer, TurnsAnswer};
+use hourly::CardsAnswer;
 use refusals::Answer;
 
 // What a call says: number 0 where it is accepted, else the refusal's number and place.
@@ -69,16 +69,16 @@ pub fn told(answer: Answer) -> Verdict
 }
 
 // A height's answer in numbers.
-pub fn told_height(answer: Height_answer) -> Reading
-    ensures { (reading_returned result ≡ height_returned answer) × Plain_reading result }
+pub fn told_height(answer: HeightAnswer) -> Reading
+    ensures { (reading_returned result ≡ height_returned answer) × PlainReading result }
 {
     match answer {
-        Height_answer::Height(height) => Reading {
+        HeightAnswer::Height(height) => Reading {
             number: 0,
             place: 0,
             height,
         },
-        Height_answer::Refused(refusal, place) => Reading {
+        HeightAnswer::Refused(refusal, place) => Reading {
             number: refusals::number_of(refusal),
             place,
             height: 0,
@@ -87,17 +87,17 @@ pub fn told_height(answer: Height_answer) -> Reading
 }
 
 // A search's answer in numbers.
-pub fn told_turns(answer: Turns_answer) -> Turnings
-    ensures { (turnings_returned result ≡ turns_returned answer) × Plain_turnings result }
+pub fn told_turns(answer: TurnsAnswer) -> Turnings
+    ensures { (turnings_returned result ≡ turns_returned answer) × PlainTurnings result }
 {
     match answer {
-        Turns_answer::Turns(count, high) => Turnings {
+        TurnsAnswer::Turns(count, high) => Turnings {
             number: 0,
             place: 0,
             count,
             high,
         },
-        Turns_answer::Refused(refusal, place) => Turnings {
+        TurnsAnswer::Refused(refusal, place) => Turnings {
             number: refusals::number_of(refusal),
             place,
             count: 0,
@@ -107,16 +107,16 @@ pub fn told_turns(answer: Turns_answer) -> Turnings
 }
 
 // The answer of hourly cards in numbers.
-pub fn told_cards(answer: Cards_answer) -> Cards
-    ensures { (cards_told result ≡ cards_returned answer) × Plain_cards result }
+pub fn told_cards(answer: CardsAnswer) -> Cards
+    ensures { (cards_told result ≡ cards_returned answer) × PlainCards result }
 {
     match answer {
-        Cards_answer::Bytes(bytes) => Cards {
+        CardsAnswer::Bytes(bytes) => Cards {
             number: 0,
             place: 0,
             bytes,
         },
-        Cards_answer::Refused(refusal, place) => Cards {
+        CardsAnswer::Refused(refusal, place) => Cards {
             number: refusals::number_of(refusal),
             place,
             bytes: 0,

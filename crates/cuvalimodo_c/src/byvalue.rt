@@ -2,10 +2,10 @@
 ghost use Rattle.std.specs.Prelude.{◌≡◌};
 ghost use Rattle.refusals.specs.Outcome.{outcome_of};
 ghost use Rattle.clock.specs.View.{Made};
-ghost use Rattle.clock.specs.Posts.{Cards_post, Station_post, Date_post, Series_post, Turns_post, Year_post, Hourly_post};
+ghost use Rattle.clock.specs.Posts.{CardsPost, StationPost, DatePost, SeriesPost, TurnsPost, YearPost, HourlyPost};
 ghost use Rattle.station.specs.Records.{records_of};
 ghost use Rattle.station.specs.Station.{station_lent};
-ghost use Rattle.cuvalimodo_c.specs.Answers.{verdict_returned, turnings_returned, cards_told, Plain, Plain_turnings, Plain_cards};
+ghost use Rattle.cuvalimodo_c.specs.Answers.{verdict_returned, turnings_returned, cards_told, Plain, PlainTurnings, PlainCards};
 
 use crate::answers;
 use crate::answers::{Cards, Turnings, Verdict};
@@ -34,7 +34,7 @@ fn in_numbers(after: After) -> Left
 // A card file.
 pub fn load_cards(clock: Clock, file: &[u8]) -> Left
     requires { Made clock }
-    ensures { Cards_post clock file.now (verdict_returned result.verdict) result.clock × Plain result.verdict }
+    ensures { CardsPost clock file.now (verdict_returned result.verdict) result.clock × Plain result.verdict }
 {
     in_numbers(clock::load_cards(clock, file))
 }
@@ -42,7 +42,7 @@ pub fn load_cards(clock: Clock, file: &[u8]) -> Left
 // A station whose records are taken apart.
 pub fn place_station(clock: Clock, latitude: i32, strides: Strides, n: usize, rows: Rows) -> Left
     requires { Made clock }
-    ensures { Station_post clock (station_lent latitude strides (records_of rows n)) (verdict_returned result.verdict) result.clock × Plain result.verdict }
+    ensures { StationPost clock (station_lent latitude strides (records_of rows n)) (verdict_returned result.verdict) result.clock × Plain result.verdict }
 {
     in_numbers(clock::place_station(clock, latitude, strides, n, rows))
 }
@@ -50,7 +50,7 @@ pub fn place_station(clock: Clock, latitude: i32, strides: Strides, n: usize, ro
 // A date.
 pub fn set_date(clock: Clock, year: u32, month: u32) -> Left
     requires { Made clock }
-    ensures { Date_post clock year month (verdict_returned result.verdict) result.clock × Plain result.verdict }
+    ensures { DatePost clock year month (verdict_returned result.verdict) result.clock × Plain result.verdict }
 {
     in_numbers(clock::set_date(clock, year, month))
 }
@@ -58,7 +58,7 @@ pub fn set_date(clock: Clock, year: u32, month: u32) -> Left
 // A series.
 pub fn series(clock: Clock, start: u32, step: u32, heights: &mut [i64]) -> Verdict
     requires { Made clock }
-    ensures { Series_post clock start step heights.old heights.new (verdict_returned result) × Plain result }
+    ensures { SeriesPost clock start step heights.old heights.new (verdict_returned result) × Plain result }
 {
     answers::told(clock::series(clock, start, step, heights))
 }
@@ -72,7 +72,7 @@ pub fn turns(
     heights: &mut [i64],
 ) -> Turnings
     requires { Made clock }
-    ensures { Turns_post clock first last minutes.old minutes.new heights.old heights.new (turnings_returned result) × Plain_turnings result }
+    ensures { TurnsPost clock first last minutes.old minutes.new heights.old heights.new (turnings_returned result) × PlainTurnings result }
 {
     answers::told_turns(clock::turns(clock, first, last, minutes, heights))
 }
@@ -90,7 +90,7 @@ pub fn year(
     heights: &mut [i64],
 ) -> Turnings
     requires { Made clock }
-    ensures { Year_post clock (record { year = year; start = start; step = step; first = first; last = last }) series.old series.new minutes.old minutes.new heights.old heights.new (turnings_returned result) × Plain_turnings result }
+    ensures { YearPost clock (record { year = year; start = start; step = step; first = first; last = last }) series.old series.new minutes.old minutes.new heights.old heights.new (turnings_returned result) × PlainTurnings result }
 {
     let sheet = Sheet {
         year,
@@ -105,7 +105,7 @@ pub fn year(
 // A month's hourly cards.
 pub fn hourly(clock: Clock, station: u32, cards: &mut [u8]) -> Cards
     requires { Made clock }
-    ensures { Hourly_post clock station cards.old cards.new (cards_told result) × Plain_cards result }
+    ensures { HourlyPost clock station cards.old cards.new (cards_told result) × PlainCards result }
 {
     answers::told_cards(clock::hourly(clock, station, cards))
 }

@@ -13,8 +13,8 @@ ghost use Rattle.columns.specs.Names.{names_from};
 ghost use Rattle.calls.specs.Names.{names_in};
 ghost use Rattle.station.specs.Station.{station_lent};
 ghost use Rattle.clock.specs.View.{view, Made};
-ghost use Rattle.clock.specs.Posts.{New_post, Cards_post, Station_post, Date_post, Height_post, Series_post, Turns_post, Year_post, Bookings_post, Hourly_post};
-ghost use Rattle.cuvalimodo_c.specs.Answers.{verdict_returned, reading_returned, turnings_returned, cards_told, Plain, Plain_reading, Plain_turnings, Plain_cards};
+ghost use Rattle.clock.specs.Posts.{NewPost, CardsPost, StationPost, DatePost, HeightPost, SeriesPost, TurnsPost, YearPost, BookingsPost, HourlyPost};
+ghost use Rattle.cuvalimodo_c.specs.Answers.{verdict_returned, reading_returned, turnings_returned, cards_told, Plain, PlainReading, PlainTurnings, PlainCards};
 
 mod answers; // what the calls say, in numbers
 mod byvalue; // the calls by value, in numbers
@@ -22,7 +22,7 @@ mod byvalue; // the calls by value, in numbers
 use crate::answers::{Cards, Reading, Text, Turnings, Verdict};
 use card_file::counts;
 use card_file::counts::Counts;
-use clock::{Clock, Table_names};
+use clock::{Clock, TableNames};
 use station::records;
 use station::records::Record;
 use station::strides::Strides;
@@ -38,7 +38,7 @@ pub extern "C" fn cuvalimodo_check_cards(file: &[u8]) -> Counts
 // A clock with no table, station or month, in the place of whatever is there.
 #[unsafe(no_mangle)]
 pub extern "C" fn cuvalimodo_new(clock: &mut Clock)
-    ensures { New_post clock.new }
+    ensures { NewPost clock.new }
 {
     *clock = clock::new();
 }
@@ -47,7 +47,7 @@ pub extern "C" fn cuvalimodo_new(clock: &mut Clock)
 #[unsafe(no_mangle)]
 pub extern "C" fn cuvalimodo_load_cards(clock: &mut Clock, file: &[u8]) -> Verdict
     requires { Made clock.old }
-    ensures { Cards_post clock.old file.now (verdict_returned result) clock.new × Plain result }
+    ensures { CardsPost clock.old file.now (verdict_returned result) clock.new × Plain result }
 {
     let after = byvalue::load_cards(*clock, file);
     *clock = after.clock;
@@ -63,7 +63,7 @@ pub extern "C" fn cuvalimodo_set_station(
     records: &[Record],
 ) -> Verdict
     requires { Made clock.old }
-    ensures { Station_post clock.old (station_lent latitude strides records.now) (verdict_returned result) clock.new × Plain result }
+    ensures { StationPost clock.old (station_lent latitude strides records.now) (verdict_returned result) clock.new × Plain result }
 {
     let n = records.len();
     let rows = records::rows_of(records);
@@ -76,7 +76,7 @@ pub extern "C" fn cuvalimodo_set_station(
 #[unsafe(no_mangle)]
 pub extern "C" fn cuvalimodo_set_date(clock: &mut Clock, year: u32, month: u32) -> Verdict
     requires { Made clock.old }
-    ensures { Date_post clock.old year month (verdict_returned result) clock.new × Plain result }
+    ensures { DatePost clock.old year month (verdict_returned result) clock.new × Plain result }
 {
     let after = byvalue::set_date(*clock, year, month);
     *clock = after.clock;
@@ -87,7 +87,7 @@ pub extern "C" fn cuvalimodo_set_date(clock: &mut Clock, year: u32, month: u32) 
 #[unsafe(no_mangle)]
 pub extern "C" fn cuvalimodo_height(clock: &Clock, minute: u32) -> Reading
     requires { Made clock.now }
-    ensures { Height_post clock.now minute (reading_returned result) × Plain_reading result }
+    ensures { HeightPost clock.now minute (reading_returned result) × PlainReading result }
 {
     let answer = clock::height_lent(clock, minute);
     answers::told_height(answer)
@@ -102,7 +102,7 @@ pub extern "C" fn cuvalimodo_series(
     heights: &mut [i64],
 ) -> Verdict
     requires { Made clock.now }
-    ensures { Series_post clock.now start step heights.old heights.new (verdict_returned result) × Plain result }
+    ensures { SeriesPost clock.now start step heights.old heights.new (verdict_returned result) × Plain result }
 {
     byvalue::series(*clock, start, step, heights)
 }
@@ -117,7 +117,7 @@ pub extern "C" fn cuvalimodo_turns(
     heights: &mut [i64],
 ) -> Turnings
     requires { Made clock.now }
-    ensures { Turns_post clock.now first last minutes.old minutes.new heights.old heights.new (turnings_returned result) × Plain_turnings result }
+    ensures { TurnsPost clock.now first last minutes.old minutes.new heights.old heights.new (turnings_returned result) × PlainTurnings result }
 {
     byvalue::turns(*clock, first, last, minutes, heights)
 }
@@ -137,7 +137,7 @@ pub extern "C" fn cuvalimodo_year(
     heights: &mut [i64],
 ) -> Turnings
     requires { Made clock.now }
-    ensures { Year_post clock.now (record { year = year; start = start; step = step; first = first; last = last }) series.old series.new minutes.old minutes.new heights.old heights.new (turnings_returned result) × Plain_turnings result }
+    ensures { YearPost clock.now (record { year = year; start = start; step = step; first = first; last = last }) series.old series.new minutes.old minutes.new heights.old heights.new (turnings_returned result) × PlainTurnings result }
 {
     byvalue::year(
         *clock, year, start, step, first, last, series, minutes, heights,
@@ -152,7 +152,7 @@ pub extern "C" fn cuvalimodo_bookings(
     heights: &mut [i64],
 ) -> Verdict
     requires { Made clock.now }
-    ensures { Bookings_post clock.now minutes.now heights.old heights.new (verdict_returned result) × Plain result }
+    ensures { BookingsPost clock.now minutes.now heights.old heights.new (verdict_returned result) × Plain result }
 {
     let answer = clock::bookings_lent(clock, minutes, heights);
     answers::told(answer)
@@ -162,14 +162,14 @@ pub extern "C" fn cuvalimodo_bookings(
 #[unsafe(no_mangle)]
 pub extern "C" fn cuvalimodo_hourly(clock: &Clock, station: u32, cards: &mut [u8]) -> Cards
     requires { Made clock.now }
-    ensures { Hourly_post clock.now station cards.old cards.new (cards_told result) × Plain_cards result }
+    ensures { HourlyPost clock.now station cards.old cards.new (cards_told result) × PlainCards result }
 {
     byvalue::hourly(*clock, station, cards)
 }
 
 // The names of the clock's frequencies by place, none where it has no table.
 #[unsafe(no_mangle)]
-pub extern "C" fn cuvalimodo_names(clock: &Clock) -> Table_names
+pub extern "C" fn cuvalimodo_names(clock: &Clock) -> TableNames
     requires { Made clock.now }
     ensures { names_from result.bytes 0 result.count ≡ names_in (view clock.now) }
 {

@@ -5,9 +5,9 @@ use Rattle.columns.specs.Columns.{column, columns}
 use Rattle.digits.specs.Dates.{minute_of_month}
 use Rattle.commandline.specs.Times.{time_of}
 use Rattle.commandline.specs.declared.times.Time.{Time}
-use Rattle.commandline.specs.declared.times.Time.The_variants as time
+use Rattle.commandline.specs.declared.times.Time.TheVariants as time
 use Rattle.daybook.specs.declared.booking.Booking.{Booking}
-use Rattle.daybook.specs.declared.booking.Booking.The_variants.{At, No_booking}
+use Rattle.daybook.specs.declared.booking.Booking.TheVariants.{At, NoBooking}
 
 -- "A CR before the LF is not part of the line": CR is byte 13
 unfoldable pub without_return : List ℕ → List ℕ
@@ -20,7 +20,7 @@ day_of line = cond (every (among 48 57) (columns line 0 2)) (10 * (column line 0
 -- a booking on a day, at a time of it
 abbrev pub booked_on : ℕ → Time → Booking
 booked_on day (time.At minute) = At (minute_of_month day minute)
-booked_on day time.No_time = No_booking
+booked_on day time.NoTime = NoBooking
 
 -- "DD HH:MM, and anything after it that does not begin with a digit": the blank is byte 32, and stands behind the line's end. "day 00 is none"
 unfoldable pub booking_of : List ℕ → Booking
@@ -28,7 +28,7 @@ booking_of line =
     cond
     (eqb (column line 2) 32 && not (every (among 48 57) (columns line 8 1)) && not (eqb (day_of line) 0))
     (booked_on (day_of line) (time_of (take 5 (drop 3 line))))
-    No_booking
+    NoBooking
 
 -- "A control character other than TAB is shown as `?`": TAB is byte 9, the question mark 63
 abbrev pub shown_as : ℕ → ℕ

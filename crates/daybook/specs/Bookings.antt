@@ -2,7 +2,7 @@
 use Rattle.std.specs.Prelude.{ℕ, ◌+◌, max, List, [], ◌∷◌, ◌++◌, length}
 use Rattle.daybook.specs.Booking.{without_return, booking_of}
 use Rattle.daybook.specs.declared.booking.Booking.{Booking}
-use Rattle.daybook.specs.declared.booking.Booking.The_variants.{At, No_booking}
+use Rattle.daybook.specs.declared.booking.Booking.TheVariants.{At, NoBooking}
 
 -- "The file has at most 65,536 bytes", and a booking takes eight at the least
 abbrev pub most_bookings : ℕ
@@ -16,7 +16,7 @@ pub data Read : Type 0 where
 -- goes on with a booking's minute
 abbrev pub onward : Booking → Read → (ℕ → Read) → Read
 onward (At minute) none f = f minute
-onward No_booking none f = none
+onward NoBooking none f = none
 
 -- the lines behind those of the bookings before them; lines are counted from 1
 unfoldable pub minutes_from : List ℕ → List (List ℕ) → Read

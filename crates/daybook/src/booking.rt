@@ -12,7 +12,7 @@ use digits::dates;
 #[derive(Drop)]
 pub enum Booking {
     At(u32),
-    No_booking,
+    NoBooking,
 }
 
 // A line without the CR at its end.
@@ -60,18 +60,18 @@ pub fn booking_of(line: &[u8]) -> Booking
     ensures { result ≡ booking_of line.now }
 {
     if columns::column(line, 2) != b' ' {
-        return Booking::No_booking;
+        return Booking::NoBooking;
     }
     if columns::all_among(line, 8, 9, b'0', b'9') {
-        return Booking::No_booking;
+        return Booking::NoBooking;
     }
     let day = day_of(line);
     if day == 0 {
-        return Booking::No_booking;
+        return Booking::NoBooking;
     }
     let time = times::time_of(columns::part(line, 3, 5));
     match time {
         Time::At(minute) => Booking::At(dates::minute_of_month(day, minute)),
-        Time::No_time => Booking::No_booking,
+        Time::NoTime => Booking::NoBooking,
     }
 }

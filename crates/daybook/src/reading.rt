@@ -2,7 +2,7 @@
 ghost use Rattle.std.specs.Prelude.{◌≡◌, ◌*◌, ◌≤◌, length, take};
 ghost use Rattle.columns.specs.Lines.{lines_of};
 ghost use Rattle.daybook.specs.Bookings.{longest_of, most_bookings};
-ghost use Rattle.daybook.specs.inner.Reading.{Read_post};
+ghost use Rattle.daybook.specs.inner.Reading.{ReadPost};
 
 use crate::booking;
 use crate::booking::Booking;
@@ -18,7 +18,7 @@ pub const PLACES: usize = FILE / 8;
 #[derive(Drop)]
 pub enum Reading {
     Bookings(usize),
-    No_booking(usize),
+    NoBooking(usize),
 }
 
 // Room for the minutes of a file's bookings. (Each a function's result, so that its length is known as a fact.)
@@ -38,14 +38,14 @@ pub fn height_places() -> [i64; PLACES]
 // Fills in the minutes of the bookings of a file.
 fn fill_minutes(file: &[u8], minutes: &mut [u32]) -> Reading
     requires { length file.now ≤ 8 * length minutes.old }
-    ensures { Read_post file.now (length minutes.old) minutes.new result }
+    ensures { ReadPost file.now (length minutes.old) minutes.new result }
 {
     let mut at: usize = 0;
     let mut k: usize = 0;
     while at < file.len() {
         let line = booking::booking_of(booking::line_at(file, at));
         let Booking::At(minute) = line else {
-            return Reading::No_booking(k + 1);
+            return Reading::NoBooking(k + 1);
         };
         minutes[k] = minute;
         k += 1;
@@ -56,7 +56,7 @@ fn fill_minutes(file: &[u8], minutes: &mut [u32]) -> Reading
 
 // Fills in the minutes of the bookings of a file, which is the first bytes of a buffer.
 pub fn read(buffer: &[u8; FILE], bytes: usize, minutes: &mut [u32; PLACES]) -> Reading
-    ensures { Read_post (take bytes buffer.now) most_bookings minutes.new result }
+    ensures { ReadPost (take bytes buffer.now) most_bookings minutes.new result }
 {
     fill_minutes(columns::part(buffer, 0, bytes), minutes)
 }

@@ -1,5 +1,5 @@
 // Writes fixed cosines and sines, day counts and month lengths, one labelled line each.
-ghost use Rattle.cosine.specs.Fixed.{Is_table};
+ghost use Rattle.cosine.specs.Fixed.{IsTable};
 
 use angles::TURN;
 use cosine::ENTRIES;
@@ -18,7 +18,7 @@ fn signed(page: &mut [u8], at: usize, label: &[u8], number: i64) -> usize {
 
 // Puts an angle's line: its ticks, fixed cosine and fixed sine.
 fn angle(table: &[u32; ENTRIES], page: &mut [u8], at: usize, ticks: u64) -> usize
-    requires { Is_table table.now }
+    requires { IsTable table.now }
 {
     let wave = cosine::wave(table, ticks);
     let a = labelled(page, at, b"ticks ", ticks);
@@ -44,7 +44,7 @@ fn date(page: &mut [u8], at: usize, year: u32, month: u32, day: u32) -> usize {
 
 // Angles at eighths of a turn, which are entries of the table.
 fn eighths(table: &[u32; ENTRIES], page: &mut [u8], at: usize) -> usize
-    requires { Is_table table.now }
+    requires { IsTable table.now }
 {
     let a = angle(table, page, at, 0);
     let b = angle(table, page, a, TURN / 8);
@@ -54,7 +54,7 @@ fn eighths(table: &[u32; ENTRIES], page: &mut [u8], at: usize) -> usize
 
 // Angles between two entries, the last of them past seven turns.
 fn others(table: &[u32; ENTRIES], page: &mut [u8], at: usize) -> usize
-    requires { Is_table table.now }
+    requires { IsTable table.now }
 {
     let a = angle(table, page, at, 1);
     let b = angle(table, page, a, 123_456_789_012_345);

@@ -4,7 +4,7 @@
 ghost use Rattle.std.specs.Prelude.{◌<◌, ◌≤◌, length, ◌≡◌};
 ghost use Rattle.clock.specs.View.{Made};
 
-use clock::{Clock, Turns_answer};
+use clock::{Clock, TurnsAnswer};
 use digits::dates;
 use drawing_picture::{picture, title, yearband};
 use drawing_plots::{bands, plots};
@@ -192,12 +192,12 @@ fn year_turns(clock: Clock, face: Face, date: Date, hourly: &mut [i64]) -> Answe
         &mut heights,
     );
     match answer {
-        Turns_answer::Turns(count, _) => {
+        TurnsAnswer::Turns(count, _) => {
             let turns = bands::part(&heights, 0, count);
             write_year(face, date, hourly, &minutes, turns);
             Answer::Accepted
         }
-        Turns_answer::Refused(refusal, place) => Answer::Refused(refusal, place),
+        TurnsAnswer::Refused(refusal, place) => Answer::Refused(refusal, place),
     }
 }
 

@@ -12,6 +12,6 @@ abbrev pub turns_from : List ℤ → ℕ → ℕ → List ℤ
 turns_from heights from to = take (to - from) (drop from heights)
 
 -- a day's lowest and highest water, of its hours and its turns
-pub record Day_band (day : ℕ) (hourly heights : List ℤ) (from to : ℕ) (e : Extent) : Type 0 where
+pub record DayBand (day : ℕ) (hourly heights : List ℤ) (from to : ℕ) (e : Extent) : Type 0 where
   pub lowest : e.low ≡ least_of (least_of highest_at (hours_of day hourly)) (turns_from heights from to)
   pub highest : e.high ≡ most_of (most_of 0 (hours_of day hourly)) (turns_from heights from to)

@@ -53,7 +53,7 @@ round_step e most = first_fit e most round_steps
 
 -- The axis of an extent: its lines run from the line below the lowest height to the line above the highest, or to the next line
 -- where those two are one; and so it holds every height between the two.
-pub record Scale_post (e : Extent) (most : ℕ) (s : Scale) : Type 0 where
+pub record ScalePost (e : Extent) (most : ℕ) (s : Scale) : Type 0 where
   pub step : s.step ≡ round_step e most
   pub low : s.low ≡ line_below e.low s.step
   pub high :

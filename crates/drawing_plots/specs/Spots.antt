@@ -39,7 +39,7 @@ abbrev pub leader_end : Plot → Bool → ℕ
 leader_end p high = cond high (p.top - 30) (foot_of p + 30)
 
 -- The mark stands at the turn's minute and height; its label in the lane that is free for it, as near to it as the plot's ends let it be.
-pub record Spot_post (p : Plot) (l : Lanes) (minute : ℕ) (height : ℤ) (high : Bool) (r : Spot) : Type 0 where
+pub record SpotPost (p : Plot) (l : Lanes) (minute : ℕ) (height : ℤ) (high : Bool) (r : Spot) : Type 0 where
   pub x : r.x ≡ across_of p (minute - p.first)
   pub y : r.y ≡ down_of p (raised height)
   pub leader : r.leader ≡ leader_end p high

@@ -1,6 +1,6 @@
 // The band of a year: each day from its lowest to its highest water, of hourly heights and of turns.
 ghost use Rattle.std.specs.Prelude.{◌≡◌, ◌-◌, take, drop};
-ghost use Rattle.drawing_plots.specs.Bands.{Day_band};
+ghost use Rattle.drawing_plots.specs.Bands.{DayBand};
 
 use crate::scale;
 use crate::scale::Extent;
@@ -33,7 +33,7 @@ pub fn day_extent<'a>(
     from: usize,
     to: usize,
 ) -> Extent
-    ensures { Day_band day hourly.now heights.now from to result }
+    ensures { DayBand day hourly.now heights.now from to result }
 {
     let hours = part(hourly, day as usize * 24, 25);
     let turns = part(heights, from, count_of(from, to));

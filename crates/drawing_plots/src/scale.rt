@@ -4,7 +4,7 @@
 // and every place that it gives lies on the drawing.
 ghost use Rattle.std.specs.Prelude.{◌≡◌, ◌+◌, ◌-◌, ◌*◌, ◌≤◌, ◌<◌, min, max, leb, get_or};
 ghost use Rattle.drawing_plots.specs.Heights.{raised, least_of, most_of};
-ghost use Rattle.drawing_plots.specs.Lines.{line_below, line_above, fits, round_steps, round_step, Scale_post};
+ghost use Rattle.drawing_plots.specs.Lines.{line_below, line_above, fits, round_steps, round_step, ScalePost};
 ghost use Rattle.drawing_plots.specs.Places.{share, across_of, down_of};
 ghost use Rattle.drawing_plots.specs.Lanes.{placed_of};
 
@@ -202,7 +202,7 @@ fn round_step(extent: Extent, most: u16) -> u32
 
 // The height axis of an extent, of at most so many steps, that holds its lowest and its highest height.
 pub fn scale_of(extent: Extent, most: u16) -> Scale
-    ensures { Scale_post extent most result }
+    ensures { ScalePost extent most result }
 {
     let step = round_step(extent, most);
     let low = line_below(extent.low, step);

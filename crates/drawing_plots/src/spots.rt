@@ -5,7 +5,7 @@ ghost use Rattle.drawing_plots.specs.Heights.{raised};
 ghost use Rattle.drawing_plots.specs.Lanes.{placed_of};
 ghost use Rattle.drawing_plots.specs.Places.{across_of, down_of};
 ghost use Rattle.drawing_plots.specs.Sizes.{half_of};
-ghost use Rattle.drawing_plots.specs.Spots.{level_of, kept_within, lane_room, label_down, leader_end, Spot_post, belongs_to};
+ghost use Rattle.drawing_plots.specs.Spots.{level_of, kept_within, lane_room, label_down, leader_end, SpotPost, belongs_to};
 
 use crate::scale;
 use crate::scale::{Lanes, Placed, Plot};
@@ -118,7 +118,7 @@ fn minute_across(plot: Plot, minute: u32) -> u32
 
 // Where the turn of a minute of the month stands on a plot, after some labels to its left.
 pub fn spot_of(plot: Plot, lanes: Lanes, minute: u32, height: i64, high: bool) -> Spot
-    ensures { Spot_post plot lanes minute height high result }
+    ensures { SpotPost plot lanes minute height high result }
 {
     let x = minute_across(plot, minute);
     let middle = kept_within(plot, x);

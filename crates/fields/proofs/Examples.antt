@@ -2,11 +2,11 @@
 -- Assumes nothing.
 use mathlib.Core.Path.{◌≡◌, refl}
 use mathlib.Core.List.{[], ◌∷◌, map}
-use lib.Int_n.{pos, negsuc}
+use lib.IntN.{pos, negsuc}
 use Rattle.columns.specs.Bytes.{every, leading, behind}
 use Rattle.fields.specs.Numerals.{begins, numeral, whole_good, whole_size, fixed_good, fixed_size}
 use Rattle.fields.specs.Number.{numeric, malformed, unsigned, unblanked, contents_of}
-use Rattle.fields.specs.declared.Format.The_variants.{Whole, Fixed}
+use Rattle.fields.specs.declared.Format.TheVariants.{Whole, Fixed}
 
 -- I3: " 12", "-9 ", " -1", "   ", " - ", "1 2", "- 1", "+12", "1.2"
 wholes : map (contents_of Whole)

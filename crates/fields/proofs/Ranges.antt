@@ -4,8 +4,8 @@ use mathlib.Core.Path.{◌≡◌, refl, sym, ◌∙◌}
 use Prim.Native.Nat.{ℕ, zero, suc, ◌≤◌, ◌<◌, min}
 use mathlib.Core.List.{List}
 use mathlib.Core.Bool.{Bool, true, false, cond, not, and-false}
-use lib.Int_n.{ℤ, pos, negsuc, neg_ℤ, ◌-ℤ◌}
-use lib.List_n.{drop}
+use lib.IntN.{ℤ, pos, negsuc, neg_ℤ, ◌-ℤ◌}
+use lib.ListN.{drop}
 use lib.Signed.{lt_z, le_z}
 use lib.Dec.{leb, ltb}
 use native.Mathlib.Nat.{zero-add}
@@ -13,16 +13,16 @@ use native.Mathlib.Omega.{arith}
 use borrow.Author.Tests.{ltb-true, ltb-false, le-leb, lt-leb}
 use mir.Syntax.{w64}
 use mir.Val.{SFits, to_z}
-use mir.Val_laws.{to_z_pos}
+use mir.ValLaws.{to_z_pos}
 use Rattle.columns.specs.Bytes.{blank, behind}
 use Rattle.fields.specs.Numerals.{begins, whole_good, whole_size, fixed_good, fixed_size}
 use Rattle.fields.specs.Number.{numeric, malformed, signed, ranged, unsigned, unblanked, contents_of}
 use Rattle.fields.specs.inner.Cap.{cap, kept}
 use Rattle.fields.specs.inner.Kept.{kept_of, kept_gives, written_in}
 use Rattle.fields.specs.declared.Format.{Format}
-use Rattle.fields.specs.declared.Format.The_variants.{Whole, Fixed}
+use Rattle.fields.specs.declared.Format.TheVariants.{Whole, Fixed}
 use Rattle.fields.specs.declared.Written.{Written}
-use Rattle.fields.specs.declared.Field.The_variants.{Value, Out_of_range}
+use Rattle.fields.specs.declared.Field.TheVariants.{Value, OutOfRange}
 
 leb-ltb : (a b : ℕ) → leb a b ≡ not (ltb b a)
 leb-ltb a b = go (ltb b a) refl
@@ -47,12 +47,12 @@ above (pos k) n f h = lt-leb n k (omega arith)
 above (negsuc k) n f h = refl
 
 module _ (low high : ℤ) (fl : SFits w64 low) (fh : SFits w64 high) where
-  pub out_below : (size : ℕ) → cap ≤ size → ranged low high (numeric (neg_ℤ (pos size))) ≡ Out_of_range
+  pub out_below : (size : ℕ) → cap ≤ size → ranged low high (numeric (neg_ℤ (pos size))) ≡ OutOfRange
   unfolding ranged
   out_below zero h = absurd (omega arith)
   out_below (suc m) h = rw (below low m fl (omega arith))
 
-  pub out-above : (size : ℕ) → 9223372036854775807 < size → ranged low high (numeric (pos size)) ≡ Out_of_range
+  pub out-above : (size : ℕ) → 9223372036854775807 < size → ranged low high (numeric (pos size)) ≡ OutOfRange
   unfolding ranged
   out-above size h = rw (above high size fh h, and-false)
 
@@ -97,12 +97,12 @@ module _ (low high : ℤ) (fl : SFits w64 low) (fh : SFits w64 high) where
       go false = sized-gives format false bs
 
 -- a range from 0 on: nothing with a minus but 0, and nothing above its end
-pub minus-out : (high size : ℕ) → 0 < size → Out_of_range ≡ ranged (pos 0) (pos high) (numeric (signed true size))
+pub minus-out : (high size : ℕ) → 0 < size → OutOfRange ≡ ranged (pos 0) (pos high) (numeric (signed true size))
 unfolding ranged
 minus-out high zero h = absurd (omega arith)
 minus-out high (suc m) h = refl
 
-pub above-out : (high size : ℕ) → high < size → Out_of_range ≡ ranged (pos 0) (pos high) (numeric (pos size))
+pub above-out : (high size : ℕ) → high < size → OutOfRange ≡ ranged (pos 0) (pos high) (numeric (pos size))
 unfolding ranged
 above-out high size h = rw (lt-leb size high h, and-false)
 

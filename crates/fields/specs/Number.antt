@@ -5,9 +5,9 @@ use Rattle.std.specs.Int.Signed.{le_z}
 use Rattle.columns.specs.Bytes.{blank, behind}
 use Rattle.fields.specs.Numerals.{begins, whole_good, whole_size, fixed_good, fixed_size}
 use Rattle.fields.specs.declared.Format.{Format}
-use Rattle.fields.specs.declared.Format.The_variants.{Whole, Fixed}
+use Rattle.fields.specs.declared.Format.TheVariants.{Whole, Fixed}
 use Rattle.fields.specs.declared.Field.{Field}
-use Rattle.fields.specs.declared.Field.The_variants.{Value, Malformed, Out_of_range}
+use Rattle.fields.specs.declared.Field.TheVariants.{Value, Malformed, OutOfRange}
 
 -- what a field holds: an F field's number is in units of its format's last decimal
 pub data Contents : Type 0 where
@@ -35,4 +35,4 @@ contents_of format field = unblanked format (behind blank field)
 -- malformed is refused by 2, a number outside its stated range by 3
 unfoldable pub ranged : ℤ → ℤ → Contents → Field
 ranged low high malformed = Malformed
-ranged low high (numeric z) = cond (le_z low z && le_z z high) (Value z) Out_of_range
+ranged low high (numeric z) = cond (le_z low z && le_z z high) (Value z) OutOfRange

@@ -5,7 +5,7 @@ ghost use Rattle.columns.specs.Columns.{columns};
 ghost use Rattle.fields.specs.Number as number;
 ghost use Rattle.fields.specs.Number.{signed, contents_of, ranged};
 ghost use Rattle.fields.specs.inner.Kept.{kept_of, written_in};
-ghost use Rattle.fields.specs.inner.Narrow.{narrow_gives, Narrow_within};
+ghost use Rattle.fields.specs.inner.Narrow.{narrow_gives, NarrowWithin};
 
 mod numerals; // what stands behind the sign
 
@@ -23,7 +23,7 @@ pub enum Format {
 pub enum Field {
     Value(i64),
     Malformed,
-    Out_of_range,
+    OutOfRange,
 }
 
 // The same of a field whose range goes from 0 to a number of 32 bits.
@@ -31,7 +31,7 @@ pub enum Field {
 pub enum Narrow {
     Value(u32),
     Malformed,
-    Out_of_range,
+    OutOfRange,
 }
 
 // What a field writes: perhaps a minus, and a size behind it.
@@ -74,10 +74,10 @@ fn within(z: i64, low: i64, high: i64) -> Field
     ensures { result ≡ ranged low high (number.numeric z) }
 {
     if z < low {
-        return Field::Out_of_range;
+        return Field::OutOfRange;
     }
     if high < z {
-        return Field::Out_of_range;
+        return Field::OutOfRange;
     }
     Field::Value(z)
 }
@@ -91,13 +91,13 @@ fn ranged(negative: bool, size: u64, low: i64, high: i64) -> Field
             return within(0, low, high);
         }
         if CAP <= size {
-            return Field::Out_of_range;
+            return Field::OutOfRange;
         }
         let less = (size - 1) as i64;
         return within(-1 - less, low, high);
     }
     if 9223372036854775807 < size {
-        return Field::Out_of_range;
+        return Field::OutOfRange;
     }
     within(size as i64, low, high)
 }
@@ -105,16 +105,16 @@ fn ranged(negative: bool, size: u64, low: i64, high: i64) -> Field
 // A size with its sign, in 32 bits if it is from 0 to `high`.
 fn narrowed(negative: bool, size: u64, high: u32) -> Narrow
     ensures result_value { narrow_gives result ≡ ranged (pos 0) (pos high) (number.numeric (signed negative size)) }
-    ensures narrow_within { Narrow_within result high }
+    ensures narrow_within { NarrowWithin result high }
 {
     if negative {
         if size == 0 {
             return Narrow::Value(0);
         }
-        return Narrow::Out_of_range;
+        return Narrow::OutOfRange;
     }
     if (high as u64) < size {
-        return Narrow::Out_of_range;
+        return Narrow::OutOfRange;
     }
     Narrow::Value(size as u32)
 }
@@ -141,7 +141,7 @@ pub fn ranged_field(
 // The same number in 32 bits, if it is from 0 to `high`.
 pub fn narrow_field(line: &[u8], from: usize, width: usize, format: Format, high: u32) -> Narrow
     ensures result_value { narrow_gives result ≡ ranged (pos 0) (pos high) (contents_of format (columns line.now from width)) }
-    ensures narrow_within { Narrow_within result high }
+    ensures narrow_within { NarrowWithin result high }
 {
     let written = written_in(line, from, width, format);
     let size = written.size;

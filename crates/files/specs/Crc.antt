@@ -6,7 +6,7 @@ use Rattle.std.specs.Int.Bits.{bit_xor}
 
 -- the polynomial without x^32, bit 31 - k for x^k
 abbrev pub polynomial : ℕ
-polynomial = 0x_edb8_8320
+polynomial = 0xEDB8_8320
 
 -- a register of ones: all bits of the register set
 abbrev pub ones : ℕ

@@ -11,7 +11,7 @@ fn step(register: u32, bit: u8) -> u32
     if register % 2 == bit as u32 {
         return half;
     }
-    half ^ 0x_edb8_8320
+    half ^ 0xEDB8_8320
 }
 
 // The register after the eight bits of a byte, the lowest first.

@@ -9,7 +9,7 @@ pub mod checksum; // CRC-32
 #[derive(Drop)]
 pub enum End {
     Whole,
-    Too_large,
+    TooLarge,
     Failed,
 }
 
@@ -23,7 +23,7 @@ pub struct Reading {
 // How a reading ended, by what one more read gave: a byte, the file's end or an error.
 fn end_of(more: isize) -> End {
     if 0 < more {
-        return End::Too_large;
+        return End::TooLarge;
     }
     if more < 0 {
         return End::Failed;

@@ -3,8 +3,8 @@
 use Prim.Native.Nat.{ℕ, ◌+◌, ◌-◌, ◌≤◌, ◌<◌}
 use mathlib.Core.Path.{◌≡◌, refl}
 use mathlib.Core.List.{List, []}
-use lib.Int_n.{ℤ, pos, ◌+ℤ◌}
-use lib.List_n.{get_or}
+use lib.IntN.{ℤ, pos, ◌+ℤ◌}
+use lib.ListN.{get_or}
 use Rattle.month_prepared.specs.inner.View.{constituents_after}
 use Rattle.month_prepared.proofs.Places.{constituents-more, constituents-none}
 use Rattle.heights.specs.Angle.{angle}

@@ -32,9 +32,9 @@ Near cs minute height =
 
 -- 02, No. 1: "Every height on the sheet keeps the distance from its own month's exact sum that a single month has": of months that follow one
 -- another, the one that owns the minute, at the minute there
-abbrev pub Near_over : List Month → ℕ → ℤ → Type 0
-Near_over months minute height = Near (owner_of months minute).month.constituents (owner_of months minute).minute height
+abbrev pub NearOver : List Month → ℕ → ℤ → Type 0
+NearOver months minute height = Near (owner_of months minute).month.constituents (owner_of months minute).minute height
 
 -- What is proved (proofs/distance/Distance.antt), of every list of constituents and every minute:
-abbrev pub Heights_near : Type 0
-Heights_near = (cs : List Constituent) (minute : ℕ) → Near cs minute (height_at cs minute)
+abbrev pub HeightsNear : Type 0
+HeightsNear = (cs : List Constituent) (minute : ℕ) → Near cs minute (height_at cs minute)

@@ -1,11 +1,11 @@
 // The heights at a list of minutes, in any order and with repeats.
 ghost use Rattle.std.specs.Prelude.{◌≡◌, map, ◌≤◌, length};
 ghost use Rattle.limits.specs.Limits.{most_minutes, most_records};
-ghost use Rattle.cosine.specs.Fixed.{Is_table};
+ghost use Rattle.cosine.specs.Fixed.{IsTable};
 ghost use Rattle.month_prepared.specs.inner.View.{constituents_from};
-ghost use Rattle.month_prepared.specs.inner.Rows.{Is_row};
+ghost use Rattle.month_prepared.specs.inner.Rows.{IsRow};
 ghost use Rattle.heights.specs.Height.{height_at};
-ghost use Rattle.heights.specs.inner.Places.{All_within};
+ghost use Rattle.heights.specs.inner.Places.{AllWithin};
 
 use cosine::ENTRIES;
 use limits::RECORDS;
@@ -22,8 +22,8 @@ pub fn heights_at<'a>(
     minutes: &[u32],
     out: &mut [i64],
 )
-    requires table { Is_table table.now × ((count ≤ most_records) × Is_row arguments.now ps.now qs.now) }
-    requires all_within { All_within most_minutes minutes.now × (length out.old ≡ length minutes.now) }
+    requires table { IsTable table.now × ((count ≤ most_records) × IsRow arguments.now ps.now qs.now) }
+    requires all_within { AllWithin most_minutes minutes.now × (length out.old ≡ length minutes.now) }
     ensures { out.new ≡ map (height_at (constituents_from arguments.now lags.now frequencies.now ps.now qs.now count)) minutes.now }
 {
     let mut n: usize = 0;

@@ -2,9 +2,9 @@
 // exact sum. The table of cosines and the arrays of the constituents are lent; a month's arguments and weights are a row of RECORDS places.
 ghost use Rattle.std.specs.Prelude.{◌≡◌, ◌≤◌, ◌^◌, nat_abs};
 ghost use Rattle.limits.specs.Limits.{most_minutes, most_records};
-ghost use Rattle.cosine.specs.Fixed.{Is_table};
+ghost use Rattle.cosine.specs.Fixed.{IsTable};
 ghost use Rattle.month_prepared.specs.inner.View.{constituents_from};
-ghost use Rattle.month_prepared.specs.inner.Rows.{Is_row};
+ghost use Rattle.month_prepared.specs.inner.Rows.{IsRow};
 ghost use Rattle.heights.specs.Height.{height_at};
 
 pub mod minuteangle; // angles
@@ -30,8 +30,8 @@ pub fn height<'a>(
     count: usize,
     minute: u64,
 ) -> i64
-    requires table { Is_table table.now × ((count ≤ most_records) × (minute ≤ most_minutes)) }
-    requires row { Is_row arguments.now ps.now qs.now }
+    requires table { IsTable table.now × ((count ≤ most_records) × (minute ≤ most_minutes)) }
+    requires row { IsRow arguments.now ps.now qs.now }
     ensures value { result ≡ height_at (constituents_from arguments.now lags.now frequencies.now ps.now qs.now count) minute }
     ensures result_bound { nat_abs result ≤ 2 ^ 28 }
 {

@@ -1,15 +1,15 @@
 // Heights in months that follow one another: each minute's with the weights of the month that owns it.
 ghost use Rattle.std.specs.Prelude.{◌≡◌, ◌≤◌, ◌<◌, length};
 ghost use Rattle.limits.specs.Limits.{most_step};
-ghost use Rattle.cosine.specs.Fixed.{Is_table};
-ghost use Rattle.month_prepared.specs.inner.Rows.{Following, Has_rows, last_of, month_at, months_in};
+ghost use Rattle.cosine.specs.Fixed.{IsTable};
+ghost use Rattle.month_prepared.specs.inner.Rows.{Following, HasRows, last_of, month_at, months_in};
 ghost use Rattle.heights.specs.Height.{height_at, height_over};
 ghost use Rattle.heights.specs.Series.{series_of};
-ghost use Rattle.heights.specs.inner.Places.{Is_own, Places_post, Series_within};
+ghost use Rattle.heights.specs.inner.Places.{IsOwn, PlacesPost, SeriesWithin};
 
 use cosine::ENTRIES;
 use limits::RECORDS;
-use month_prepared::months::{In_month, Months, owner};
+use month_prepared::months::{InMonth, Months, owner};
 
 // The height at a minute of the months.
 pub fn height<'a>(
@@ -22,7 +22,7 @@ pub fn height<'a>(
     months: Months,
     minute: u64,
 ) -> i64
-    requires table { Is_table table.now × (Following months × Has_rows months arguments.now ps.now qs.now) }
+    requires table { IsTable table.now × (Following months × HasRows months arguments.now ps.now qs.now) }
     requires minute_bound { minute ≤ last_of months }
     ensures { result ≡ height_over (months_in arguments.now lags.now frequencies.now ps.now qs.now months) minute }
 {
@@ -42,9 +42,9 @@ pub fn height<'a>(
 }
 
 // How many of the places that are left stand at minutes of the month that owns the first of them.
-fn places_in(months: Months, own: In_month, step: u64, left: usize) -> usize
-    requires { Following months × (Is_own months own × (0 < step)) }
-    ensures { Places_post months own step left result }
+fn places_in(months: Months, own: InMonth, step: u64, left: usize) -> usize
+    requires { Following months × (IsOwn months own × (0 < step)) }
+    ensures { PlacesPost months own step left result }
 {
     let month = own.month;
     if month + 1 == months.many {
@@ -63,12 +63,12 @@ fn month_series<'a>(
     ps: &'a [i32],
     qs: &'a [i32],
     months: Months,
-    own: In_month,
+    own: InMonth,
     step: u64,
     out: &mut [i64],
 )
-    requires table { Is_table table.now × (Following months × Has_rows months arguments.now ps.now qs.now) }
-    requires own { Is_own months own × (step ≤ most_step) }
+    requires table { IsTable table.now × (Following months × HasRows months arguments.now ps.now qs.now) }
+    requires own { IsOwn months own × (step ≤ most_step) }
     ensures { out.new ≡ series_of (height_at (month_at arguments.now lags.now frequencies.now ps.now qs.now months own.month).constituents) own.minute step (length out.old) }
 {
     let from = own.month * RECORDS;
@@ -100,8 +100,8 @@ pub fn series<'a>(
     step: u64,
     out: &mut [i64],
 )
-    requires table { Is_table table.now × (Following months × Has_rows months arguments.now ps.now qs.now) }
-    requires series_within { Series_within (last_of months) start step (length out.old) }
+    requires table { IsTable table.now × (Following months × HasRows months arguments.now ps.now qs.now) }
+    requires series_within { SeriesWithin (last_of months) start step (length out.old) }
     ensures { out.new ≡ series_of (height_over (months_in arguments.now lags.now frequencies.now ps.now qs.now months)) start step (length out.old) }
 {
     let mut n: usize = 0;

@@ -3,12 +3,12 @@
 ghost use Rattle.std.specs.Prelude.{◌≡◌, ◌+◌, ◌*◌, ◌%◌, ◌≤◌, ◌<◌, ◌^◌, nat_abs, length};
 ghost use Rattle.limits.specs.Limits.{most_minutes, most_records, most_step};
 ghost use Rattle.angles.specs.Ticks.{turn};
-ghost use Rattle.cosine.specs.Fixed.{Is_table};
+ghost use Rattle.cosine.specs.Fixed.{IsTable};
 ghost use Rattle.month_prepared.specs.inner.View.{constituents_from};
-ghost use Rattle.month_prepared.specs.inner.Rows.{Is_row};
+ghost use Rattle.month_prepared.specs.inner.Rows.{IsRow};
 ghost use Rattle.heights.specs.Height.{height_at};
 ghost use Rattle.heights.specs.Series.{series_of};
-ghost use Rattle.heights.specs.inner.Angles.{Angles, Advances, Below, Moved_on, Height_of};
+ghost use Rattle.heights.specs.inner.Angles.{Angles, Advances, Below, MovedOn, HeightOf};
 
 use crate::minuteangle::{ADVANCE, LAP, angle_at};
 use crate::shares::share_at;
@@ -71,7 +71,7 @@ fn sum_of(angle: u64, ticks: u64) -> u64
 fn move_on(angles: &mut [u64; RECORDS], ticks: &[u64; RECORDS], count: usize)
     requires { (length angles.old ≡ most_records) × ((count ≤ most_records) × (Below count angles.old × Below count ticks.now)) }
     ensures angles_len { length angles.new ≡ most_records }
-    ensures moved_on { Moved_on count ticks.now angles.old angles.new }
+    ensures moved_on { MovedOn count ticks.now angles.old angles.new }
 {
     let mut k: usize = 0;
     while k < count {
@@ -102,8 +102,8 @@ fn height_of<'a>(
     qs: &'a [i32; RECORDS],
     count: usize,
 ) -> i64
-    requires { Is_table table.now × (count ≤ most_records) }
-    ensures height_of { Height_of angles.now ps.now qs.now count result }
+    requires { IsTable table.now × (count ≤ most_records) }
+    ensures height_of { HeightOf angles.now ps.now qs.now count result }
     ensures result_bound { nat_abs result ≤ 2 ^ 28 }
 {
     let mut sum: i64 = 0;
@@ -128,8 +128,8 @@ pub fn series<'a>(
     step: u64,
     out: &mut [i64],
 )
-    requires table { Is_table table.now × ((count ≤ most_records) × ((start ≤ most_minutes) × (step ≤ most_step))) }
-    requires row { Is_row arguments.now ps.now qs.now }
+    requires table { IsTable table.now × ((count ≤ most_records) × ((start ≤ most_minutes) × (step ≤ most_step))) }
+    requires row { IsRow arguments.now ps.now qs.now }
     ensures { out.new ≡ series_of (height_at (constituents_from arguments.now lags.now frequencies.now ps.now qs.now count)) start step (length out.old) }
 {
     let mut angles = angles_at(arguments, lags, frequencies, count, start);

@@ -6,7 +6,7 @@ use Prim.Native.Nat.{ℕ, ◌+◌, ◌%◌, ◌≤◌, ◌<◌}
 use mathlib.Core.Bool.{Bool, true, false, cond}
 use mathlib.Core.List.{List, [], ◌∷◌, ◌++◌}
 use lib.Dec.{leb, ltb}
-use lib.List_n.{replicate}
+use lib.ListN.{replicate}
 use lib.Seq.{append_snoc}
 use native.Mathlib.Omega.{arith}
 use borrow.Author.Tests.{ltb-true, ltb-false, leb-true, le-leb, ne_eqb}
@@ -15,7 +15,7 @@ use Rattle.refusals.specs.Outcome.{accepted}
 use Rattle.limits.specs.Limits.{most_columns}
 use Rattle.columns.specs.Bytes.{among, every}
 use Rattle.columns.specs.Lines.{lines_of, line_good}
-use Rattle.hourly.specs.Card.{Hourly_card, two_digits, full_year}
+use Rattle.hourly.specs.Card.{HourlyCard, two_digits, full_year}
 use Rattle.hourly.specs.Format.{A, heights_a_card, card_format}
 use Rattle.hourly.specs.Writing.{written_by, entries_of, cards_written}
 use Rattle.hourly.specs.Reading.{line_read, lines_read, cards_read}
@@ -23,7 +23,7 @@ use Rattle.hourly.proofs.Formats.{Fits, columns_of, written-printed, format_back
 
 -- ---- what fits
 
-pub record Card_fits (w : ℕ) (card : Hourly_card) : Type 0 where
+pub record CardFits (w : ℕ) (card : HourlyCard) : Type 0 where
   pub number : card.number < 10
   pub station : card.station < 100_000
   pub day : card.day < 100
@@ -32,9 +32,9 @@ pub record Card_fits (w : ℕ) (card : Hourly_card) : Type 0 where
   pub until : card.year ≤ 2049
   pub heights : Fits (replicate heights_a_card (A w)) card.heights
 
-abbrev pub Cards_fit : ℕ → List Hourly_card → Type 0
-Cards_fit w [] = Unit
-Cards_fit w (card ∷ cards) = Card_fits w card × Cards_fit w cards
+abbrev pub CardsFit : ℕ → List HourlyCard → Type 0
+CardsFit w [] = Unit
+CardsFit w (card ∷ cards) = CardFits w card × CardsFit w cards
 
 -- ---- a card
 
@@ -46,10 +46,10 @@ year-back year l h = go (ltb (year % 100) 50) refl
     go false e = omega (arith, ltb-false (year % 100) 50 e)
 
 -- a card's line, without its LF
-abbrev line_of : ℕ → Hourly_card → List ℕ
+abbrev line_of : ℕ → HourlyCard → List ℕ
 line_of w card = written_by (card_format w) (entries_of card)
 
-module _ (w : ℕ) (card : Hourly_card) (h : Card_fits w card) where
+module _ (w : ℕ) (card : HourlyCard) (h : CardFits w card) where
   entries_fit : Fits (card_format w) (entries_of card)
   entries_fit = (omega arith, (omega arith, (omega arith, (omega arith, (omega arith, h.heights)))))
 
@@ -70,7 +70,7 @@ lines-front (b ∷ line) rest h =
     let l : 32 ≤ b = leb-true 32 b (both (leb 32 b) (leb b 126) p.0).0 in
     rw (ne_eqb b 10 (λ e. omega arith), lines-front line rest p.1)
 
-lines-back : (w place : ℕ) → w ≤ 5 → (cards : List Hourly_card) → Cards_fit w cards → lines_read w place (lines_of (cards_written w cards)) ≡ accepted cards
+lines-back : (w place : ℕ) → w ≤ 5 → (cards : List HourlyCard) → CardsFit w cards → lines_read w place (lines_of (cards_written w cards)) ≡ accepted cards
 unfolding lines_read lines_of cards_written
 lines-back w place narrow [] h = refl
 lines-back w place narrow (card ∷ cards) (h, hs) =
@@ -83,5 +83,5 @@ lines-back w place narrow (card ∷ cards) (h, hs) =
     )
 
 -- the cards that are read are those that were written
-pub cards-read-back : (w : ℕ) → w ≤ 5 → (cards : List Hourly_card) → Cards_fit w cards → cards_read w (cards_written w cards) ≡ accepted cards
+pub cards-read-back : (w : ℕ) → w ≤ 5 → (cards : List HourlyCard) → CardsFit w cards → cards_read w (cards_written w cards) ≡ accepted cards
 cards-read-back w narrow cards h = lines-back w 1 narrow cards h

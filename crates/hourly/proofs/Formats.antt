@@ -4,8 +4,8 @@ use Prim.{Unit}
 use mathlib.Core.Path.{◌≡◌, refl, sym, ◌∙◌}
 use Prim.Native.Nat.{ℕ, suc, ◌+◌, ◌^◌, ◌<◌}
 use mathlib.Core.List.{List, [], ◌∷◌, ◌++◌}
-use lib.Int_n.{nat_abs}
-use lib.List_n.{length, replicate, length-replicate}
+use lib.IntN.{nat_abs}
+use lib.ListN.{length, replicate, length-replicate}
 use lib.Seq.{take_at, drop_at}
 use Rattle.refusals.specs.Outcome.{accepted}
 use Rattle.columns.specs.Bytes.{every}
@@ -19,14 +19,14 @@ use Rattle.hourly.proofs.Widths.{Holds, Printed, printed-append, printed-replica
 
 -- ---- what fits
 
-abbrev pub Fits_number : ℕ → Entry → Type 0
-Fits_number w (value z) = Holds w z
-Fits_number w gap = ⊥
+abbrev pub FitsNumber : ℕ → Entry → Type 0
+FitsNumber w (value z) = Holds w z
+FitsNumber w gap = ⊥
 
 -- a height that is not the nines of a gap, or a gap
-abbrev pub Fits_height : ℕ → Entry → Type 0
-Fits_height w (value z) = Holds w z × (suc (nat_abs z) < 10 ^ w)
-Fits_height w gap = Unit
+abbrev pub FitsHeight : ℕ → Entry → Type 0
+FitsHeight w (value z) = Holds w z × (suc (nat_abs z) < 10 ^ w)
+FitsHeight w gap = Unit
 
 -- an entry for each field, and it fits there
 abbrev pub Fits : List Item → List Entry → Type 0
@@ -34,9 +34,9 @@ Fits [] [] = Unit
 Fits [] (e ∷ es) = ⊥
 Fits (X n ∷ items) es = Fits items es
 Fits (I w ∷ items) [] = ⊥
-Fits (I w ∷ items) (e ∷ es) = Fits_number w e × Fits items es
+Fits (I w ∷ items) (e ∷ es) = FitsNumber w e × Fits items es
 Fits (A w ∷ items) [] = ⊥
-Fits (A w ∷ items) (e ∷ es) = Fits_height w e × Fits items es
+Fits (A w ∷ items) (e ∷ es) = FitsHeight w e × Fits items es
 
 -- the columns of a format
 abbrev pub columns_of : List Item → ℕ
@@ -47,11 +47,11 @@ columns_of (A w ∷ items) = w + columns_of items
 
 -- ---- one field
 
-field-number : (w : ℕ) (e : Entry) → Fits_number w e → Printed w (entry_written w e) × ((place : ℕ) → number_read place (entry_written w e) ≡ accepted e)
+field-number : (w : ℕ) (e : Entry) → FitsNumber w e → Printed w (entry_written w e) × ((place : ℕ) → number_read place (entry_written w e) ≡ accepted e)
 field-number w (value z) h = (number-printed w z h, number_read_lem w z h)
 field-number w gap h = absurd h
 
-field-height : (w : ℕ) (e : Entry) → Fits_height w e → Printed w (entry_written w e) × ((place : ℕ) → height_read place w (entry_written w e) ≡ accepted e)
+field-height : (w : ℕ) (e : Entry) → FitsHeight w e → Printed w (entry_written w e) × ((place : ℕ) → height_read place w (entry_written w e) ≡ accepted e)
 field-height w (value z) (h, u) = (number-printed w z h, height-read w z h u)
 field-height w gap h = (gap-printed w, gap-read w)
 

@@ -8,13 +8,13 @@ use native.Mathlib.Nat.{zero-add}
 use native.Mathlib.Omega.{arith}
 use borrow.Author.Tests.{lt-ltb, le-ltb, leb-true}
 use lib.Dec.{leb, lit<}
-use lib.Int_n.{ℤ, pos, negsuc}
-use lib.List_n.{length, drop}
+use lib.IntN.{ℤ, pos, negsuc}
+use lib.ListN.{length, drop}
 use lib.Seq.{sets, sets-eq}
 use Rattle.refusals.specs.Outcome.{Outcome, accepted, refused}
-use Rattle.hourly.specs.Card.{Hourly_card, value}
+use Rattle.hourly.specs.Card.{HourlyCard, value}
 use Rattle.hourly.specs.Format.{narrow}
-use Rattle.hourly.specs.Month.{Cards_given, heights_asked, outside, bytes_of, into_buffer}
+use Rattle.hourly.specs.Month.{CardsGiven, heights_asked, outside, bytes_of, into_buffer}
 use Rattle.hourly.specs.Writing.{cards_written}
 use Rattle.hourly.specs.inner.Fields.{Fitting}
 use Rattle.hourly.proofs.writing.Fields.{natural-fits, negative_fits}
@@ -29,8 +29,8 @@ inside-fits (negsuc n) e =
     first true e = refl
     first false e = sym e
 
-module _ (cards : List Hourly_card) (buffer : List ℕ) where
-  abbrev given : Outcome ℕ → List ℕ → Cards_given
+module _ (cards : List HourlyCard) (buffer : List ℕ) where
+  abbrev given : Outcome ℕ → List ℕ → CardsGiven
   given outcome bytes = record { returned = outcome; buffer = bytes }
 
   pub height-refused : (number place : ℕ) → heights_asked 1 cards ≡ refused number place → given (refused number place) buffer ≡ into_buffer (bytes_of cards (length buffer)) buffer

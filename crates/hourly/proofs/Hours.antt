@@ -4,8 +4,8 @@ use mathlib.Core.Path.{◌≡◌, refl, ap, ◌∙◌}
 use Prim.Native.Nat.{ℕ, zero, suc, ◌+◌, ◌-◌, ◌*◌, ◌/◌, ◌%◌, ◌≤◌}
 use native.Mathlib.Nat.{add-mul}
 use native.Mathlib.Omega.{arith}
-use lib.Int_n.{ℤ}
-use lib.List_n.{take, drop}
+use lib.IntN.{ℤ}
+use lib.ListN.{take, drop}
 use Rattle.calendar.specs.Calendar.{month_days}
 use Rattle.heights.specs.Series.{series_from, series_of}
 use Rattle.hourly.specs.Month.{first_hour, card_on, cards_from, cards_of}

@@ -8,7 +8,7 @@ use native.Mathlib.Omega.{arith}
 use mathlib.Core.Bool.{Bool, true, false}
 use borrow.Author.Tests.{lt-ltb, le-ltb, ltb-true, ltb-false}
 use lib.Dec.{ltb}
-use lib.List_n.{length, length-append}
+use lib.ListN.{length, length-append}
 use Rattle.hourly.specs.Writing.{decimal}
 
 -- below a number, or not

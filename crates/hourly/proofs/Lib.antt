@@ -7,4 +7,4 @@ pub mod Widths
 pub mod Formats
 pub mod Cards
 pub mod Nearest
-pub mod Read_back
+pub mod ReadBack

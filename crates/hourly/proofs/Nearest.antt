@@ -1,7 +1,7 @@
 -- A height in centimetres is within half a centimetre of the height in tenths of a millimetre. From the laws of floors. Assumes nothing.
 use mathlib.Core.Path.{◌≡◌, sym, ap, ◌∙◌, subst}
 use Prim.Native.Nat.{ℕ, zero, suc, ◌≤◌, ◌<◌}
-use lib.Int_n.{ℤ, pos, neg_ℤ, nat_abs, ◌+ℤ◌, ◌-ℤ◌, ◌*ℤ◌, +ℤ_comm, *ℤ_comm, +ℤ-neg_ℤ_cancel}
+use lib.IntN.{ℤ, pos, neg_ℤ, nat_abs, ◌+ℤ◌, ◌-ℤ◌, ◌*ℤ◌, +ℤ_comm, *ℤ_comm, +ℤ-neg_ℤ_cancel}
 use native.Mathlib.Omega.{arith}
 use Rattle.angles.proofs.Floors.{floor_rest, floor-split, rest_below}
 use Rattle.angles.proofs.Ints.{by_order, swap}

@@ -5,8 +5,8 @@ use Prim.Native.Nat.{ℕ, zero, suc, ◌+◌, ◌≤◌}
 use mathlib.Core.Bool.{Bool, true, false, ◌&&◌, ◌||◌, true≢false}
 use mathlib.Core.List.{List, [], ◌∷◌}
 use lib.Dec.{ltb, leb}
-use lib.Int_n.{ℤ, pos, negsuc}
-use lib.List_n.{length, replicate}
+use lib.IntN.{ℤ, pos, negsuc}
+use lib.ListN.{length, replicate}
 use native.Mathlib.Nat.{suc_inj}
 use native.Mathlib.Omega.{arith}
 use borrow.Author.Tests.{leb-true, ltb-false, not-false}
@@ -18,9 +18,9 @@ use Rattle.refusals.proofs.Laws.{not-both}
 use Rattle.hourly.specs.Card.{Entry, value, gap}
 use Rattle.hourly.specs.Format.{A, heights_a_card, narrow}
 use Rattle.hourly.specs.Writing.{cards_written}
-use Rattle.hourly.specs.Month.{card_on, cards_from, cards_of, most_station_number, outside, any_outside, heights_asked, room_asked, Reads_back}
-use Rattle.hourly.proofs.Formats.{Fits_height, Fits}
-use Rattle.hourly.proofs.Cards.{Card_fits, Cards_fit, cards-read-back}
+use Rattle.hourly.specs.Month.{card_on, cards_from, cards_of, most_station_number, outside, any_outside, heights_asked, room_asked, ReadsBack}
+use Rattle.hourly.proofs.Formats.{FitsHeight, Fits}
+use Rattle.hourly.proofs.Cards.{CardFits, CardsFit, cards-read-back}
 
 -- ---- what is accepted was not refused
 
@@ -38,7 +38,7 @@ neither true b e = absurd (true≢false e)
 
 -- ---- what is not outside -999 to 9998 fits a narrow card
 
-height-fits : (e : Entry) → outside e ≡ false → Fits_height narrow e
+height-fits : (e : Entry) → outside e ≡ false → FitsHeight narrow e
 height-fits (value (pos n)) h = let l : n ≤ 9_998 = leb-true n 9_998 (not-false (leb n 9_998) h) in (omega arith, omega arith)
 height-fits (value (negsuc n)) h = let l : n ≤ 998 = leb-true n 998 (both (leb n 998) true (not-false (leb n 998 && true) h)).0 in (omega arith, omega arith)
 height-fits gap h = tt
@@ -52,7 +52,7 @@ heights-fit (suc n) (x ∷ es) e h = let p = neither (outside x) (any_outside es
 
 module _ (height : ℕ → ℤ) (station year month : ℕ) (range : in_range year month ≡ true) (most : ltb most_station_number station ≡ false) where
   card-fits : (day number : ℕ) → day ≤ 31 → number ≤ 2 → any_outside (card_on height station year month day number).heights ≡ false
-      → Card_fits narrow (card_on height station year month day number)
+      → CardFits narrow (card_on height station year month day number)
   unfolding series_from
   card-fits day number d n h =
       let r = in-range year month range in
@@ -68,7 +68,7 @@ module _ (height : ℕ → ℤ) (station year month : ℕ) (range : in_range yea
       }
 
   cards-fit : (day left place : ℕ) → day + left ≤ 32 → heights_asked place (cards_from height station year month day left) ≡ accepted tt
-      → Cards_fit narrow (cards_from height station year month day left)
+      → CardsFit narrow (cards_from height station year month day left)
   unfolding cards_from heights_asked
   cards-fit day zero place d h = tt
   cards-fit day (suc left) place d h =
@@ -78,7 +78,7 @@ module _ (height : ℕ → ℤ) (station year month : ℕ) (range : in_range yea
 
 -- ---- the month
 
-pub reads-back : Reads_back
+pub reads-back : ReadsBack
 reads-back height station year month places bytes range most taken =
     let cards = cards_of height station year month in
     let asked = first-accepted (heights_asked 1 cards) (room_asked (cards_written narrow cards) places) bytes taken in

@@ -4,7 +4,7 @@ use mathlib.Core.Path.{◌≡◌, refl}
 use Prim.Native.Nat.{ℕ, zero, suc}
 use mathlib.Core.Bool.{Bool, true, ◌&&◌, and_assoc}
 use mathlib.Core.List.{List, [], ◌∷◌, ◌++◌}
-use lib.List_n.{replicate}
+use lib.ListN.{replicate}
 use lib.Seq.{drop-append_seam}
 use Rattle.calendar.proofs.Months.{both}
 use Rattle.columns.specs.Bytes.{every, leading, behind}

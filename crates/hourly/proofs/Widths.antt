@@ -5,8 +5,8 @@ use Prim.Native.Nat.{ℕ, zero, suc, ◌+◌, ◌-◌, ◌*◌, ◌^◌, ◌≤�
 use mathlib.Core.Bool.{Bool, true, false, and-false, or-true, false≢true}
 use mathlib.Core.List.{List, [], ◌∷◌, ◌++◌, append-nil}
 use lib.Dec.{leb, eqb}
-use lib.Int_n.{ℤ, pos, negsuc, nat_abs}
-use lib.List_n.{length, replicate, length-append, length-replicate}
+use lib.IntN.{ℤ, pos, negsuc, nat_abs}
+use lib.ListN.{length, replicate, length-append, length-replicate}
 use native.Mathlib.Nat.{pow-suc, pow-le-pow_right, mul_assoc, mul_comm, not-suc-le-zero, lt_of_lt_of_le}
 use native.Mathlib.Omega.{arith}
 use borrow.Author.Tests.{leb-true, lt-leb, lt-ltb, ne_eqb, eqb-true, eq-eqb}
@@ -17,7 +17,7 @@ use Rattle.columns.specs.Names.{same}
 use Rattle.columns.proofs.Bytes.{every-leading}
 use Rattle.fields.specs.Number.{numeric, signed, unsigned, unblanked, contents_of}
 use Rattle.fields.specs.Numerals.{digit, begins, numeral, whole_good, whole_size}
-use Rattle.fields.specs.declared.Format.The_variants.{Whole}
+use Rattle.fields.specs.declared.Format.TheVariants.{Whole}
 use Rattle.hourly.specs.Card.{value, gap}
 use Rattle.hourly.specs.Writing.{decimal, minus_of, text_of, entry_written}
 use Rattle.hourly.specs.Reading.{number_read, height_read}

@@ -9,7 +9,7 @@ pub data Entry : Type 0 where
 
 -- "card number 1 or 2, station number 0 to 99999, day, month, last two digits of the year, twelve heights": the year is given in full here, and
 -- a height in centimetres
-pub record Hourly_card : Type 0 where
+pub record HourlyCard : Type 0 where
   pub number : ℕ
   pub station : ℕ
   pub day : ℕ

@@ -7,7 +7,7 @@ use Rattle.angles.specs.Floor.{floor_div}
 use Rattle.calendar.specs.Calendar.{in_range, month_days}
 use Rattle.heights.specs.Series.{series_of}
 use Rattle.refusals.specs.Outcome.{Outcome, accepted, refuse_if, on_accepted, ◌>>◌, ◌>>=◌}
-use Rattle.hourly.specs.Card.{Entry, value, gap, Hourly_card}
+use Rattle.hourly.specs.Card.{Entry, value, gap, HourlyCard}
 use Rattle.hourly.specs.Format.{heights_a_card, narrow}
 use Rattle.hourly.specs.Writing.{cards_written}
 use Rattle.hourly.specs.Reading.{cards_read}
@@ -23,7 +23,7 @@ abbrev pub first_hour : ℕ → ℕ → ℕ
 first_hour day number = (day - 1) * 1_440 + (number - 1) * 720 + 60
 
 -- a card, its heights an hour apart
-abbrev pub card_on : (ℕ → ℤ) → ℕ → ℕ → ℕ → ℕ → ℕ → Hourly_card
+abbrev pub card_on : (ℕ → ℤ) → ℕ → ℕ → ℕ → ℕ → ℕ → HourlyCard
 card_on height station year month day number =
     record {
       number = number;
@@ -35,7 +35,7 @@ card_on height station year month day number =
     }
 
 -- the cards of so many days from a day on: "earliest hours first"
-unfoldable pub cards_from : (ℕ → ℤ) → ℕ → ℕ → ℕ → ℕ → ℕ → List Hourly_card
+unfoldable pub cards_from : (ℕ → ℤ) → ℕ → ℕ → ℕ → ℕ → ℕ → List HourlyCard
 cards_from height station year month day zero = []
 cards_from height station year month day (suc left) =
     card_on height station year month day 1
@@ -43,7 +43,7 @@ cards_from height station year month day (suc left) =
     ∷ cards_from height station year month (day + 1) left
 
 -- "a prepared month's cards", its days counted from 1
-abbrev pub cards_of : (ℕ → ℤ) → ℕ → ℕ → ℕ → List Hourly_card
+abbrev pub cards_of : (ℕ → ℤ) → ℕ → ℕ → ℕ → List HourlyCard
 cards_of height station year month = cards_from height station year month 1 (month_days year month)
 
 -- ---- what is refused, and what is written
@@ -62,7 +62,7 @@ any_outside [] = false
 any_outside (entry ∷ entries) = outside entry || any_outside entries
 
 -- "33, a height outside -999 to 9998, with the first such card as the place, from 1": the cards from a place on
-unfoldable pub heights_asked : ℕ → List Hourly_card → Outcome Unit
+unfoldable pub heights_asked : ℕ → List HourlyCard → Outcome Unit
 heights_asked place [] = accepted tt
 heights_asked place (card ∷ cards) = refuse_if (any_outside card.heights) 33 place (heights_asked (place + 1) cards)
 
@@ -71,16 +71,16 @@ abbrev pub room_asked : List ℕ → ℕ → Outcome (List ℕ)
 room_asked bytes places = refuse_if (ltb places (length bytes)) 34 0 (accepted bytes)
 
 -- the cards' bytes, where none of their heights and not the room is refused
-abbrev pub bytes_of : List Hourly_card → ℕ → Outcome (List ℕ)
+abbrev pub bytes_of : List HourlyCard → ℕ → Outcome (List ℕ)
 bytes_of cards places = heights_asked 1 cards >> room_asked (cards_written narrow cards) places
 
 -- what the call returns, "how many bytes they take", and the lent buffer as it leaves it
-pub record Cards_given : Type 0 where
+pub record CardsGiven : Type 0 where
   pub returned : Outcome ℕ
   pub buffer : List ℕ
 
 -- "into a lent buffer, .., the bytes beyond them unchanged"; refused, it is as it was
-abbrev pub into_buffer : Outcome (List ℕ) → List ℕ → Cards_given
+abbrev pub into_buffer : Outcome (List ℕ) → List ℕ → CardsGiven
 into_buffer new buffer =
     record {
       returned = new >>= λ bytes. accepted (length bytes);
@@ -89,9 +89,9 @@ into_buffer new buffer =
 
 -- ---- "these cards, read by that format and 01's number rule, give the station number, dates and centimetre heights written"
 
--- proved in proofs/Read_back.antt: of every month in range, every station number that is not refused, and every height at its minutes
-abbrev pub Reads_back : Type 0
-Reads_back =
+-- proved in proofs/ReadBack.antt: of every month in range, every station number that is not refused, and every height at its minutes
+abbrev pub ReadsBack : Type 0
+ReadsBack =
     (height : ℕ → ℤ) (station year month places : ℕ) (bytes : List ℕ) →
     in_range year month ≡ true → ltb most_station_number station ≡ false →
     bytes_of (cards_of height station year month) places ≡ accepted bytes → cards_read narrow bytes ≡ accepted (cards_of height station year month)

@@ -8,8 +8,8 @@ use Rattle.columns.specs.Columns.{columns}
 use Rattle.columns.specs.Lines.{lines_of, line_good}
 use Rattle.columns.specs.Names.{same}
 use Rattle.fields.specs.Number.{Contents, malformed, numeric, contents_of}
-use Rattle.fields.specs.declared.Format.The_variants.{Whole}
-use Rattle.hourly.specs.Card.{Entry, value, gap, Hourly_card, full_year}
+use Rattle.fields.specs.declared.Format.TheVariants.{Whole}
+use Rattle.hourly.specs.Card.{Entry, value, gap, HourlyCard, full_year}
 use Rattle.hourly.specs.Format.{Item, I, X, A, card_format}
 
 -- 01: "A number is blanks, perhaps a minus, digits, blanks." 2 where it is none
@@ -44,7 +44,7 @@ natural place (value (negsuc n)) = refused 3 place
 natural place gap = refused 2 place
 
 -- the card of a line's entries
-abbrev pub card_of : ℕ → List Entry → Outcome Hourly_card
+abbrev pub card_of : ℕ → List Entry → Outcome HourlyCard
 card_of place entries = do
   number ← natural place (get_or entries 0 gap)
   station ← natural place (get_or entries 1 gap)
@@ -54,11 +54,11 @@ card_of place entries = do
   accepted (record { number = number; station = station; day = day; month = month; year = full_year year; heights = drop 5 entries })
 
 -- a line
-abbrev pub line_read : ℕ → ℕ → List ℕ → Outcome Hourly_card
+abbrev pub line_read : ℕ → ℕ → List ℕ → Outcome HourlyCard
 line_read width place line = refuse_if (not (line_good line)) 1 place (read_by place (card_format width) line >>= card_of place)
 
 -- lines, the first of them with this number
-unfoldable pub lines_read : ℕ → ℕ → List (List ℕ) → Outcome (List Hourly_card)
+unfoldable pub lines_read : ℕ → ℕ → List (List ℕ) → Outcome (List HourlyCard)
 lines_read width place [] = accepted []
 lines_read width place (line ∷ lines) = do
   card ← line_read width place line
@@ -66,5 +66,5 @@ lines_read width place (line ∷ lines) = do
   accepted (card ∷ cards)
 
 -- the cards that bytes hold
-abbrev pub cards_read : ℕ → List ℕ → Outcome (List Hourly_card)
+abbrev pub cards_read : ℕ → List ℕ → Outcome (List HourlyCard)
 cards_read width bytes = lines_read width 1 (lines_of bytes)

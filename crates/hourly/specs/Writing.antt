@@ -1,7 +1,7 @@
 -- 02, No. 4: hourly cards as bytes.
 -- Assumes nothing.
 use Rattle.std.specs.Prelude.{ℕ, zero, suc, ◌+◌, ◌-◌, ◌/◌, ◌%◌, cond, List, [], ◌∷◌, ◌++◌, ltb, ℤ, pos, negsuc, nat_abs, length, replicate}
-use Rattle.hourly.specs.Card.{Entry, value, gap, Hourly_card, two_digits}
+use Rattle.hourly.specs.Card.{Entry, value, gap, HourlyCard, two_digits}
 use Rattle.hourly.specs.Format.{Item, I, X, A, card_format}
 
 -- a number in decimal, in no more than so many digits, which are bytes 48 to 57
@@ -37,7 +37,7 @@ written_by (A width ∷ items) [] = []
 written_by (A width ∷ items) (entry ∷ entries) = entry_written width entry ++ written_by items entries
 
 -- a card's entries, in the order of its fields
-abbrev pub entries_of : Hourly_card → List Entry
+abbrev pub entries_of : HourlyCard → List Entry
 entries_of card =
     value (pos card.number)
     ∷ value (pos card.station)
@@ -47,10 +47,10 @@ entries_of card =
     ∷ card.heights
 
 -- a card with heights of a width; "LF after each", which is byte 10
-abbrev pub card_written : ℕ → Hourly_card → List ℕ
+abbrev pub card_written : ℕ → HourlyCard → List ℕ
 card_written width card = written_by (card_format width) (entries_of card) ++ (10 ∷ [])
 
 -- cards one after another
-unfoldable pub cards_written : ℕ → List Hourly_card → List ℕ
+unfoldable pub cards_written : ℕ → List HourlyCard → List ℕ
 cards_written width [] = []
 cards_written width (card ∷ cards) = card_written width card ++ cards_written width cards

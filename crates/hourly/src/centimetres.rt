@@ -3,7 +3,7 @@ ghost use Rattle.std.specs.Prelude.{◌≡◌};
 ghost use Rattle.refusals.specs.Outcome.{outcome_of};
 ghost use Rattle.hourly.specs.Card.{value};
 ghost use Rattle.hourly.specs.Month.{centimetres, outside};
-ghost use Rattle.hourly.specs.inner.Fields.{Heights_answered};
+ghost use Rattle.hourly.specs.inner.Fields.{HeightsAnswered};
 
 use refusals::{Answer, Refusal};
 
@@ -31,12 +31,12 @@ pub fn outside(height: i64) -> bool
 
 // Whether the cards take the heights at all hours: the first card that does not, from 1.
 pub fn heights_answer(hours: &[i64]) -> Answer
-    ensures { Heights_answered hours.now (outcome_of result) }
+    ensures { HeightsAnswered hours.now (outcome_of result) }
 {
     let mut k = 0;
     while k < hours.len() {
         if outside(centimetres(hours[k])) {
-            return Answer::Refused(Refusal::Bad_height, k / HEIGHTS + 1);
+            return Answer::Refused(Refusal::BadHeight, k / HEIGHTS + 1);
         }
         k = k + 1;
     }

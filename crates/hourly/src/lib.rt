@@ -25,7 +25,7 @@ pub const LONGEST: usize = 2 * 31 * CARD;
 
 // How many bytes the cards take; or a refusal.
 #[derive(Drop)]
-pub enum Cards_answer {
+pub enum CardsAnswer {
     Bytes(usize),
     Refused(Refusal, usize),
 }
@@ -37,18 +37,18 @@ pub fn write_cards(
     year: u32,
     month: u32,
     out: &mut [u8],
-) -> Cards_answer
+) -> CardsAnswer
     requires { length hours.now ≡ 24 * month_days year month }
     ensures { record { returned = cards_returned result; buffer = out.new } ≡ into_buffer (bytes_of (cards_in hours.now station year month) (length out.old)) out.old }
 {
     let answer = centimetres::heights_answer(hours);
     if let Answer::Refused(refusal, place) = answer {
-        return Cards_answer::Refused(refusal, place);
+        return CardsAnswer::Refused(refusal, place);
     }
     let cards = hours.len() / HEIGHTS;
     let bytes = CARD * cards;
     if out.len() < bytes {
-        return Cards_answer::Refused(Refusal::Short_buffer, 0);
+        return CardsAnswer::Refused(Refusal::ShortBuffer, 0);
     }
     let heading = Heading {
         station,
@@ -56,5 +56,5 @@ pub fn write_cards(
         month,
     };
     writing::put_cards(out, NARROW, heading, hours, cards);
-    Cards_answer::Bytes(bytes)
+    CardsAnswer::Bytes(bytes)
 }

@@ -5,7 +5,7 @@ ghost use Rattle.hourly.specs.Card.{value};
 ghost use Rattle.hourly.specs.Format.{heights_a_card};
 ghost use Rattle.hourly.specs.Writing.{decimal, entry_written, card_written, cards_written};
 ghost use Rattle.hourly.specs.inner.Hours.{card_at, cards_after};
-ghost use Rattle.hourly.specs.inner.Fields.{Fitting, All_fitting, heights_written, heading_length, heading_written, card_length};
+ghost use Rattle.hourly.specs.inner.Fields.{Fitting, AllFitting, heights_written, heading_length, heading_written, card_length};
 
 use crate::centimetres::{HEIGHTS, centimetres};
 
@@ -91,7 +91,7 @@ fn put_number(out: &mut [u8], at: usize, width: usize, number: i64)
 
 // Writes the twelve heights from an hour on, in fields of a width; gives the place after them.
 fn put_heights(out: &mut [u8], at: usize, width: usize, hours: &[i64], first: usize) -> usize
-    requires { (at + heights_a_card * width ≤ length out.old) × ((first + heights_a_card ≤ length hours.now) × All_fitting width hours.now) }
+    requires { (at + heights_a_card * width ≤ length out.old) × ((first + heights_a_card ≤ length hours.now) × AllFitting width hours.now) }
     ensures out_after { out.new ≡ sets out.old at (heights_written width hours.now first) }
     ensures value { result ≡ at + heights_a_card * width }
 {
@@ -128,7 +128,7 @@ fn put_card(
     hours: &[i64],
     i: usize,
 ) -> usize
-    requires { (at + card_length width ≤ length out.old) × ((heights_a_card * i + heights_a_card ≤ length hours.now) × All_fitting width hours.now) }
+    requires { (at + card_length width ≤ length out.old) × ((heights_a_card * i + heights_a_card ≤ length hours.now) × AllFitting width hours.now) }
     ensures out_after { out.new ≡ sets out.old at (card_written width (card_at hours.now heading.station heading.year heading.month i)) }
     ensures value { result ≡ at + card_length width }
 {
@@ -140,7 +140,7 @@ fn put_card(
 
 // Writes so many cards, the first at the first byte, with heights of a width.
 pub fn put_cards(out: &mut [u8], width: usize, heading: Heading, hours: &[i64], cards: usize)
-    requires { (cards * card_length width ≤ length out.old) × ((heights_a_card * cards ≤ length hours.now) × All_fitting width hours.now) }
+    requires { (cards * card_length width ≤ length out.old) × ((heights_a_card * cards ≤ length hours.now) × AllFitting width hours.now) }
     ensures { out.new ≡ sets out.old 0 (cards_written width (cards_after hours.now heading.station heading.year heading.month 0 cards)) }
 {
     let mut at = 0;

@@ -6,7 +6,7 @@ use Rattle.refusals.specs.Outcome.{number_of}
 use Rattle.refusals.specs.declared.Refusal.{Refusal}
 use Rattle.calls.specs.Reasons.{series_reason}
 use Rattle.calls.specs.declared.reasons.Reason.{Reason}
-use Rattle.calls.specs.declared.reasons.Reason.The_variants.{Within}
+use Rattle.calls.specs.declared.reasons.Reason.TheVariants.{Within}
 
 -- 9, "minutes outside the month or reversed, or step out of range"
 abbrev pub of_minutes : Refusal → Bool

@@ -245,23 +245,23 @@ fn list_one(refusal: Refusal) {
 
 // The list of all refusals, on standard output.
 pub fn list_refusals() {
-    list_one(Refusal::Bad_line);
+    list_one(Refusal::BadLine);
     list_one(Refusal::Malformed);
-    list_one(Refusal::Out_of_range);
-    list_one(Refusal::Bad_name);
+    list_one(Refusal::OutOfRange);
+    list_one(Refusal::BadName);
     list_one(Refusal::Missing);
-    list_one(Refusal::Too_many);
+    list_one(Refusal::TooMany);
     list_one(Refusal::Ended);
-    list_one(Refusal::Bad_date);
-    list_one(Refusal::Bad_minutes);
-    list_one(Refusal::Too_many_turns);
-    list_one(Refusal::Too_large);
-    list_one(Refusal::No_table);
-    list_one(Refusal::No_station);
-    list_one(Refusal::No_month);
-    list_one(Refusal::Unequal_buffers);
-    list_one(Refusal::Bad_station_number);
-    list_one(Refusal::Bad_height);
-    list_one(Refusal::Short_buffer);
-    list_one(Refusal::Bad_stride);
+    list_one(Refusal::BadDate);
+    list_one(Refusal::BadMinutes);
+    list_one(Refusal::TooManyTurns);
+    list_one(Refusal::TooLarge);
+    list_one(Refusal::NoTable);
+    list_one(Refusal::NoStation);
+    list_one(Refusal::NoMonth);
+    list_one(Refusal::UnequalBuffers);
+    list_one(Refusal::BadStationNumber);
+    list_one(Refusal::BadHeight);
+    list_one(Refusal::ShortBuffer);
+    list_one(Refusal::BadStride);
 }

@@ -10,21 +10,21 @@ use refusals::Refusal;
 pub fn of_minutes(refusal: Refusal) -> bool
     ensures { result ≡ of_minutes refusal }
 {
-    refusals::number_of(refusal) == refusals::number_of(Refusal::Bad_minutes)
+    refusals::number_of(refusal) == refusals::number_of(Refusal::BadMinutes)
 }
 
 // Whether a refusal is that of a stride.
 pub fn of_strides(refusal: Refusal) -> bool
     ensures { result ≡ of_strides refusal }
 {
-    refusals::number_of(refusal) == refusals::number_of(Refusal::Bad_stride)
+    refusals::number_of(refusal) == refusals::number_of(Refusal::BadStride)
 }
 
 // Whether a refusal is that of more turns than there is room for.
 pub fn of_room(refusal: Refusal) -> bool
     ensures { result ≡ of_room refusal }
 {
-    refusals::number_of(refusal) == refusals::number_of(Refusal::Too_many_turns)
+    refusals::number_of(refusal) == refusals::number_of(Refusal::TooManyTurns)
 }
 
 // Whether a day is refused because its month lacks it.

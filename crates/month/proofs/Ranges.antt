@@ -4,7 +4,7 @@ use mathlib.Core.Path.{◌≡◌, refl, sym, subst}
 use mathlib.Core.List.{List, [], ◌∷◌}
 use Prim.Native.Nat.{ℕ, zero, suc, ◌+◌, ◌≤◌, zero-le}
 use native.Mathlib.Omega.{arith}
-use lib.List_n.{get_or, get_or-map}
+use lib.ListN.{get_or, get_or-map}
 use Rattle.table.specs.Table.{Table, Frequency, Main, Shallow}
 use Rattle.month_prepared.specs.Prepared.{Constituent}
 use Rattle.station.specs.Station.{Station}

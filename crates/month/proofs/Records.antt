@@ -5,7 +5,7 @@ use mathlib.Core.List.{List, [], ◌∷◌, ◌++◌, append-nil, append_assoc}
 use Prim.Native.Nat.{ℕ, suc, ◌+◌, ◌-◌, ◌^◌, ◌≤◌, ◌<◌}
 use native.Mathlib.Omega.{arith}
 use native.Mathlib.Nat.{sub-zero}
-use lib.List_n.{get_or}
+use lib.ListN.{get_or}
 use Rattle.table.specs.Table.{Main, Shallow}
 use Rattle.month_prepared.specs.Prepared.{Constituent}
 use Rattle.station.specs.Records.{record_from, records_from}
@@ -20,10 +20,10 @@ use Rattle.month_satellites.specs.inner.Ranges.{Sized}
 use Rattle.month_satellites.specs.inner.View.{pair_of}
 use Rattle.month_pairs.specs.inner.Corrected.{corrected_of}
 use Rattle.month_satellites.specs.declared.satellites.Pair as code
-use Rattle.month_pairs.specs.declared.pairs.Corrected.The_variants.{Too_large, Within}
+use Rattle.month_pairs.specs.declared.pairs.Corrected.TheVariants.{TooLarge, Within}
 use Rattle.month_workings.specs.Worked.{argument_of, correction_of}
 use Rattle.month.specs.Month.{records_prepared, weight, constituent}
-use Rattle.month_workings.specs.inner.View.{Is_worked}
+use Rattle.month_workings.specs.inner.View.{IsWorked}
 use Rattle.month_workings.specs.declared.worked.Worked.{Worked}
 
 -- what is done goes before what is left
@@ -72,8 +72,8 @@ module _ (frequencies : List ℕ) (mains : List Main) (shallows : List Shallow) 
 
   -- ---- with what was worked out at record k
 
-  module _ (cs : List Constituent) (k n : ℕ) (whole : Outcome (List Constituent)) (inv : before cs (left n k) ≡ whole) (h : k < n) (w : Worked) (is : Is_worked g l mains shallows (get_or places k 0) w) where
-    pub refused-at : w.corrected ≡ Too_large → refused 11 (k + 1) ≡ whole
+  module _ (cs : List Constituent) (k n : ℕ) (whole : Outcome (List Constituent)) (inv : before cs (left n k) ≡ whole) (h : k < n) (w : Worked) (is : IsWorked g l mains shallows (get_or places k 0) w) where
+    pub refused-at : w.corrected ≡ TooLarge → refused 11 (k + 1) ≡ whole
     refused-at e = sym (ends-refused cs k n h (sym is.correction ∙ ap corrected_of e)) ∙ inv
 
     module _ (xy : code.Pair) (e : w.corrected ≡ Within xy) where

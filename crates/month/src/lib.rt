@@ -1,12 +1,12 @@
 // A station's constituents in a month: V, frequency and the weights P and Q of each record, or refusal 11.
 ghost use Rattle.std.specs.Prelude.{◌≡◌, true, ◌≤◌, ◌^◌, nat_abs, get_or};
 ghost use Rattle.calendar.specs.Calendar.{in_range};
-ghost use Rattle.cosine.specs.Fixed.{Is_table};
+ghost use Rattle.cosine.specs.Fixed.{IsTable};
 ghost use Rattle.table.specs.inner.View.{table_of};
 ghost use Rattle.station.specs.inner.Station.{station_of};
 ghost use Rattle.month_arguments.specs.inner.Longitudes.{longitudes_of};
 ghost use Rattle.month_satellites.specs.inner.Factors.{factors_of};
-ghost use Rattle.month_workings.specs.inner.Given.{Is_given};
+ghost use Rattle.month_workings.specs.inner.Given.{IsGiven};
 ghost use Rattle.month.specs.Month.{weight, month_of};
 ghost use Rattle.month.specs.inner.View.{prepared_of, frequencies_of, rows_prepared};
 
@@ -28,7 +28,7 @@ use table::{Table, at_u64};
 #[derive(Drop)]
 pub enum Preparation {
     Ready,
-    Too_large(usize),
+    TooLarge(usize),
 }
 
 // The answer, and the month where it is ready.
@@ -64,8 +64,8 @@ fn prepare_records(
     station: Station,
     given: Given,
 ) -> Prepared
-    requires table { Is_table cosines.now }
-    requires given { Is_given given }
+    requires table { IsTable cosines.now }
+    requires given { IsGiven given }
     requires mains_value { given.mains ≡ table.mains }
     ensures { prepared_of result ≡ rows_prepared table (factors_of given.factors) (longitudes_of given.longitudes) 1 (station_of station).records }
 {
@@ -92,9 +92,9 @@ fn prepare_records(
         let w = from_mains(found, &kept, &table.shallowcards, &table.coefficients);
         let c = w.corrected;
         match c {
-            Corrected::Too_large => {
+            Corrected::TooLarge => {
                 return Prepared {
-                    answer: Preparation::Too_large(k + 1),
+                    answer: Preparation::TooLarge(k + 1),
                     month,
                 };
             }
@@ -125,7 +125,7 @@ pub fn prepare(
     year: u32,
     month: u32,
 ) -> Prepared
-    requires table { Is_table cosines.now }
+    requires table { IsTable cosines.now }
     requires month_value { in_range year month ≡ true }
     ensures { prepared_of result ≡ month_of (table_of table) (station_of station) year month }
 {

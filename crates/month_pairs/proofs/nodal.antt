@@ -1,2 +1,2 @@
 pub mod Multiplying
-pub mod Of_table
+pub mod OfTable

@@ -63,8 +63,8 @@ pub fn shallow_pair<'a>(
     while j < count {
         let c = times_row_part(kept, cards, coefficients, k, j, p);
         match c {
-            Corrected::Too_large => {
-                return Corrected::Too_large;
+            Corrected::TooLarge => {
+                return Corrected::TooLarge;
             }
             Corrected::Within(q) => {
                 p = q;

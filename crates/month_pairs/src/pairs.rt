@@ -13,7 +13,7 @@ use month_satellites::satellites::Pair;
 // A constituent's pair, or none, by refusal 11.
 #[derive(Drop)]
 pub enum Corrected {
-    Too_large,
+    TooLarge,
     Within(Pair),
 }
 
@@ -23,10 +23,10 @@ pub fn check(p: Pair) -> Corrected
     ensures small { Small result }
 {
     if 4_194_304 < size(p.x) {
-        return Corrected::Too_large;
+        return Corrected::TooLarge;
     }
     if 4_194_304 < size(p.y) {
-        return Corrected::Too_large;
+        return Corrected::TooLarge;
     }
     Corrected::Within(p)
 }
@@ -85,8 +85,8 @@ fn times_often(start: Pair, by: Pair, n: u64) -> Corrected
     while 0 < left {
         let c = check(multiplied(p, by));
         match c {
-            Corrected::Too_large => {
-                return Corrected::Too_large;
+            Corrected::TooLarge => {
+                return Corrected::TooLarge;
             }
             Corrected::Within(q) => {
                 p = q;
@@ -113,7 +113,7 @@ pub fn times_part(p: Pair, main: Corrected, coefficient: i8) -> Corrected
     ensures small_2 { Small result }
 {
     match main {
-        Corrected::Too_large => Corrected::Too_large,
+        Corrected::TooLarge => Corrected::TooLarge,
         Corrected::Within(q) => times_often(p, turn(coefficient, q), size(widened(coefficient))),
     }
 }

@@ -1,3 +1,3 @@
 pub mod Places
 pub mod Owners
-pub mod One_month
+pub mod OneMonth

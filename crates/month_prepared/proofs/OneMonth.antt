@@ -3,14 +3,14 @@ use Prim.Native.Nat.{ℕ, ◌≤◌, ◌<◌}
 use native.Mathlib.Omega.{arith}
 use mathlib.Core.Path.{◌≡◌}
 use mathlib.Core.List.{List, [], ◌∷◌}
-use lib.Int_n.{ℤ}
-use lib.List_n.{length, get_or}
+use lib.IntN.{ℤ}
+use lib.ListN.{length, get_or}
 use lib.Seq.{take_all}
 use Rattle.limits.specs.Limits.{most_records, most_minutes}
 use Rattle.month_prepared.specs.Months.{owner_of}
 use Rattle.month_prepared.specs.declared.months.Months.{Months}
 use Rattle.month_prepared.specs.inner.View.{constituents_from}
-use Rattle.month_prepared.specs.inner.Rows.{Is_row, row_at, months_after, months_in, minutes_after, last_of, Following, Has_rows}
+use Rattle.month_prepared.specs.inner.Rows.{IsRow, row_at, months_after, months_in, minutes_after, last_of, Following, HasRows}
 
 -- the first row of a list that has one is the list
 pub row-whole : {A : Type 0} (xs : List A) → length xs ≡ most_records → row_at 0 xs ≡ xs
@@ -32,9 +32,9 @@ module _ (months : Months) (single : months.many ≡ 1) where
         lasts = λ (m : ℕ) (h : m < months.many). let e : m ≡ 0 = omega (arith, single) in rw e last;
       }
 
-  module _ {vs : List ℕ} {ps qs : List ℤ} (row : Is_row vs ps qs) where
+  module _ {vs : List ℕ} {ps qs : List ℤ} (row : IsRow vs ps qs) where
     -- lists of one row are enough for it
-    pub one-row : Has_rows months vs ps qs
+    pub one-row : HasRows months vs ps qs
     one-row = record { arguments = omega (arith, row.arguments, single); cosines = omega (arith, row.cosines, single); sines = omega (arith, row.sines, single) }
 
     -- the months are the one that the lists hold

@@ -3,15 +3,15 @@ use Prim.Native.Nat.{ℕ, zero, suc, ◌+◌, ◌-◌, ◌*◌, ◌≤◌, ◌<�
 use native.Mathlib.Omega.{arith}
 use mathlib.Core.Path.{◌≡◌, refl, ◌∙◌}
 use mathlib.Core.List.{List, [], ◌∷◌}
-use lib.Int_n.{ℤ}
-use lib.List_n.{get_or}
+use lib.IntN.{ℤ}
+use lib.ListN.{get_or}
 use borrow.Author.Tests.{lt-ltb, le-ltb}
 use Rattle.limits.specs.Limits.{most_minutes}
 use Rattle.month_prepared.specs.Prepared.{Month}
 use Rattle.month_prepared.specs.Months.{owner_of}
 use Rattle.month_prepared.specs.declared.months.Months.{Months}
-use Rattle.month_prepared.specs.declared.months.In_month.{In_month}
-use Rattle.month_prepared.specs.inner.Rows.{month_at, months_after, months_in, minutes_after, last_of, Following, Owner_post}
+use Rattle.month_prepared.specs.declared.months.InMonth.{InMonth}
+use Rattle.month_prepared.specs.inner.Rows.{month_at, months_after, months_in, minutes_after, last_of, Following, OwnerPost}
 
 -- the minutes of one month more
 pub minutes-next : (lasts : List ℕ) (m n : ℕ) → minutes_after lasts m (n + 1) ≡ minutes_after lasts m n + get_or lasts (m + n) 0
@@ -72,7 +72,7 @@ module _ (arguments lags frequencies : List ℕ) (ps qs : List ℤ) (months : Mo
       rw (e, z) at (owner-after 0 m (months.many - (m + 1)) minute (λ (h : 0 < months.many - (m + 1)). rw z (before (omega arith))))
 
   -- some minutes on from an owned minute, before the month's last or in the last month: the same month owns them
-  pub owner-further : (minute d : ℕ) (r : In_month) → Owner_post months minute r → (r.month + 1 < months.many → r.minute + d < get_or months.lasts r.month 0)
+  pub owner-further : (minute d : ℕ) (r : InMonth) → OwnerPost months minute r → (r.month + 1 < months.many → r.minute + d < get_or months.lasts r.month 0)
       → owner_of (months_in arguments lags frequencies ps qs months) (minute + d) ≡ record { month = month_at arguments lags frequencies ps qs months r.month; minute = r.minute + d }
   owner-further minute d r own h =
       let e : minute + d ≡ minutes_after months.lasts 0 r.month + (r.minute + d) = omega (arith, own.lies) in

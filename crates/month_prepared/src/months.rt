@@ -1,6 +1,6 @@
 // Months that follow one another, from a single one to the twelve of a year, and which of them owns a minute.
 ghost use Rattle.std.specs.Prelude.{◌≤◌, get_or, ◌≡◌};
-ghost use Rattle.month_prepared.specs.inner.Rows.{Following, last_of, Owner_post};
+ghost use Rattle.month_prepared.specs.inner.Rows.{Following, last_of, OwnerPost};
 
 // The most months that follow one another: a year's.
 pub const MONTHS: usize = 12;
@@ -16,7 +16,7 @@ pub struct Months {
 
 // The month, from 0, that owns a minute, and the minute in it.
 #[derive(Drop)]
-pub struct In_month {
+pub struct InMonth {
     pub month: usize,
     pub minute: u64,
 }
@@ -33,9 +33,9 @@ pub fn one_month(count: usize, last: u64) -> Months
 }
 
 // The owner of a minute: midnight at a month's end belongs to the month that begins, the last minute of all to the last month.
-pub fn owner(months: Months, minute: u64) -> In_month
+pub fn owner(months: Months, minute: u64) -> InMonth
     requires { Following months × (minute ≤ last_of months) }
-    ensures { Owner_post months minute result }
+    ensures { OwnerPost months minute result }
 {
     let mut month: usize = 0;
     let mut left = minute;
@@ -43,7 +43,7 @@ pub fn owner(months: Months, minute: u64) -> In_month
         left = left - months.lasts[month];
         month = month + 1;
     }
-    In_month {
+    InMonth {
         month,
         minute: left,
     }

@@ -1,8 +1,8 @@
 // The latitude factors G.
 ghost use Rattle.std.specs.Prelude.{◌≡◌, ◌≤◌, ◌^◌, pos, nat_abs};
-ghost use Rattle.cosine.specs.Fixed.{Is_table};
+ghost use Rattle.cosine.specs.Fixed.{IsTable};
 ghost use Rattle.month_satellites.specs.Latitude.{latitude_size, s20, diurnal_north, semidiurnal_north, by_side, factors_at};
-ghost use Rattle.month_satellites.specs.inner.Factors.{factor_most, Is_s20, Are_factors, factors_of};
+ghost use Rattle.month_satellites.specs.inner.Factors.{factor_most, IsS20, AreFactors, factors_of};
 
 use angles::{ARC_MINUTE, floor_div};
 use cosine::{ENTRIES, wave};
@@ -39,7 +39,7 @@ fn minutes(latitude: i32) -> u64
 
 // The diurnal factor in the north, from S20.
 fn diurnal_north(s: u64) -> i64
-    requires { Is_s20 s }
+    requires { IsS20 s }
     ensures value { result ≡ diurnal_north (pos s) }
     ensures result_bound { nat_abs result ≤ factor_most }
 {
@@ -50,7 +50,7 @@ fn diurnal_north(s: u64) -> i64
 
 // The semidiurnal factor in the north, from S20.
 fn semidiurnal_north(s: u64) -> i64
-    requires { Is_s20 s }
+    requires { IsS20 s }
     ensures value { result ≡ semidiurnal_north (pos s) }
     ensures result_bound { nat_abs result ≤ factor_most }
 {
@@ -71,9 +71,9 @@ fn by_side(latitude: i32, g: i64) -> i64
 
 // S20 of a latitude.
 fn s20_of(cosines: &[u32; ENTRIES], latitude: i32) -> u64
-    requires { Is_table cosines.now }
+    requires { IsTable cosines.now }
     ensures result_value { pos result ≡ s20 latitude }
-    ensures s20 { Is_s20 result }
+    ensures s20 { IsS20 result }
 {
     let w = wave(cosines, minutes(latitude) * ARC_MINUTE);
     angles::size(floor_div(w.sine, 1_024))
@@ -81,9 +81,9 @@ fn s20_of(cosines: &[u32; ENTRIES], latitude: i32) -> u64
 
 // The diurnal and the semidiurnal factor of a latitude in signed minutes.
 pub fn latitude_factors(cosines: &[u32; ENTRIES], latitude: i32) -> Factors
-    requires { Is_table cosines.now }
+    requires { IsTable cosines.now }
     ensures result_value { factors_of result ≡ factors_at latitude }
-    ensures are_factors { Are_factors result }
+    ensures are_factors { AreFactors result }
 {
     let s = s20_of(cosines, latitude);
     let diurnal = by_side(latitude, diurnal_north(s));

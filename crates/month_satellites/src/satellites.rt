@@ -1,11 +1,11 @@
 // A main constituent's pair, from its satellites.
 ghost use Rattle.std.specs.Prelude.{◌≡◌, ◌≤◌, ◌<◌, ◌^◌, pos, nat_abs, ◌*ℤ◌};
-ghost use Rattle.cosine.specs.Fixed.{one, Is_table, fixed_cosine, fixed_sine};
+ghost use Rattle.cosine.specs.Fixed.{one, IsTable, fixed_cosine, fixed_sine};
 ghost use Rattle.table.specs.Table.{mark_of};
 ghost use Rattle.table.specs.inner.View.{listed, satellite_of};
 ghost use Rattle.month_satellites.specs.Satellites.{satellite_angle, plain_term, times_factor, marked_term, satellite_term, main_pair};
-ghost use Rattle.month_satellites.specs.inner.Factors.{factor_most, Are_factors, factors_of};
-ghost use Rattle.month_satellites.specs.inner.Ranges.{plain_most, term_most, sum_most, Are_angles, Sized};
+ghost use Rattle.month_satellites.specs.inner.Factors.{factor_most, AreFactors, factors_of};
+ghost use Rattle.month_satellites.specs.inner.Ranges.{plain_most, term_most, sum_most, AreAngles, Sized};
 ghost use Rattle.month_satellites.specs.inner.View.{longitudes_of, the_satellite, pair_of};
 
 use crate::latitude::Factors;
@@ -50,7 +50,7 @@ fn product(n: i8, angle: u64) -> i64
 
 // The angle of a satellite.
 fn angle_of(s: Satellite, l: Nodal) -> u64
-    requires { Are_angles l }
+    requires { AreAngles l }
     ensures { result ≡ satellite_angle (longitudes_of l) (the_satellite s) }
 {
     let a = product(s.first, l.perigee);
@@ -81,7 +81,7 @@ fn times_factor(term: i64, g: i64) -> i64
 // A term with the factor of its mark.
 fn marked_term(mark: u32, term: i64, g: Factors) -> i64
     requires term_bound { nat_abs term ≤ plain_most }
-    requires are_factors { Are_factors g }
+    requires are_factors { AreFactors g }
     ensures value { result ≡ marked_term (factors_of g) (mark_of mark) term }
     ensures result_bound { nat_abs result ≤ term_most }
 {
@@ -123,9 +123,9 @@ fn satellite_at<'a>(
 
 // The cosine term and the sine term of a satellite.
 fn terms_of(cosines: &[u32; ENTRIES], s: Satellite, g: Factors, l: Nodal) -> Pair
-    requires table { Is_table cosines.now }
-    requires are_factors { Are_factors g }
-    requires are_angles { Are_angles l }
+    requires table { IsTable cosines.now }
+    requires are_factors { AreFactors g }
+    requires are_angles { AreAngles l }
     ensures x_value { result.x ≡ satellite_term fixed_cosine (factors_of g) (longitudes_of l) (the_satellite s) }
     ensures y_value { result.y ≡ satellite_term fixed_sine (factors_of g) (longitudes_of l) (the_satellite s) }
     ensures sized { Sized term_most result }
@@ -146,9 +146,9 @@ pub fn main_sum<'a>(
     g: Factors,
     l: Nodal,
 ) -> Pair
-    requires table { Is_table cosines.now }
-    requires are_factors { Are_factors g }
-    requires are_angles { Are_angles l }
+    requires table { IsTable cosines.now }
+    requires are_factors { AreFactors g }
+    requires are_angles { AreAngles l }
     ensures result_value { pair_of result ≡ main_pair (factors_of g) (longitudes_of l) (listed (satellite_of angles.now ratios.now) first count) }
     ensures sized { Sized sum_most result }
 {

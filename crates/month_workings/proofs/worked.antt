@@ -1,1 +1,1 @@
-pub mod Of_rows
+pub mod OfRows

@@ -1,7 +1,7 @@
 // What stands at a place of the table, worked out from the mains that it needs: its V, and its pair or refusal 11.
-ghost use Rattle.cosine.specs.Fixed.{Is_table};
-ghost use Rattle.month_workings.specs.inner.Given.{Is_given, argument_by, corrected_by, Kept_by};
-ghost use Rattle.month_workings.specs.inner.View.{Ready, From_mains};
+ghost use Rattle.cosine.specs.Fixed.{IsTable};
+ghost use Rattle.month_workings.specs.inner.Given.{IsGiven, argument_by, corrected_by, KeptBy};
+ghost use Rattle.month_workings.specs.inner.View.{Ready, FromMains};
 
 use crate::workings::{Given, work_main, work_parts};
 use cosine::ENTRIES;
@@ -34,9 +34,9 @@ pub fn work_mains<'a>(
     given: Given,
     kept: &mut [i64; KEPT],
 )
-    requires table { Is_table cosines.now }
-    requires given { Is_given given }
-    requires kept_by { Kept_by given maincards.now mainangles.now satelliteangles.now ratios.now kept.old }
+    requires table { IsTable cosines.now }
+    requires given { IsGiven given }
+    requires kept_by { KeptBy given maincards.now mainangles.now satelliteangles.now ratios.now kept.old }
     ensures { Ready (argument_by given mainangles.now) (corrected_by given maincards.now satelliteangles.now ratios.now) shallowcards.now found kept.new }
 {
     match found {
@@ -76,7 +76,7 @@ pub fn from_mains<'a>(
     shallowcards: &'a [u16; SHALLOW_CARDS],
     coefficients: &'a [i8; COEFFICIENTS],
 ) -> Worked
-    ensures { From_mains kept.now shallowcards.now coefficients.now found result }
+    ensures { FromMains kept.now shallowcards.now coefficients.now found result }
 {
     match found {
         Found::Main(row) => Worked {

@@ -1,16 +1,16 @@
 // The mains that a month needs, each worked out once: its V, and its sums X and Y, kept in a row of three. A V of T or more stands for one that is not worked out yet.
 ghost use Rattle.std.specs.Prelude.{◌≡◌, ◌<◌};
 ghost use Rattle.angles.specs.Ticks.{turn};
-ghost use Rattle.cosine.specs.Fixed.{Is_table};
+ghost use Rattle.cosine.specs.Fixed.{IsTable};
 ghost use Rattle.month_arguments.specs.Longitudes.{nodal};
 ghost use Rattle.month_arguments.specs.inner.Longitudes.{longitudes_of, Reduced};
-ghost use Rattle.month_satellites.specs.inner.Ranges.{Are_angles};
+ghost use Rattle.month_satellites.specs.inner.Ranges.{AreAngles};
 ghost use Rattle.month_satellites.specs.inner.View as nodalView;
 ghost use Rattle.month_satellites.specs.inner.View.{pair_of};
 ghost use Rattle.month_pairs.specs.Pairs.{checked};
 ghost use Rattle.table.specs.inner.View.{naturals};
-ghost use Rattle.month_workings.specs.inner.Kept.{argument_at, none_kept, With_main, With_parts};
-ghost use Rattle.month_workings.specs.inner.Given.{Is_given, argument_by, corrected_by, Kept_by};
+ghost use Rattle.month_workings.specs.inner.Kept.{argument_at, none_kept, WithMain, WithParts};
+ghost use Rattle.month_workings.specs.inner.Given.{IsGiven, argument_by, corrected_by, KeptBy};
 
 use angles::TURN;
 use cosine::ENTRIES;
@@ -45,7 +45,7 @@ pub fn none_kept() -> [i64; KEPT]
 fn nodal_of(l: Longitudes) -> Nodal
     requires { Reduced l }
     ensures result_value { nodalView.longitudes_of result ≡ nodal (longitudes_of l) }
-    ensures are_angles { Are_angles result }
+    ensures are_angles { AreAngles result }
 {
     Nodal {
         perigee: l.perigee,
@@ -74,8 +74,8 @@ fn sum_of<'a>(
     k: usize,
     given: Given,
 ) -> Pair
-    requires table { Is_table cosines.now }
-    requires given { Is_given given }
+    requires table { IsTable cosines.now }
+    requires given { IsGiven given }
     ensures { checked (pair_of result) ≡ corrected_by given cards.now angles.now ratios.now k }
 {
     if given.mains <= k {
@@ -98,10 +98,10 @@ pub fn work_main<'a>(
     given: Given,
     kept: &mut [i64; KEPT],
 )
-    requires table { Is_table cosines.now }
-    requires given { Is_given given }
-    requires kept_by { Kept_by given cards.now angles.now satelliteangles.now ratios.now kept.old }
-    ensures { With_main (argument_by given angles.now) (corrected_by given cards.now satelliteangles.now ratios.now) k kept.old kept.new }
+    requires table { IsTable cosines.now }
+    requires given { IsGiven given }
+    requires kept_by { KeptBy given cards.now angles.now satelliteangles.now ratios.now kept.old }
+    ensures { WithMain (argument_by given angles.now) (corrected_by given cards.now satelliteangles.now ratios.now) k kept.old kept.new }
 {
     if MAINS <= k {
         return;
@@ -130,10 +130,10 @@ pub fn work_parts<'a>(
     given: Given,
     kept: &mut [i64; KEPT],
 )
-    requires table { Is_table cosines.now }
-    requires given { Is_given given }
-    requires kept_by { Kept_by given cards.now angles.now satelliteangles.now ratios.now kept.old }
-    ensures { With_parts (argument_by given angles.now) (corrected_by given cards.now satelliteangles.now ratios.now) (naturals 6 shallowcards.now row) kept.new }
+    requires table { IsTable cosines.now }
+    requires given { IsGiven given }
+    requires kept_by { KeptBy given cards.now angles.now satelliteangles.now ratios.now kept.old }
+    ensures { WithParts (argument_by given angles.now) (corrected_by given cards.now satelliteangles.now ratios.now) (naturals 6 shallowcards.now row) kept.new }
 {
     let count = index(natural_at(shallowcards, 6, row, 1));
     let mut j = 0;

@@ -2,8 +2,8 @@
 use Prim.Native.Nat.{ℕ, ◌≤◌}
 use mathlib.Core.List.{List}
 use mathlib.Core.Path.{◌≡◌, refl, sym, ◌∙◌, ap}
-use lib.Int_n.{ℤ}
-use lib.List_n.{take, set}
+use lib.IntN.{ℤ}
+use lib.ListN.{take, set}
 use lib.Seq.{take-take, take-set-le}
 use native.Mathlib.Nat.{le_refl}
 use Rattle.monthturns.specs.inner.Kept.{Kept}

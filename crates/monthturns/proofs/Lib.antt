@@ -1,4 +1,4 @@
 pub mod Kept
 pub mod Month
 pub mod Year
-pub mod Usual_widths
+pub mod UsualWidths

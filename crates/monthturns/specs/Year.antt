@@ -3,9 +3,9 @@ use Rattle.std.specs.Prelude.{ℕ, List, ℤ}
 use Rattle.calendar.specs.Calendar.{year_minutes}
 use Rattle.calls.specs.declared.annual.Sheet.{Sheet}
 use Rattle.clock.specs.declared.Clock.{Clock}
-use Rattle.clock.specs.declared.Turns_answer.{Turns_answer}
+use Rattle.clock.specs.declared.TurnsAnswer.{TurnsAnswer}
 use Rattle.clock.specs.Returned.{turns_returned}
-use Rattle.clock.specs.Posts.{Year_post}
+use Rattle.clock.specs.Posts.{YearPost}
 use Rattle.monthturns.specs.Month.{Beside, count_of}
 use Rattle.monthturns.specs.inner.Kept.{Kept}
 
@@ -14,10 +14,10 @@ abbrev pub whole_year : ℕ → ℕ → Sheet
 whole_year year step = record { year = year; start = 0; step = step; first = 0; last = year_minutes year }
 
 -- the clock's own answer over the whole year and what it writes, of which the series and the first turns are kept
-pub record Year_turns (c : Clock) (year step : ℕ) (series series_left : List ℤ) (minutes minutes_left : List ℕ) (heights heights_left : List ℤ) (answer : Turns_answer) : Type 0 where
-  pub own : Turns_answer
+pub record YearTurns (c : Clock) (year step : ℕ) (series series_left : List ℤ) (minutes minutes_left : List ℕ) (heights heights_left : List ℤ) (answer : TurnsAnswer) : Type 0 where
+  pub own : TurnsAnswer
   pub minutes_own : List ℕ
   pub heights_own : List ℤ
-  pub asked : Year_post c (whole_year year step) series series_left minutes minutes_own heights heights_own (turns_returned own)
+  pub asked : YearPost c (whole_year year step) series series_left minutes minutes_own heights heights_own (turns_returned own)
   pub beside : Beside own answer
   pub kept : Kept (count_of own) minutes_own minutes_left heights_own heights_left

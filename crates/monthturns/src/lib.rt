@@ -6,13 +6,13 @@
 ghost use Rattle.std.specs.Prelude.{◌+◌, ◌≤◌};
 ghost use Rattle.clock.specs.View.{Made};
 ghost use Rattle.monthturns.specs.inner.Kept.{Kept};
-ghost use Rattle.monthturns.specs.Month.{Month_turns, Found_turns};
+ghost use Rattle.monthturns.specs.Month.{MonthTurns, FoundTurns};
 
 mod widths; // how wide the searches at the end are
 pub mod yearturns; // the turns of a year
 
 use crate::widths::{Widths, widest_first};
-use clock::{Clock, Turns_answer};
+use clock::{Clock, TurnsAnswer};
 use limits::STRIDE;
 use page::shown::{Known, TURNS, Turns};
 use refusals::Answer;
@@ -61,10 +61,10 @@ fn last_of<'a>(count: usize, first: bool, minutes: &'a [u32], heights: &'a [i64]
 }
 
 // The last turn of a search; none where it is refused.
-fn last_found<'a>(answer: Turns_answer, minutes: &'a [u32], heights: &'a [i64]) -> Turn {
+fn last_found<'a>(answer: TurnsAnswer, minutes: &'a [u32], heights: &'a [i64]) -> Turn {
     match answer {
-        Turns_answer::Turns(count, first) => last_of(count, first, minutes, heights),
-        Turns_answer::Refused(_, _) => no_turn(),
+        TurnsAnswer::Turns(count, first) => last_of(count, first, minutes, heights),
+        TurnsAnswer::Refused(_, _) => no_turn(),
     }
 }
 
@@ -180,34 +180,34 @@ fn month_turns(
     widths: Widths,
     minutes: &mut [u32],
     heights: &mut [i64],
-) -> Turns_answer
+) -> TurnsAnswer
     requires { Made clock }
-    ensures { Month_turns clock last minutes.old minutes.new heights.old heights.new result }
+    ensures { MonthTurns clock last minutes.old minutes.new heights.old heights.new result }
 {
     let answer = clock::turns(clock, 0, last, minutes, heights);
     match answer {
-        Turns_answer::Turns(count, first) => {
+        TurnsAnswer::Turns(count, first) => {
             let far = turn_at_end(clock, last, widths.far);
             let near = turn_at_end(clock, last, widths.near);
             let end = turn_at_end(clock, last, widths.end);
             let known = with_ends(count, first, far, near, end, minutes, heights);
-            Turns_answer::Turns(known.count, known.first)
+            TurnsAnswer::Turns(known.count, known.first)
         }
-        Turns_answer::Refused(refusal, place) => Turns_answer::Refused(refusal, place),
+        TurnsAnswer::Refused(refusal, place) => TurnsAnswer::Refused(refusal, place),
     }
 }
 
 // The turns of the month that a clock has prepared, whose last minute is given, at a station with these strides, or the clock's refusal.
 pub fn turns_of(clock: Clock, last: u32, strides: Strides) -> Found
     requires { Made clock }
-    ensures { Found_turns clock last result }
+    ensures { FoundTurns clock last result }
 {
     let widths = widest_first(strides);
     let mut minutes = [0u32; TURNS];
     let mut heights = [0i64; TURNS];
     let answer = month_turns(clock, last, widths, &mut minutes, &mut heights);
     match answer {
-        Turns_answer::Turns(count, first) => Found {
+        TurnsAnswer::Turns(count, first) => Found {
             answer: Answer::Accepted,
             turns: Turns {
                 count,
@@ -216,7 +216,7 @@ pub fn turns_of(clock: Clock, last: u32, strides: Strides) -> Found
                 heights,
             },
         },
-        Turns_answer::Refused(refusal, place) => Found {
+        TurnsAnswer::Refused(refusal, place) => Found {
             answer: Answer::Refused(refusal, place),
             turns: Turns {
                 count: 0,

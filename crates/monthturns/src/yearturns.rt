@@ -2,12 +2,12 @@
 //
 // As in a month, the search leaves out a turn behind its last whole stride, and searches over the year's last minutes find it.
 ghost use Rattle.clock.specs.View.{Made};
-ghost use Rattle.monthturns.specs.Year.{Year_turns};
+ghost use Rattle.monthturns.specs.Year.{YearTurns};
 
 use crate::widths::widest_first;
 use crate::{ENDS, Turn, end_from, last_found, with_ends};
 use calls::annual::Sheet;
-use clock::{Clock, Turns_answer};
+use clock::{Clock, TurnsAnswer};
 use station::strides::Strides;
 
 // The last turn of a search over the year's last minutes, as many as a width.
@@ -38,9 +38,9 @@ pub fn turns_of(
     series: &mut [i64],
     minutes: &mut [u32],
     heights: &mut [i64],
-) -> Turns_answer
+) -> TurnsAnswer
     requires { Made clock }
-    ensures { Year_turns clock year step series.old series.new minutes.old minutes.new heights.old heights.new result }
+    ensures { YearTurns clock year step series.old series.new minutes.old minutes.new heights.old heights.new result }
 {
     let widths = widest_first(strides);
     let last = calendar::year_minutes(year) as u32;
@@ -53,13 +53,13 @@ pub fn turns_of(
     };
     let answer = clock::year(clock, sheet, series, minutes, heights);
     match answer {
-        Turns_answer::Turns(count, first) => {
+        TurnsAnswer::Turns(count, first) => {
             let far = turn_at_end(clock, year, last, widths.far);
             let near = turn_at_end(clock, year, last, widths.near);
             let end = turn_at_end(clock, year, last, widths.end);
             let known = with_ends(count, first, far, near, end, minutes, heights);
-            Turns_answer::Turns(known.count, known.first)
+            TurnsAnswer::Turns(known.count, known.first)
         }
-        Turns_answer::Refused(refusal, place) => Turns_answer::Refused(refusal, place),
+        TurnsAnswer::Refused(refusal, place) => TurnsAnswer::Refused(refusal, place),
     }
 }

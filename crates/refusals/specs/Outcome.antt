@@ -3,9 +3,9 @@
 use Prim.{Unit}
 use Rattle.std.specs.Prelude.{ℕ, Bool, true, false}
 use Rattle.refusals.specs.declared.Refusal.{Refusal}
-use Rattle.refusals.specs.declared.Refusal.The_variants.{Bad_line, Malformed, Out_of_range, Bad_name, Missing, Too_many, Ended, Bad_date, Bad_minutes, Too_many_turns, Too_large, No_table, No_station, No_month, Unequal_buffers, Bad_station_number, Bad_height, Short_buffer, Bad_stride}
+use Rattle.refusals.specs.declared.Refusal.TheVariants.{BadLine, Malformed, OutOfRange, BadName, Missing, TooMany, Ended, BadDate, BadMinutes, TooManyTurns, TooLarge, NoTable, NoStation, NoMonth, UnequalBuffers, BadStationNumber, BadHeight, ShortBuffer, BadStride}
 use Rattle.refusals.specs.declared.Answer.{Answer}
-use Rattle.refusals.specs.declared.Answer.The_variants.{Accepted, Refused}
+use Rattle.refusals.specs.declared.Answer.TheVariants.{Accepted, Refused}
 
 -- what a call or a check gives where it is accepted (`Unit`: nothing but that it is); "A refusal returns its number and a place: card line, or
 -- station record (also for 11), from 1; else 0."
@@ -15,25 +15,25 @@ pub data Outcome (A : Type 0) : Type 0 where
 
 -- the number of each row of the two tables; "a new number joins 01's table" (02, No. 3, 4 and 6)
 abbrev pub number_of : Refusal → ℕ
-number_of Bad_line = 1
+number_of BadLine = 1
 number_of Malformed = 2
-number_of Out_of_range = 3
-number_of Bad_name = 4
+number_of OutOfRange = 3
+number_of BadName = 4
 number_of Missing = 5
-number_of Too_many = 6
+number_of TooMany = 6
 number_of Ended = 7
-number_of Bad_date = 8
-number_of Bad_minutes = 9
-number_of Too_many_turns = 10
-number_of Too_large = 11
-number_of No_table = 21
-number_of No_station = 22
-number_of No_month = 23
-number_of Unequal_buffers = 31
-number_of Bad_station_number = 32
-number_of Bad_height = 33
-number_of Short_buffer = 34
-number_of Bad_stride = 35
+number_of BadDate = 8
+number_of BadMinutes = 9
+number_of TooManyTurns = 10
+number_of TooLarge = 11
+number_of NoTable = 21
+number_of NoStation = 22
+number_of NoMonth = 23
+number_of UnequalBuffers = 31
+number_of BadStationNumber = 32
+number_of BadHeight = 33
+number_of ShortBuffer = 34
+number_of BadStride = 35
 
 -- what an answer of the code says in 01's numbers
 abbrev pub outcome_of : Answer → Outcome Unit

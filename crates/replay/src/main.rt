@@ -8,8 +8,8 @@ ghost use Rattle.refusals.specs.Outcome.{on_accepted};
 ghost use Rattle.transcript.specs.inner.Posts.{Lent};
 
 use calls::annual::Sheet;
-use clock::{After, Clock, Height_answer, Turns_answer};
-use hourly::{Cards_answer, LONGEST};
+use clock::{After, Clock, HeightAnswer, TurnsAnswer};
+use hourly::{CardsAnswer, LONGEST};
 use script::YearLine;
 use station::records::Rows;
 use station::strides::Strides;
@@ -68,10 +68,10 @@ fn put_after(after: After, page: &mut [u8], at: usize) -> Step
 }
 
 // A height, or its refusal.
-fn put_height(page: &mut [u8], at: usize, answer: Height_answer) -> usize {
+fn put_height(page: &mut [u8], at: usize, answer: HeightAnswer) -> usize {
     match answer {
-        Height_answer::Height(height) => answers::put_height(page, at, height),
-        Height_answer::Refused(refusal, place) => answers::put_refused(page, at, refusal, place),
+        HeightAnswer::Height(height) => answers::put_height(page, at, height),
+        HeightAnswer::Refused(refusal, place) => answers::put_refused(page, at, refusal, place),
     }
 }
 
@@ -79,15 +79,15 @@ fn put_height(page: &mut [u8], at: usize, answer: Height_answer) -> usize {
 fn put_turns<'a>(
     page: &mut [u8],
     at: usize,
-    answer: Turns_answer,
+    answer: TurnsAnswer,
     minutes: &'a [u32],
     heights: &'a [i64],
 ) -> usize {
     match answer {
-        Turns_answer::Turns(count, high) => {
+        TurnsAnswer::Turns(count, high) => {
             answers::put_turns(page, at, count, high, minutes, heights)
         }
-        Turns_answer::Refused(refusal, place) => answers::put_refused(page, at, refusal, place),
+        TurnsAnswer::Refused(refusal, place) => answers::put_refused(page, at, refusal, place),
     }
 }
 
@@ -195,17 +195,17 @@ fn sheet_of(line: YearLine) -> Sheet {
 fn put_sheet<'a>(
     page: &mut [u8],
     at: usize,
-    answer: Turns_answer,
+    answer: TurnsAnswer,
     series: &'a [i64],
     minutes: &'a [u32],
     heights: &'a [i64],
 ) -> usize {
     match answer {
-        Turns_answer::Turns(count, high) => {
+        TurnsAnswer::Turns(count, high) => {
             let next = answers::put_year(page, at, series);
             answers::put_turns(page, next, count, high, minutes, heights)
         }
-        Turns_answer::Refused(refusal, place) => answers::put_refused(page, at, refusal, place),
+        TurnsAnswer::Refused(refusal, place) => answers::put_refused(page, at, refusal, place),
     }
 }
 
@@ -253,12 +253,12 @@ fn year_call(
 }
 
 // The hourly cards in the lent bytes, or the refusal.
-fn put_cards(page: &mut [u8], at: usize, answer: Cards_answer, cards: &[u8]) -> usize
+fn put_cards(page: &mut [u8], at: usize, answer: CardsAnswer, cards: &[u8]) -> usize
     requires { on_accepted (cards_returned answer) (λ count. count) 0 ≤ length cards.now }
 {
     match answer {
-        Cards_answer::Bytes(count) => answers::put_hourly(page, at, &cards[..count]),
-        Cards_answer::Refused(refusal, place) => answers::put_refused(page, at, refusal, place),
+        CardsAnswer::Bytes(count) => answers::put_hourly(page, at, &cards[..count]),
+        CardsAnswer::Refused(refusal, place) => answers::put_refused(page, at, refusal, place),
     }
 }
 

@@ -7,11 +7,11 @@ use Prim.Native.Nat.{ℕ, zero, suc, ◌+◌, ◌^◌, ◌≤◌, ◌<◌}
 use native.Mathlib.Nat.{not-suc-le-zero, le_of_suc-le-suc, suc-add}
 use lib.Dec.{T, eqb}
 use borrow.Author.Tests.{eqb-true}
-use lib.List_n.{length, get_or}
-use lib.Int_n.{ℤ, pos, neg_ℤ, ◌-ℤ◌, +ℤ_idl}
+use lib.ListN.{length, get_or}
+use lib.IntN.{ℤ, pos, neg_ℤ, ◌-ℤ◌, +ℤ_idl}
 use mir.Syntax.{w32, w64}
 use mir.Val.{SFits, to_z, of_z}
-use mir.Val_laws.{to_z_pos, to_z-of_z}
+use mir.ValLaws.{to_z_pos, to_z-of_z}
 use native.Mathlib.Omega.{arith}
 use Rattle.columns.specs.Lines.{in_front}
 use Rattle.script.specs.Words.{words}

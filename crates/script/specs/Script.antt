@@ -4,10 +4,10 @@ use Rattle.columns.specs.Names.{same}
 use Rattle.station.specs.Strides.{usual_strides}
 use Rattle.script.specs.Words.{words, largest, reading, onward, last_number, given, last_two, given_two}
 use Rattle.script.specs.declared.Call.{Call}
-use Rattle.script.specs.declared.Call.The_variants.{Cards, Station, Date, Height, Series, Turns, Year, Bookings, Hourly, Bad}
+use Rattle.script.specs.declared.Call.TheVariants.{Cards, Station, Date, Height, Series, Turns, Year, Bookings, Hourly, Bad}
 use Rattle.script.specs.declared.Number.{Number}
 use Rattle.script.specs.declared.Entry.{Entry}
-use Rattle.script.specs.declared.Entry.The_variants.{Record, Bad as No_record}
+use Rattle.script.specs.declared.Entry.TheVariants.{Record, Bad as NoRecord}
 
 -- ---- the calls, from the words behind the first
 
@@ -148,9 +148,9 @@ call_of line = call_of_words (words line)
 -- "COUNT lines: PLACE AMPLITUDE PHASE", "PLACE one byte"
 unfoldable pub record_of_words : List (List ℕ) → Entry
 record_of_words ws =
-    onward No_record (reading 255 ws) (λ place ws.
-    onward No_record (reading largest ws) (λ amplitude ws.
-    given No_record (last_number ws) (λ phase. Record place amplitude phase)))
+    onward NoRecord (reading 255 ws) (λ place ws.
+    onward NoRecord (reading largest ws) (λ amplitude ws.
+    given NoRecord (last_number ws) (λ phase. Record place amplitude phase)))
 
 abbrev pub record_of : List ℕ → Entry
 record_of line = record_of_words (words line)

@@ -2,9 +2,9 @@
 use Rattle.std.specs.Prelude.{ℕ, ◌+◌, ◌*◌, ◌-◌, List, [], ◌∷◌, Bool, cond, ◌&&◌, leb, eqb}
 use Rattle.columns.specs.Lines.{in_front}
 use Rattle.script.specs.declared.Number.{Number}
-use Rattle.script.specs.declared.Number.The_variants.{Value, No_number}
+use Rattle.script.specs.declared.Number.TheVariants.{Value, NoNumber}
 use Rattle.script.specs.declared.words.Two.{Two}
-use Rattle.script.specs.declared.words.Two.The_variants.{Numbers, No_numbers}
+use Rattle.script.specs.declared.words.Two.TheVariants.{Numbers, NoNumbers}
 
 -- ---- words
 
@@ -30,11 +30,11 @@ with_digit n b = 10 * n + (b - 48)
 -- the number of some digits behind those of n, where it is at most `most`
 unfoldable pub number_after : ℕ → ℕ → List ℕ → Number
 number_after most n [] = Value n
-number_after most n (b ∷ bs) = cond (is_digit b) (cond (leb (with_digit n b) most) (number_after most (with_digit n b) bs) No_number) No_number
+number_after most n (b ∷ bs) = cond (is_digit b) (cond (leb (with_digit n b) most) (number_after most (with_digit n b) bs) NoNumber) NoNumber
 
 -- a decimal number of at most `most`: one digit or more
 unfoldable pub number : ℕ → List ℕ → Number
-number most [] = No_number
+number most [] = NoNumber
 number most (b ∷ bs) = number_after most 0 (b ∷ bs)
 
 -- the number that some words begin with, and the words behind it
@@ -44,7 +44,7 @@ pub data Reading : Type 0 where
 
 abbrev pub reading_of : Number → List (List ℕ) → Reading
 reading_of (Value n) ws = read n ws
-reading_of No_number ws = unread
+reading_of NoNumber ws = unread
 
 abbrev pub reading : ℕ → List (List ℕ) → Reading
 reading most [] = unread
@@ -58,21 +58,21 @@ onward bad unread f = bad
 -- a last number, with no word behind it
 abbrev pub ended : List (List ℕ) → ℕ → Number
 ended [] n = Value n
-ended (w ∷ ws) n = No_number
+ended (w ∷ ws) n = NoNumber
 
 unfoldable pub last_number : List (List ℕ) → Number
-last_number ws = onward No_number (reading largest ws) (λ n ws. ended ws n)
+last_number ws = onward NoNumber (reading largest ws) (λ n ws. ended ws n)
 
 -- goes on with the last number
 abbrev pub given : {A : Type 0} → A → Number → (ℕ → A) → A
 given bad (Value n) f = f n
-given bad No_number f = bad
+given bad NoNumber f = bad
 
 -- the last two numbers, with no word behind them
 unfoldable pub last_two : List (List ℕ) → Two
-last_two ws = onward No_numbers (reading largest ws) (λ first ws. given No_numbers (last_number ws) (λ second. Numbers first second))
+last_two ws = onward NoNumbers (reading largest ws) (λ first ws. given NoNumbers (last_number ws) (λ second. Numbers first second))
 
 -- goes on with the last two numbers
 abbrev pub given_two : {A : Type 0} → A → Two → (ℕ → ℕ → A) → A
 given_two bad (Numbers first second) f = f first second
-given_two bad No_numbers f = bad
+given_two bad NoNumbers f = bad

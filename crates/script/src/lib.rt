@@ -42,7 +42,7 @@ pub enum Call {
 #[derive(Drop)]
 pub enum Number {
     Value(u32),
-    No_number,
+    NoNumber,
 }
 
 // A line of a station.

@@ -9,14 +9,14 @@ use crate::Number;
 #[derive(Drop)]
 pub enum Field {
     Read(u32, usize),
-    No_field,
+    NoField,
 }
 
 // Two words that are numbers, or are not.
 #[derive(Drop)]
 pub enum Two {
     Numbers(u32, u32),
-    No_numbers,
+    NoNumbers,
 }
 
 // The largest number of 32 bits.
@@ -36,21 +36,21 @@ fn number_of(word: &[u8], most: u32) -> Number
     ensures { result ≡ number most word.now }
 {
     if word.len() == 0 {
-        return Number::No_number;
+        return Number::NoNumber;
     }
     let mut value: u64 = 0;
     let mut i = 0;
     while i < word.len() {
         let byte = word[i];
         if byte < 48 {
-            return Number::No_number;
+            return Number::NoNumber;
         }
         if 57 < byte {
-            return Number::No_number;
+            return Number::NoNumber;
         }
         let next = 10 * value + digit(byte);
         if (most as u64) < next {
-            return Number::No_number;
+            return Number::NoNumber;
         }
         value = next;
         i += 1;
@@ -79,13 +79,13 @@ pub fn field_at(line: &[u8], at: usize, most: u32) -> Field
     ensures { reading_at line.now result ≡ reading most (words_from line.now at) }
 {
     if line.len() < at {
-        return Field::No_field;
+        return Field::NoField;
     }
     let end = word_end(line, at);
     let number = number_of(&line[at..end], most);
     match number {
         Number::Value(value) => Field::Read(value, end + 1),
-        Number::No_number => Field::No_field,
+        Number::NoNumber => Field::NoField,
     }
 }
 
@@ -95,10 +95,10 @@ pub fn last_at(line: &[u8], at: usize) -> Number
 {
     let field = field_at(line, at, LARGEST);
     let Field::Read(value, next) = field else {
-        return Number::No_number;
+        return Number::NoNumber;
     };
     if next <= line.len() {
-        return Number::No_number;
+        return Number::NoNumber;
     }
     Number::Value(value)
 }
@@ -109,11 +109,11 @@ pub fn two_at(line: &[u8], at: usize) -> Two
 {
     let field = field_at(line, at, LARGEST);
     let Field::Read(first, next) = field else {
-        return Two::No_numbers;
+        return Two::NoNumbers;
     };
     let last = last_at(line, next);
     let Number::Value(second) = last else {
-        return Two::No_numbers;
+        return Two::NoNumbers;
     };
     Two::Numbers(first, second)
 }

@@ -5,8 +5,8 @@ use Prim.Native.Nat.{ℕ, zero, suc, ◌+◌, ◌≤◌, ◌<◌, min}
 use mathlib.Core.List.{List}
 use native.Mathlib.Numerals.{add-one}
 use native.Mathlib.Omega.{arith}
-use lib.List_n.{get_or, set, replicate}
-use lib.Int_n.{ℤ}
+use lib.ListN.{get_or, set, replicate}
+use lib.IntN.{ℤ}
 use Rattle.limits.specs.Limits.{most_records}
 use Rattle.station.specs.declared.records.Rows.{Rows}
 use Rattle.station.specs.declared.strides.Strides.{Strides}

@@ -5,7 +5,7 @@ ghost use Rattle.refusals.specs.Outcome.{outcome_of};
 ghost use Rattle.station.specs.Station.{amplitude_outside, record_outcome, station_lent};
 ghost use Rattle.refusals.specs.Places.{is_among};
 ghost use Rattle.station.specs.inner.Station.{places_before, no_station, put_record};
-ghost use Rattle.station.specs.inner.Posts.{Records_post, Station_post};
+ghost use Rattle.station.specs.inner.Posts.{RecordsPost, StationPost};
 ghost use Rattle.station.specs.Records.{record_at, records_of};
 
 pub mod records; // the lent row of records, taken apart
@@ -81,13 +81,13 @@ fn record_answer(frequencies: usize, rows: Rows, k: usize) -> Answer
         return Answer::Refused(Refusal::Missing, k + 1);
     }
     if is_repeated(&rows.places, k, place) {
-        return Answer::Refused(Refusal::Bad_name, k + 1);
+        return Answer::Refused(Refusal::BadName, k + 1);
     }
     if amplitude_outside(rows.amplitudes[k]) {
-        return Answer::Refused(Refusal::Out_of_range, k + 1);
+        return Answer::Refused(Refusal::OutOfRange, k + 1);
     }
     if PHASE < rows.phases[k] {
-        return Answer::Refused(Refusal::Out_of_range, k + 1);
+        return Answer::Refused(Refusal::OutOfRange, k + 1);
     }
     Answer::Accepted
 }
@@ -115,7 +115,7 @@ fn narrow(x: u32) -> u16
 // The first n records: each is checked in its turn, and added to the station, which starts with none.
 fn take_records(frequencies: usize, empty: Station, n: usize, rows: Rows) -> Taken
     requires { n ≤ most_records }
-    ensures { Records_post frequencies empty n rows result }
+    ensures { RecordsPost frequencies empty n rows result }
 {
     let mut station = empty;
     let mut k = 0;
@@ -153,30 +153,30 @@ pub fn take_station(
     n: usize,
     rows: Rows,
 ) -> Taken
-    ensures { Station_post frequencies (station_lent latitude strides (records_of rows n)) result }
+    ensures { StationPost frequencies (station_lent latitude strides (records_of rows n)) result }
 {
     let station = no_station(latitude, strides);
     if latitude < SOUTHMOST {
         return Taken {
-            answer: Answer::Refused(Refusal::Out_of_range, 0),
+            answer: Answer::Refused(Refusal::OutOfRange, 0),
             station,
         };
     }
     if LATITUDE < latitude {
         return Taken {
-            answer: Answer::Refused(Refusal::Out_of_range, 0),
+            answer: Answer::Refused(Refusal::OutOfRange, 0),
             station,
         };
     }
     if strides::strides_outside(strides) {
         return Taken {
-            answer: Answer::Refused(Refusal::Bad_stride, 0),
+            answer: Answer::Refused(Refusal::BadStride, 0),
             station,
         };
     }
     if RECORDS < n {
         return Taken {
-            answer: Answer::Refused(Refusal::Too_many, FIRST_TOO_MANY),
+            answer: Answer::Refused(Refusal::TooMany, FIRST_TOO_MANY),
             station,
         };
     }

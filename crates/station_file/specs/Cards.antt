@@ -8,8 +8,8 @@ use Rattle.columns.specs.Columns.{column, columns}
 use Rattle.columns.specs.Names.{place_of}
 use Rattle.fields.specs.Number.{signed}
 use Rattle.refusals.specs.Checked.{good, bad, ◌>>=◌}
-use Rattle.card.specs.declared.faults.What.The_variants.{Mark}
-use Rattle.card.specs.declared.faults.Trouble.The_variants.{Bad_mark, South_twice, Too_many_records}
+use Rattle.card.specs.declared.faults.What.TheVariants.{Mark}
+use Rattle.card.specs.declared.faults.Trouble.TheVariants.{BadMark, SouthTwice, TooManyRecords}
 use Rattle.card.specs.Faults.{only}
 use Rattle.card.specs.Card.{Card, number, place_found, Next, next_card, due_card}
 use Rattle.station.specs.declared.records.Record.{Record}
@@ -38,7 +38,7 @@ south_mark first second = south_letter first || south_letter second
 
 -- south by a minus or by an S; "refused by 3 [..] is an S beside a minus"
 abbrev pub side_of : Bool → Bool → Card Bool
-side_of true true = bad (only Mark South_twice)
+side_of true true = bad (only Mark SouthTwice)
 side_of true false = good true
 side_of false mark = good mark
 
@@ -47,7 +47,7 @@ unfoldable pub is_south : List ℕ → Card Bool
 is_south line =
     cond (mark_good (column line latitude_mark_column) (column line second_mark_column))
     (side_of (minus_before line) (south_mark (column line latitude_mark_column) (column line second_mark_column)))
-    (bad (only Mark Bad_mark))
+    (bad (only Mark BadMark))
 
 -- "LAD, LAM = station latitude in degrees and minutes", together in minutes
 abbrev pub in_minutes : ℕ → ℕ → ℕ
@@ -75,4 +75,4 @@ record_fields names line = do
 
 -- the next constituent card, after so many; "at most 146 constituents": a card past 146 is 6 before its fields
 unfoldable pub next_record : List (List ℕ) → ℕ → List ℕ → Next Record
-next_record names before line = next_card most_records Too_many_records before line (record_fields names line)
+next_record names before line = next_card most_records TooManyRecords before line (record_fields names line)

@@ -2,9 +2,9 @@
 -- Cards are read by these descriptions alone: the station number, the longitude, skipped columns and columns past the format are ignored.
 -- Assumes nothing.
 use Rattle.std.specs.Prelude.{ℕ}
-use Rattle.fields.specs.declared.Format.The_variants.{Whole, Fixed}
-use Rattle.card.specs.declared.faults.What.The_variants.{Degrees, Minutes, Amplitude, Phase_lag}
-use Rattle.card.specs.declared.formats.Number_field.{Number_field}
+use Rattle.fields.specs.declared.Format.TheVariants.{Whole, Fixed}
+use Rattle.card.specs.declared.faults.What.TheVariants.{Degrees, Minutes, Amplitude, PhaseLag}
+use Rattle.card.specs.declared.formats.NumberField.{NumberField}
 use Rattle.card.specs.Formats.{up_to, within}
 
 -- (iv) "One card with the tidal station information [..] (5X, I4, 1X, 3A6, A4, A3, 1X, I2, 1X, I2, 2X, I3, 1X, I2)": number, name, time zone,
@@ -26,11 +26,11 @@ zone_width = 3
 abbrev pub degrees_column : ℕ
 degrees_column = 36
 
-abbrev pub degrees_field : Number_field
+abbrev pub degrees_field : NumberField
 degrees_field = within 99 Degrees 0 degrees_column 2 Whole
 
 -- the latitude's minutes, I2: 0 to 59
-abbrev pub minutes_field : Number_field
+abbrev pub minutes_field : NumberField
 minutes_field = up_to 59 Minutes 0 39 2 Whole
 
 -- The manual's latitudes are north. South is marked in skipped columns or in the degrees: the column before these, and the two behind the minutes
@@ -53,9 +53,9 @@ abbrev pub most_carried : ℕ
 most_carried = 4_294_967_295
 
 -- metres with four decimals are tenths of a millimetre
-abbrev pub amplitude_field : Number_field
+abbrev pub amplitude_field : NumberField
 amplitude_field = up_to most_carried Amplitude 0 38 8 (Fixed 4)
 
 -- degrees with two decimals are hundredths
-abbrev pub phase_field : Number_field
-phase_field = up_to most_carried Phase_lag 0 46 7 (Fixed 2)
+abbrev pub phase_field : NumberField
+phase_field = up_to most_carried PhaseLag 0 46 7 (Fixed 2)

@@ -3,7 +3,7 @@ ghost use Rattle.std.specs.Prelude.{◌≡◌};
 ghost use Rattle.station_file.specs.Formats.{degrees_field, minutes_field, amplitude_field, phase_field};
 
 use card::faults::What;
-use card::formats::Number_field;
+use card::formats::NumberField;
 use fields::Format;
 
 // The station card: the column before the degrees, their first, and the two behind the minutes.
@@ -16,10 +16,10 @@ pub const MARK: usize = 41;
 pub const SECOND_MARK: usize = 42;
 
 // The latitude's degrees.
-pub fn degrees() -> Number_field
+pub fn degrees() -> NumberField
     ensures { result ≡ degrees_field }
 {
-    Number_field {
+    NumberField {
         what: What::Degrees,
         which: 0,
         from: DEGREES,
@@ -31,10 +31,10 @@ pub fn degrees() -> Number_field
 }
 
 // Its minutes.
-pub fn minutes() -> Number_field
+pub fn minutes() -> NumberField
     ensures { result ≡ minutes_field }
 {
-    Number_field {
+    NumberField {
         what: What::Minutes,
         which: 0,
         from: 39,
@@ -52,10 +52,10 @@ pub const CONSTITUENT_NAME: usize = 5;
 const CARRIED: i64 = 4_294_967_295;
 
 // Its amplitude.
-pub fn amplitude() -> Number_field
+pub fn amplitude() -> NumberField
     ensures { result ≡ amplitude_field }
 {
-    Number_field {
+    NumberField {
         what: What::Amplitude,
         which: 0,
         from: 38,
@@ -67,11 +67,11 @@ pub fn amplitude() -> Number_field
 }
 
 // Its phase lag.
-pub fn phase_lag() -> Number_field
+pub fn phase_lag() -> NumberField
     ensures { result ≡ phase_field }
 {
-    Number_field {
-        what: What::Phase_lag,
+    NumberField {
+        what: What::PhaseLag,
         which: 0,
         from: 46,
         width: 7,

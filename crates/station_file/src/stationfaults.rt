@@ -15,15 +15,15 @@ fn record_fault(refusal: Refusal, amplitude: u32) -> Fault
 {
     let number = number_of(refusal);
     if number == number_of(Refusal::Missing) {
-        return faults::only(What::Name, Trouble::No_frequency);
+        return faults::only(What::Name, Trouble::NoFrequency);
     }
-    if number == number_of(Refusal::Bad_name) {
+    if number == number_of(Refusal::BadName) {
         return faults::only(What::Name, Trouble::Twice);
     }
     if station::amplitude_outside(amplitude) {
-        return faults::only(What::Amplitude, Trouble::Out_of_range);
+        return faults::only(What::Amplitude, Trouble::OutOfRange);
     }
-    faults::only(What::Phase_lag, Trouble::Out_of_range)
+    faults::only(What::PhaseLag, Trouble::OutOfRange)
 }
 
 // By the refusal and its place: 0 is the latitude, a place past the last record is one record too many.
@@ -31,10 +31,10 @@ pub fn station_fault(refusal: Refusal, place: usize, rows: Rows) -> Fault
     ensures { result ≡ station_fault (number_of refusal) place rows }
 {
     if place == 0 {
-        return faults::only(What::Latitude, Trouble::Out_of_range);
+        return faults::only(What::Latitude, Trouble::OutOfRange);
     }
     if RECORDS < place {
-        return faults::only(What::Card, Trouble::Too_many_records);
+        return faults::only(What::Card, Trouble::TooManyRecords);
     }
     record_fault(refusal, rows.amplitudes[place - 1])
 }

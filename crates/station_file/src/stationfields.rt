@@ -31,7 +31,7 @@ pub enum Latitude {
 
 // What the next constituent card comes to: the end, a record's place, amplitude and phase lag, or what is wrong with it.
 #[derive(Drop)]
-pub enum Record_step {
+pub enum RecordStep {
     Ends,
     Gives(u8, u32, u32),
     Fails(Fault),
@@ -116,7 +116,7 @@ fn side_of(minus: bool, letter: bool) -> Side
 {
     if minus {
         if letter {
-            return Side::Bad(faults::only(What::Mark, Trouble::South_twice));
+            return Side::Bad(faults::only(What::Mark, Trouble::SouthTwice));
         }
         return Side::South(true);
     }
@@ -132,7 +132,7 @@ fn side_on(line: &[u8]) -> Side
     if is_mark(first, second) {
         return side_of(is_minus_before(line), has_south_letter(first, second));
     }
-    Side::Bad(faults::only(What::Mark, Trouble::Bad_mark))
+    Side::Bad(faults::only(What::Mark, Trouble::BadMark))
 }
 
 // The size of the degrees.
@@ -182,7 +182,7 @@ pub fn station_card(line: &[u8]) -> Latitude
 }
 
 // The record on a constituent card: name, amplitude, phase lag.
-fn record_fields(line: &[u8], names: &[u8], frequencies: usize) -> Record_step
+fn record_fields(line: &[u8], names: &[u8], frequencies: usize) -> RecordStep
     requires { frequencies ≤ most_frequencies }
     ensures { record_gives result ≡ opened read_fields (record_fields (names_from names.now 0 frequencies) line.now) }
 {
@@ -191,14 +191,14 @@ fn record_fields(line: &[u8], names: &[u8], frequencies: usize) -> Record_step
         names::Found::At(place) => match natural_field(line, formats::amplitude()) {
             Natural::Value(amplitude) => match natural_field(line, formats::phase_lag()) {
                 Natural::Value(phase) => {
-                    Record_step::Gives(place as u8, amplitude as u32, phase as u32)
+                    RecordStep::Gives(place as u8, amplitude as u32, phase as u32)
                 }
-                Natural::Bad(fault) => Record_step::Fails(fault),
+                Natural::Bad(fault) => RecordStep::Fails(fault),
             },
-            Natural::Bad(fault) => Record_step::Fails(fault),
+            Natural::Bad(fault) => RecordStep::Fails(fault),
         },
         names::Found::Nothing => {
-            Record_step::Fails(faults::only(What::Name, Trouble::No_frequency))
+            RecordStep::Fails(faults::only(What::Name, Trouble::NoFrequency))
         }
     }
 }
@@ -211,12 +211,12 @@ fn at_most(n: usize) -> usize
 }
 
 // The next constituent card, after `count` of them. The names are rows of five bytes, one for each frequency of the card file.
-pub fn record_card(line: &[u8], names: &[u8], frequencies: usize, count: usize) -> Record_step
+pub fn record_card(line: &[u8], names: &[u8], frequencies: usize, count: usize) -> RecordStep
     ensures { record_gives result ≡ next_record (names_from names.now 0 (min frequencies most_frequencies)) count line.now }
 {
-    match begins(line, count, RECORDS, Trouble::Too_many_records) {
-        Opening::Ends => Record_step::Ends,
+    match begins(line, count, RECORDS, Trouble::TooManyRecords) {
+        Opening::Ends => RecordStep::Ends,
         Opening::Fields => record_fields(line, names, at_most(frequencies)),
-        Opening::Fails(fault) => Record_step::Fails(fault),
+        Opening::Fails(fault) => RecordStep::Fails(fault),
     }
 }

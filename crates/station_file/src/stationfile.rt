@@ -8,7 +8,7 @@ ghost use Rattle.station_file.specs.Station as spec;
 ghost use Rattle.station_file.specs.Station.{records_on, station_file};
 ghost use Rattle.station_file.specs.inner.File.{Told};
 
-use crate::stationfields::{Latitude, Record_step, record_card, station_card};
+use crate::stationfields::{Latitude, RecordStep, record_card, station_card};
 use card::faults;
 use card::faults::{Fault, Trouble, What};
 use card::lines::{line_at, next_line};
@@ -18,7 +18,7 @@ use station::records::{Rows, no_rows, put};
 // What a station file comes to: its latitude in minutes, and its records in the clock's order; a refused one has what is wrong with it, latitude 0
 // and no records.
 #[derive(Drop)]
-pub struct Station_cards {
+pub struct StationCards {
     pub answer: Answer,
     pub fault: Fault,
     pub latitude: i32,
@@ -27,11 +27,11 @@ pub struct Station_cards {
 }
 
 // A file that is refused at a line.
-fn refused(fault: Fault, line: usize) -> Station_cards
+fn refused(fault: Fault, line: usize) -> StationCards
     ensures { Told (spec.refused fault line) result }
 {
     let trouble = fault.trouble;
-    Station_cards {
+    StationCards {
         answer: Answer::Refused(faults::refusal_for(trouble), line),
         fault,
         latitude: 0,
@@ -41,13 +41,13 @@ fn refused(fault: Fault, line: usize) -> Station_cards
 }
 
 // A file that is accepted, with its first `count` rows. Nothing is wrong with it, and what its fault says is free.
-fn accepted(latitude: i32, count: usize, rows: Rows) -> Station_cards
+fn accepted(latitude: i32, count: usize, rows: Rows) -> StationCards
     requires { count ≤ most_records }
     ensures { Told (spec.given latitude (records_of rows count)) result }
 {
-    Station_cards {
+    StationCards {
         answer: Answer::Accepted,
-        fault: faults::only(What::File, Trouble::No_station_card),
+        fault: faults::only(What::File, Trouble::NoStationCard),
         latitude,
         count,
         rows,
@@ -61,7 +61,7 @@ fn read_records(
     latitude: i32,
     names: &[u8],
     frequencies: usize,
-) -> Station_cards
+) -> StationCards
     requires { first ≤ length file.now }
     ensures { Told (records_on latitude (names_from names.now 0 (min frequencies most_frequencies)) (lines_of (drop first file.now)) 2 []) result }
 {
@@ -70,13 +70,13 @@ fn read_records(
     let mut at = first;
     while at < file.len() {
         match record_card(line_at(file, at), names, frequencies, count) {
-            Record_step::Ends => {
+            RecordStep::Ends => {
                 return accepted(latitude, count, rows);
             }
-            Record_step::Gives(place, amplitude, phase) => {
+            RecordStep::Gives(place, amplitude, phase) => {
                 rows = put(rows, count, place, amplitude, phase);
             }
-            Record_step::Fails(fault) => {
+            RecordStep::Fails(fault) => {
                 return refused(fault, count + 2);
             }
         }
@@ -87,11 +87,11 @@ fn read_records(
 }
 
 // A station file: accepted whole, or refused with 01's number and line. The names are rows of five bytes, one for each frequency of the card file.
-pub fn read_station(file: &[u8], names: &[u8], frequencies: usize) -> Station_cards
+pub fn read_station(file: &[u8], names: &[u8], frequencies: usize) -> StationCards
     ensures { Told (station_file (names_from names.now 0 (min frequencies most_frequencies)) file.now) result }
 {
     if file.len() == 0 {
-        return refused(faults::only(What::File, Trouble::No_station_card), 1);
+        return refused(faults::only(What::File, Trouble::NoStationCard), 1);
     }
     match station_card(columns::first_line(file)) {
         Latitude::At(latitude) => {

@@ -1,9 +1,9 @@
 // Says what a station file comes to. Standard input, of up to 65,536 bytes, is a line with the size of a table's names in bytes, the names, five bytes
 // each, and the station file. It writes the checksums of both, the station's name and time zone, and the latitude and the records, or the refusal.
-ghost use Rattle.card.specs.inner.Fields.{Is_natural};
+ghost use Rattle.card.specs.inner.Fields.{IsNatural};
 
 use card::faults::What;
-use card::formats::Number_field;
+use card::formats::NumberField;
 use card::{Natural, natural_field};
 use fields::Format;
 use files::checksum;
@@ -11,7 +11,7 @@ use libc::STDOUT_FILENO;
 use limits::RECORDS;
 use refusals::Answer;
 use station::records::Rows;
-use station_file::stationfile::Station_cards;
+use station_file::stationfile::StationCards;
 use station_file::{stationcards, stationfile};
 
 // A text as it stands.
@@ -68,7 +68,7 @@ fn put_refused(number: u32, line: usize) {
 }
 
 // The latitude and the records, or the refusal.
-fn put_station(told: Station_cards) {
+fn put_station(told: StationCards) {
     let answer = told.answer;
     match answer {
         Answer::Accepted => {
@@ -99,10 +99,10 @@ fn put_face<'a>(names: &'a [u8], station: &'a [u8]) {
 }
 
 // The size of the names, on the first line.
-fn size_field() -> Number_field
-    ensures { Is_natural result }
+fn size_field() -> NumberField
+    ensures { IsNatural result }
 {
-    Number_field {
+    NumberField {
         what: What::File,
         which: 0,
         from: 0,

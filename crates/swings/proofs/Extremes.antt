@@ -6,7 +6,7 @@ use mathlib.Core.List.{List}
 use native.Mathlib.Omega.{arith}
 use borrow.Author.Tests.{lt-ltb, le-ltb}
 use lib.Dec.{ltb}
-use lib.Int_n.{ℤ}
+use lib.IntN.{ℤ}
 use Rattle.swings.specs.Months.{raised_at, highest_turn, lowest_turn}
 
 -- the highest up to before turn i, or i itself

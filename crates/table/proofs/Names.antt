@@ -5,7 +5,7 @@ use mathlib.Core.List.{map, List}
 use native.Mathlib.Omega.{arith}
 use native.Mathlib.Nat.{add-zero}
 use native.Mathlib.Numerals.{add-one}
-use lib.List_n.{get_or}
+use lib.ListN.{get_or}
 use Rattle.columns.specs.Columns.{padded}
 use Rattle.columns.specs.Names.{names_from}
 use Rattle.table.specs.inner.View.{listed, row_of, frequency_of}

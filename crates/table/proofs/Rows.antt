@@ -6,8 +6,8 @@ use Prim.Native.Nat.{ℕ, zero, suc, ◌+◌, ◌-◌, ◌*◌, ◌≤◌, ◌<�
 use native.Mathlib.Omega.{arith}
 use native.Mathlib.Nat.{add-zero, zero-add, not-suc-le-zero, mul-le-mul_left, mul-suc}
 use native.Mathlib.Numerals.{add-one}
-use lib.Int_n.{ℤ}
-use lib.List_n.{length, get_or, set, take, drop, length-set, drop_of_length-le}
+use lib.IntN.{ℤ}
+use lib.ListN.{length, get_or, set, take, drop, length-set, drop_of_length-le}
 use lib.Seq.{sets, drop-cons, get_or-set_same, get_or-set_other, get_or-take, length-take-le, ext_get_or}
 use Rattle.table.specs.inner.View.{listed, row_of}
 

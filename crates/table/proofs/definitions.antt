@@ -1,3 +1,3 @@
 pub mod Search
-pub mod Of_rows
-pub mod First_rows
+pub mod OfRows
+pub mod FirstRows

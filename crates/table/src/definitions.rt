@@ -1,7 +1,7 @@
 // What stands at a place of the table: a main, a shallow-water constituent, or nothing, by its row.
 ghost use Rattle.std.specs.Prelude.{◌≡◌, ◌<◌, ◌≤◌, length, get_or};
 ghost use Rattle.limits.specs.Limits.{places_in_a_byte};
-ghost use Rattle.table.specs.inner.Found.{place_in, First_rows, found_by};
+ghost use Rattle.table.specs.inner.Found.{place_in, FirstRows, found_by};
 
 use crate::entries::natural_at;
 use limits::PLACES;
@@ -17,7 +17,7 @@ pub enum Found {
 // For each place the first of so many rows that has it, or their number. (From the last row to the first, so that the first stays.)
 pub fn first_rows(cards: &[u16], width: usize, rows: usize) -> [usize; PLACES]
     requires { (width ≤ 8) × (length cards.now ≤ 1024) }
-    ensures { First_rows (place_in width cards.now) rows result }
+    ensures { FirstRows (place_in width cards.now) rows result }
 {
     let mut first = [rows; PLACES];
     let mut row = rows;

@@ -1,7 +1,7 @@
 // A call of a script, read whole from the input: its line, and behind it a card file's bytes, a station's lines or those of minutes.
 ghost use Rattle.std.specs.Prelude.{◌≡◌, ◌+◌, ◌<◌, length};
 ghost use Rattle.transcript.specs.inner.Window.{Within};
-ghost use Rattle.transcript.specs.inner.Posts.{File_post, Minute_post, Minutes_post, Heard_post, Lent, kept_row};
+ghost use Rattle.transcript.specs.inner.Posts.{FilePost, MinutePost, MinutesPost, HeardPost, Lent, kept_row};
 
 use crate::input;
 use crate::input::Window;
@@ -49,7 +49,7 @@ struct CallLine {
 
 // Whether a card file came whole, where it stands, the line of its last byte or of what is wrong, and the window behind it.
 #[derive(Drop)]
-struct Card_file {
+struct CardFile {
     good: bool,
     from: usize,
     end: usize,
@@ -74,7 +74,7 @@ struct Records {
 
 // A minute's line; where it is bad the window still begins with it.
 #[derive(Drop)]
-struct Minute_line {
+struct MinuteLine {
     number: Number,
     window: Window,
 }
@@ -112,17 +112,17 @@ fn read_call(buffer: &mut [u8], window: Window) -> CallLine
 }
 
 // So many bytes and LF. Line feeds inside the card file count as input lines.
-fn read_file(buffer: &mut [u8], window: Window, bytes: usize) -> Card_file
+fn read_file(buffer: &mut [u8], window: Window, bytes: usize) -> CardFile
     requires bytes_in_bounds { bytes < length buffer.old }
     requires within { Within (length buffer.old) window }
-    ensures { File_post (length buffer.old) bytes buffer.new result }
+    ensures { FilePost (length buffer.old) bytes buffer.new result }
 {
     let held = input::gather(buffer, window, bytes + 1);
     let from = held.from;
     let to = held.to;
     if to - from <= bytes {
         let feeds = input::feeds(buffer, from, to);
-        return Card_file {
+        return CardFile {
             good: false,
             from,
             end: from,
@@ -134,7 +134,7 @@ fn read_file(buffer: &mut [u8], window: Window, bytes: usize) -> Card_file
     let feeds = input::feeds(buffer, from, end);
     let line = wrapping_add_u64(held.line, feeds);
     let next = input::behind(held, end, line);
-    Card_file {
+    CardFile {
         good: buffer[end] == 10,
         from,
         end,
@@ -226,17 +226,17 @@ fn read_records(buffer: &mut [u8], window: Window, count: u32) -> Records
 }
 
 // The next line as a minute.
-fn read_minute(buffer: &mut [u8], window: Window) -> Minute_line
+fn read_minute(buffer: &mut [u8], window: Window) -> MinuteLine
     requires { Within (length buffer.old) window }
-    ensures { Minute_post (length buffer.old) window result }
+    ensures { MinutePost (length buffer.old) window result }
 {
     let line = input::next_line(buffer, window);
     let held = line.window;
     let from = held.from;
     let end = line.end;
     if held.to <= end {
-        return Minute_line {
-            number: Number::No_number,
+        return MinuteLine {
+            number: Number::NoNumber,
             window: held,
         };
     }
@@ -244,12 +244,12 @@ fn read_minute(buffer: &mut [u8], window: Window) -> Minute_line
     match number {
         Number::Value(_) => {
             let next = input::behind(held, end, held.line);
-            Minute_line {
+            MinuteLine {
                 number,
                 window: next,
             }
         }
-        Number::No_number => Minute_line {
+        Number::NoNumber => MinuteLine {
             number,
             window: held,
         },
@@ -259,7 +259,7 @@ fn read_minute(buffer: &mut [u8], window: Window) -> Minute_line
 // Minutes' lines, one for each of the lent places, or up to the first that is bad.
 fn read_minutes(buffer: &mut [u8], window: Window, minutes: &mut [u32]) -> Minutes
     requires { Within (length buffer.old) window }
-    ensures { Minutes_post (length buffer.old) (length minutes.old) window result }
+    ensures { MinutesPost (length buffer.old) (length minutes.old) window result }
 {
     let mut held = window;
     let mut k = 0;
@@ -297,7 +297,7 @@ fn heard_line(asked: Asked, line: u64, window: Window) -> Heard
 // cards BYTES, and the file behind its line. One that the buffer cannot hold is not of the form.
 fn hear_cards(buffer: &mut [u8], window: Window, line: u64, bytes: usize) -> Heard
     requires { Within (length buffer.old) window }
-    ensures { Heard_post (length buffer.old) 0 0 result }
+    ensures { HeardPost (length buffer.old) 0 0 result }
 {
     if buffer.len() <= bytes {
         return heard_line(Asked::Stop, line, window);
@@ -319,7 +319,7 @@ fn hear_station(
     strides: Strides,
 ) -> Heard
     requires { Within (length buffer.old) window }
-    ensures { Heard_post (length buffer.old) 0 0 result }
+    ensures { HeardPost (length buffer.old) 0 0 result }
 {
     let records = read_records(buffer, window, count);
     let next = records.window;
@@ -381,7 +381,7 @@ fn hear_bookings(
     h: u32,
 ) -> Heard
     requires { Within (length buffer.old) told.window }
-    ensures { Heard_post (length buffer.old) (length minutes.old) heights result }
+    ensures { HeardPost (length buffer.old) (length minutes.old) heights result }
 {
     let n = count as usize;
     let places = h as usize;
@@ -399,7 +399,7 @@ fn hear_bookings(
 // What a line's call asks, with what stands behind the line, for a program that lends these places for minutes and so many for heights.
 fn hear(buffer: &mut [u8], told: CallLine, minutes: &mut [u32], heights: usize) -> Heard
     requires { Within (length buffer.old) told.window }
-    ensures { Heard_post (length buffer.old) (length minutes.old) heights result }
+    ensures { HeardPost (length buffer.old) (length minutes.old) heights result }
 {
     let line = told.line;
     let call = told.call;
@@ -445,7 +445,7 @@ fn hear(buffer: &mut [u8], told: CallLine, minutes: &mut [u32], heights: usize) 
 // the input there is no call.
 pub fn next_call(buffer: &mut [u8], window: Window, minutes: &mut [u32], heights: usize) -> Heard
     requires { Within (length buffer.old) window }
-    ensures { Heard_post (length buffer.old) (length minutes.old) heights result }
+    ensures { HeardPost (length buffer.old) (length minutes.old) heights result }
 {
     let held = input::gather(buffer, window, 1);
     if held.to <= held.from {

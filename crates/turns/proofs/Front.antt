@@ -6,12 +6,12 @@ use mathlib.Core.List.{List, map}
 use Prim.Native.Nat.{ℕ, ◌+◌, ◌≤◌, ◌<◌}
 use native.Mathlib.Numerals.{add-one}
 use native.Mathlib.Omega.{arith}
-use lib.Int_n.{ℤ}
-use lib.List_n.{length, get_or, set, take, drop, length-map, length-append, length-drop, drop_of_length-le}
+use lib.IntN.{ℤ}
+use lib.ListN.{length, get_or, set, take, drop, length-map, length-append, length-drop, drop_of_length-le}
 use lib.Seq.{sets, drop-cons}
 use borrow.Author.Tests.{lt-ltb, le-ltb}
 use Rattle.turns.specs.Search.{Turn, first_high, minutes_of}
-use Rattle.turns.specs.inner.Search.{Found_post}
+use Rattle.turns.specs.inner.Search.{FoundPost}
 use Rattle.turns.specs.declared.search.Summary.{Summary}
 use Rattle.turns.proofs.search.Stored.{stored-all, all-in-front, taken-from-front}
 use Rattle.refusals.specs.Outcome.{accepted, refused}
@@ -43,7 +43,7 @@ module _ (turns : List Turn) (minutes : List ℕ) {after : List ℕ} {n : ℕ} (
   pub front_length : n ≤ length minutes → length after ≡ length minutes
   front_length h = let m = many in ap length is ∙ simp (length-append, length-drop) (omega arith)
 
-module _ {turns : List Turn} {before after : List ℕ} {r : Summary} (p : Found_post turns before after r) (room : r.count ≤ length before) where
+module _ {turns : List Turn} {before after : List ℕ} {r : Summary} (p : FoundPost turns before after r) (room : r.count ≤ length before) where
   pub all-kept : after ≡ from_front (minutes_of turns) before
   all-kept =
       p.kept ∙ all-in-front (minutes_of turns) before (omega (arith, p.count, length-map turns (λ (t : Turn). t.minute)))

@@ -15,8 +15,8 @@ turn_in slope minute stride =
     record { minute = smaller slope (earlier_end slope minute stride); high = rising (slope minute) }
 
 -- 02, No. 6: "A stride of 1 whose ends differ is not cut": its turn is the end with the smaller slope size (proved in proofs/search/One.antt)
-abbrev pub Uncut_at_one : Type 0
-Uncut_at_one = (slope : ℕ → ℤ) (minute : ℕ) → ((turn_in slope minute 1).minute ≡ smaller slope minute) × (later_end slope minute 1 ≡ minute + 1)
+abbrev pub UncutAtOne : Type 0
+UncutAtOne = (slope : ℕ → ℤ) (minute : ℕ) → ((turn_in slope minute 1).minute ≡ smaller slope minute) × (later_end slope minute 1 ≡ minute + 1)
 
 -- "stride until the two ends' slopes differ in sense; a stride past the last minute ends the work. .. Search resumes from the later end."
 -- The turns from a minute on, in at most `strides` strides.

@@ -3,7 +3,7 @@
 use Rattle.std.specs.Prelude.{ℕ, cond, ◌≡◌, List, [], ◌∷◌, map, eqb}
 use Rattle.columns.specs.Names.{place_of}
 use Rattle.columns.specs.declared.names.Found.{Found}
-use Rattle.columns.specs.declared.names.Found.The_variants.{At, Nothing}
+use Rattle.columns.specs.declared.names.Found.TheVariants.{At, Nothing}
 use Rattle.table.specs.Table.{Table, Frequency}
 use Rattle.station.specs.declared.records.Record.{Record}
 use Rattle.station.specs.Station.{Station}
@@ -44,5 +44,5 @@ station_stride01 table station = by_amplitudes fixed_stride table station
 -- ---- proved in proofs/strides/Usual.antt
 
 -- "With 180, 30 and 360 every turn is what 01 gives": the stride is the same, for every table and station
-abbrev pub Usual_stride : Type 0
-Usual_stride = (table : Table) (station : Station) → station.strides ≡ usual_strides → station_stride table station ≡ station_stride01 table station
+abbrev pub UsualStride : Type 0
+UsualStride = (table : Table) (station : Station) → station.strides ≡ usual_strides → station_stride table station ≡ station_stride01 table station

@@ -2,7 +2,7 @@
 ghost use Rattle.std.specs.Prelude.{◌≡◌, cond, ◌+◌, ◌<◌, ◌^◌, ltb, nat_abs};
 ghost use Rattle.month_prepared.specs.inner.Rows.{last_of};
 ghost use Rattle.turns.specs.inner.Lists.{Rows, slopes_in};
-ghost use Rattle.turns.specs.inner.Bisection.{Bracket_pre, Turned_post};
+ghost use Rattle.turns.specs.inner.Bisection.{BracketPre, TurnedPost};
 
 use crate::sense::differs;
 use crate::slopes::slope;
@@ -60,8 +60,8 @@ pub fn bisect<'a>(
     bracket: Bracket,
 ) -> Turned
     requires rows { Rows table.now months arguments.now frequencies.now ps.now qs.now }
-    requires bracket_pre { Bracket_pre (slopes_in arguments.now lags.now frequencies.now ps.now qs.now months) (last_of months) bracket }
-    ensures { Turned_post (slopes_in arguments.now lags.now frequencies.now ps.now qs.now months) bracket.start bracket.length result }
+    requires bracket_pre { BracketPre (slopes_in arguments.now lags.now frequencies.now ps.now qs.now months) (last_of months) bracket }
+    ensures { TurnedPost (slopes_in arguments.now lags.now frequencies.now ps.now qs.now months) bracket.start bracket.length result }
 {
     let start = bracket.start;
     let length = bracket.length;

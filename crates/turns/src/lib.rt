@@ -29,7 +29,7 @@ const KEPT: usize = MINUTES;
 #[derive(Drop)]
 pub enum Searched {
     Found(Summary),
-    Too_many,
+    TooMany,
 }
 
 // Puts the kept minutes at the front of the lent places.
@@ -109,10 +109,10 @@ pub fn turns<'a>(
     );
     let many = found.count;
     if minutes.len() < many {
-        return Searched::Too_many;
+        return Searched::TooMany;
     }
     if heights.len() < many {
-        return Searched::Too_many;
+        return Searched::TooMany;
     }
     if many <= KEPT {
         put_minutes(&kept[..many], minutes);

@@ -3,7 +3,7 @@ ghost use Rattle.std.specs.Prelude.{◌≡◌, ◌≤◌};
 ghost use Rattle.month_prepared.specs.inner.Rows.{last_of};
 ghost use Rattle.turns.specs.inner.Lists.{Rows, slopes_in};
 ghost use Rattle.turns.specs.Search.{turns_of};
-ghost use Rattle.turns.specs.inner.Search.{Reaches, Next_post, Found_post};
+ghost use Rattle.turns.specs.inner.Search.{Reaches, NextPost, FoundPost};
 
 use crate::bisection::{Bracket, bisect};
 use crate::sense::{differs, rises};
@@ -53,7 +53,7 @@ fn next_turn<'a>(
     requires rows { Rows table.now months arguments.now frequencies.now ps.now qs.now }
     requires reaches { Reaches (last_of months) reach × (minute ≤ reach.last) }
     requires here_value { here ≡ slopes_in arguments.now lags.now frequencies.now ps.now qs.now months minute }
-    ensures { Next_post (slopes_in arguments.now lags.now frequencies.now ps.now qs.now months) reach.stride reach.last minute result }
+    ensures { NextPost (slopes_in arguments.now lags.now frequencies.now ps.now qs.now months) reach.stride reach.last minute result }
 {
     let stride = reach.stride;
     let last = reach.last;
@@ -104,7 +104,7 @@ pub fn find_turns<'a>(
 ) -> Summary
     requires rows { Rows table.now months arguments.now frequencies.now ps.now qs.now }
     requires reaches { Reaches (last_of months) reach }
-    ensures { Found_post (turns_of (slopes_in arguments.now lags.now frequencies.now ps.now qs.now months) reach.stride reach.first reach.last) kept.old kept.new result }
+    ensures { FoundPost (turns_of (slopes_in arguments.now lags.now frequencies.now ps.now qs.now months) reach.stride reach.first reach.last) kept.old kept.new result }
 {
     let first = reach.first;
     let here = slope(table, arguments, lags, frequencies, ps, qs, months, first);

@@ -1,9 +1,9 @@
 // The slope of the water at a minute of a prepared month, and of months that follow one another. The table of cosines and the arrays are lent.
 ghost use Rattle.std.specs.Prelude.{◌≡◌, ◌*◌, ◌≤◌, ◌^◌, nat_abs};
 ghost use Rattle.limits.specs.Limits.{most_frequency, most_minutes, most_records};
-ghost use Rattle.cosine.specs.Fixed.{Is_table};
+ghost use Rattle.cosine.specs.Fixed.{IsTable};
 ghost use Rattle.turns.specs.Slope.{fall};
-ghost use Rattle.month_prepared.specs.inner.Rows.{In_range, Is_row, last_of};
+ghost use Rattle.month_prepared.specs.inner.Rows.{InRange, IsRow, last_of};
 ghost use Rattle.turns.specs.inner.Lists.{Rows, slope_of, slopes_in};
 
 use cosine::ENTRIES;
@@ -13,7 +13,7 @@ use month_prepared::months::{Months, owner};
 
 // What a constituent of weights P and Q takes from the slope at an angle.
 fn fall_at(table: &[u32; ENTRIES], angle: u64, p: i32, q: i32, frequency: u64) -> i64
-    requires table { Is_table table.now }
+    requires table { IsTable table.now }
     requires frequency_le_most_frequency { frequency ≤ most_frequency }
     ensures value { result ≡ fall p q frequency angle }
     ensures result_bound { nat_abs result ≤ 2 ^ 32 * 4_999_999 }
@@ -34,8 +34,8 @@ fn slope_in_month<'a>(
     count: usize,
     minute: u64,
 ) -> i64
-    requires table { Is_table table.now × ((count ≤ most_records) × In_range count frequencies.now) }
-    requires minute_le_most_minutes { (minute ≤ most_minutes) × Is_row arguments.now ps.now qs.now }
+    requires table { IsTable table.now × ((count ≤ most_records) × InRange count frequencies.now) }
+    requires minute_le_most_minutes { (minute ≤ most_minutes) × IsRow arguments.now ps.now qs.now }
     ensures { result ≡ slope_of arguments.now lags.now frequencies.now ps.now qs.now count minute }
 {
     let mut falls: i64 = 0;

@@ -63,6 +63,6 @@ pub fn bookings<'a>(
             columns::part(buffer, 0, bytes),
             &minutes[..count],
         ),
-        Reading::No_booking(line) => messages::no_booking(name, line),
+        Reading::NoBooking(line) => messages::no_booking(name, line),
     }
 }

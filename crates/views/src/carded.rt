@@ -2,7 +2,7 @@
 ghost use Rattle.clock.specs.View.{Made};
 
 use clock::Clock;
-use hourly::{Cards_answer, LONGEST};
+use hourly::{CardsAnswer, LONGEST};
 use page::shown::Date;
 
 // hourly YEAR MONTH STATION: the cards alone, under a station number.
@@ -12,10 +12,10 @@ pub fn hourly(clock: Clock, date: Date, station: u32)
     let mut cards = [0u8; LONGEST];
     let answer = clock::hourly(clock, station, &mut cards);
     match answer {
-        Cards_answer::Bytes(count) => {
+        CardsAnswer::Bytes(count) => {
             output::flush(&cards, count);
         }
-        Cards_answer::Refused(refusal, place) => {
+        CardsAnswer::Refused(refusal, place) => {
             messages::refused_hourly(date.year, date.month, station, place, refusal)
         }
     }

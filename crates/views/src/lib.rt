@@ -8,7 +8,7 @@ ghost use Rattle.clock.specs.View.{Made};
 
 pub use booked::bookings;
 pub use carded::hourly;
-use clock::{Clock, Height_answer};
+use clock::{Clock, HeightAnswer};
 use digits::dates;
 use page::face::Face;
 use page::shown;
@@ -183,8 +183,8 @@ fn day_height(clock: Clock, face: Face, date: Date, minute: u32, hourly: &[i64])
 {
     let answer = clock::height(clock, minute);
     match answer {
-        Height_answer::Height(height) => day_turns(clock, face, date, minute, height, hourly),
-        Height_answer::Refused(refusal, _) => say_day(date, refusal),
+        HeightAnswer::Height(height) => day_turns(clock, face, date, minute, height, hourly),
+        HeightAnswer::Refused(refusal, _) => say_day(date, refusal),
     }
 }
 

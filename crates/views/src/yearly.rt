@@ -1,7 +1,7 @@
 // A year of a clock that has a station: its sheet, and its turns for other programs.
 ghost use Rattle.clock.specs.View.{Made};
 
-use clock::{Clock, Turns_answer};
+use clock::{Clock, TurnsAnswer};
 use monthturns::yearturns;
 use page::face::Face;
 use page::shown;
@@ -31,7 +31,7 @@ fn turns_of(
     strides: Strides,
     minutes: &mut [u32],
     heights: &mut [i64],
-) -> Turns_answer
+) -> TurnsAnswer
     requires { Made clock }
 {
     let mut series = [0i64; 0];
@@ -47,11 +47,11 @@ pub fn year(clock: Clock, face: Face, date: Date) -> Answer
     let strides = face.ground.strides;
     let answer = turns_of(clock, date.year, strides, &mut minutes, &mut heights);
     match answer {
-        Turns_answer::Turns(count, first) => {
+        TurnsAnswer::Turns(count, first) => {
             write_sheet(face, date, Known { count, first }, &minutes, &heights);
             Answer::Accepted
         }
-        Turns_answer::Refused(refusal, place) => Answer::Refused(refusal, place),
+        TurnsAnswer::Refused(refusal, place) => Answer::Refused(refusal, place),
     }
 }
 
@@ -64,10 +64,10 @@ pub fn year_table(clock: Clock, face: Face, date: Date) -> Answer
     let strides = face.ground.strides;
     let answer = turns_of(clock, date.year, strides, &mut minutes, &mut heights);
     match answer {
-        Turns_answer::Turns(count, first) => {
+        TurnsAnswer::Turns(count, first) => {
             write_rows(face, date, Known { count, first }, &minutes, &heights);
             Answer::Accepted
         }
-        Turns_answer::Refused(refusal, place) => Answer::Refused(refusal, place),
+        TurnsAnswer::Refused(refusal, place) => Answer::Refused(refusal, place),
     }
 }

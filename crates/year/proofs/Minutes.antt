@@ -7,7 +7,7 @@ use native.Mathlib.Omega.{arith}
 use borrow.Author.Tests.{ltb-true, ltb-false}
 use mathlib.Core.Bool.{Bool, true, false}
 use lib.Dec.{ltb}
-use lib.List_n.{length, get_or, set}
+use lib.ListN.{length, get_or, set}
 use lib.Seq.{get_or-set_same, get_or-set_other}
 use Rattle.calendar.specs.Calendar.{month_minutes, months_days, year_minutes, months_a_year}
 use Rattle.calendar.proofs.Months.{months-more}

@@ -8,8 +8,8 @@ use native.Mathlib.Omega.{arith}
 use native.Mathlib.Nat.{zero-add}
 use borrow.Author.Tests.{ltb-true, ltb-false, le-leb}
 use lib.Dec.{ltb}
-use lib.Int_n.{ℤ}
-use lib.List_n.{length}
+use lib.IntN.{ℤ}
+use lib.ListN.{length}
 use lib.Seq.{paste}
 use Rattle.limits.specs.Limits.{most_records}
 use Rattle.refusals.specs.Outcome.{accepted}
@@ -24,10 +24,10 @@ use Rattle.month_prepared.specs.inner.Rows.{row_at, months_after}
 use Rattle.month.specs.Month.{month_of}
 use Rattle.month.specs.inner.View.{answered_with, prepared_of}
 use Rattle.month.specs.declared.Prepared.{Prepared}
-use Rattle.month.specs.declared.Preparation.The_variants.{Ready, Too_large}
-use Rattle.year.specs.inner.Rows.{Row_into, Twelve_rows, Prepared_post, held_by}
+use Rattle.month.specs.declared.Preparation.TheVariants.{Ready, TooLarge}
+use Rattle.year.specs.inner.Rows.{RowInto, TwelveRows, PreparedPost, held_by}
 use Rattle.year.proofs.Put.{put-length, row_put, row-stands}
-use Rattle.year.proofs.Recorded.{Are_frequencies, month-frequencies, month-constituents, frequencies-in-range}
+use Rattle.year.proofs.Recorded.{AreFrequencies, month-frequencies, month-constituents, frequencies-in-range}
 use Rattle.year.proofs.Twelve.{months-ready, months-refused}
 
 a-month : (m : ℕ) → m < months_a_year → between 1 12 (m + 1) ≡ true
@@ -43,13 +43,13 @@ module _ (t : Table) (s : Station) (year : ℕ) where
   -- the first m months stand in their rows, and the frequencies, where there is a month, are the records'
   pub record Done (m : ℕ) (fs vs : List ℕ) (ps qs : List ℤ) : Type 0 where
     pub most : m ≤ months_a_year
-    pub rows : Twelve_rows vs ps qs
-    pub frequencies : 0 < m → Are_frequencies t s fs
-    pub ready : (j : ℕ) → j < m → (gs : List ℕ) → Are_frequencies t s gs
+    pub rows : TwelveRows vs ps qs
+    pub frequencies : 0 < m → AreFrequencies t s fs
+    pub ready : (j : ℕ) → j < m → (gs : List ℕ) → AreFrequencies t s gs
         → month_of (table_of t) (station_of s) year (j + 1) ≡ accepted (constituents_from (row_at j vs) s.lags gs (row_at j ps) (row_at j qs) (held_by s))
 
   module _ (m : ℕ) (fs vs : List ℕ) (ps qs : List ℤ) (done : Done m fs vs ps qs) (h : m < months_a_year) (p : Prepared) (prepares : prepared_of p ≡ month_of (table_of t) (station_of s) year (m + 1)) where
-    module _ (arguments : Row_into p.month.arguments m vs) (cosines : Row_into p.month.ps m ps) (sines : Row_into p.month.qs m qs) where
+    module _ (arguments : RowInto p.month.arguments m vs) (cosines : RowInto p.month.ps m ps) (sines : RowInto p.month.qs m qs) where
       abbrev vs' : List ℕ
       vs' = paste vs (m * most_records) p.month.arguments most_records
 
@@ -71,7 +71,7 @@ module _ (t : Table) (s : Station) (year : ℕ) where
           ready : month_of (table_of t) (station_of s) year (m + 1) ≡ accepted (constituents_of p.month)
           ready = sym prepares ∙ ap (λ answer. answered_with answer p.month) e
 
-          by : (j : ℕ) → j < m + 1 → (gs : List ℕ) → Are_frequencies t s gs → (before : Bool) → ltb j m ≡ before
+          by : (j : ℕ) → j < m + 1 → (gs : List ℕ) → AreFrequencies t s gs → (before : Bool) → ltb j m ≡ before
               → month_of (table_of t) (station_of s) year (j + 1) ≡ accepted (constituents_from (row_at j vs') s.lags gs (row_at j ps') (row_at j qs') (held_by s))
           by j l gs are true b =
               let k = ltb-true j m b in
@@ -81,7 +81,7 @@ module _ (t : Table) (s : Station) (year : ℕ) where
               let same : j ≡ m = omega arith in
               rw (same, row_put p.month.arguments m vs arguments, row_put p.month.ps m ps cosines, row_put p.month.qs m qs sines) (month-constituents t s year (m + 1) p.month ready gs are)
 
-    pub refused-at : (place : ℕ) → p.answer ≡ Too_large place → Prepared_post t s year fs vs ps qs (Too_large place)
+    pub refused-at : (place : ℕ) → p.answer ≡ TooLarge place → PreparedPost t s year fs vs ps qs (TooLarge place)
     refused-at place e =
         record {
           rows = done.rows;
@@ -92,10 +92,10 @@ module _ (t : Table) (s : Station) (year : ℕ) where
         held : ℕ → List Constituent
         held j = constituents_from (row_at j vs) s.lags fs (row_at j ps) (row_at j qs) (held_by s)
 
-        never : Too_large place ≡ Ready → ⊥
+        never : TooLarge place ≡ Ready → ⊥
         never ready = let z : ◌≡◌ {A = ℕ} 0 1 = cc in omega arith
 
-  pub all_done : (fs vs : List ℕ) (ps qs : List ℤ) → Done months_a_year fs vs ps qs → Prepared_post t s year fs vs ps qs Ready
+  pub all_done : (fs vs : List ℕ) (ps qs : List ℤ) → Done months_a_year fs vs ps qs → PreparedPost t s year fs vs ps qs Ready
   all_done fs vs ps qs done =
       let are = done.frequencies (omega arith) in
       record {

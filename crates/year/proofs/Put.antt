@@ -5,12 +5,12 @@ use mathlib.Core.List.{List, [], ◌∷◌, ◌++◌, append_assoc}
 use Prim.Native.Nat.{ℕ, zero, suc, ◌+◌, ◌*◌, ◌≤◌, ◌<◌}
 use native.Mathlib.Numerals.{add-one}
 use native.Mathlib.Omega.{arith}
-use lib.List_n.{length, get_or, set, take, drop}
+use lib.ListN.{length, get_or, set, take, drop}
 use lib.Seq.{paste, paste-suc, length-paste, length-take-le, take-append-le, take-take, take_at, drop_at, take_all}
 use Rattle.limits.specs.Limits.{most_records}
 use Rattle.calendar.specs.Calendar.{months_a_year}
 use Rattle.month_prepared.specs.inner.Rows.{row_at}
-use Rattle.year.specs.inner.Rows.{Row_into}
+use Rattle.year.specs.inner.Rows.{RowInto}
 
 module _ {A : Type 0} where
   -- a part of the front of a list
@@ -20,7 +20,7 @@ module _ {A : Type 0} where
   part-of-front (suc i) n (suc at) [] ys h l = absurd (omega arith)
   part-of-front (suc i) n (suc at) (x ∷ xs) ys h l = part-of-front i n at xs ys (omega arith) (omega arith)
 
-  module _ (row : List A) (m : ℕ) (rows : List A) (fits : Row_into row m rows) where
+  module _ (row : List A) (m : ℕ) (rows : List A) (fits : RowInto row m rows) where
     pub put-more : (k : ℕ) (none : A) → k < most_records → set (paste rows (m * most_records) row k) (m * most_records + k) (get_or row k none) ≡ paste rows (m * most_records) row (k + 1)
     put-more k none h = rw (add-one k) (paste-suc rows (m * most_records) row k none (omega arith) (omega arith))
 

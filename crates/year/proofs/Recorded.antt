@@ -8,8 +8,8 @@ use native.Mathlib.Nat.{add-zero, zero-add}
 use mathlib.Core.Bool.{Bool, true, false}
 use borrow.Author.Tests.{ltb-true, ltb-false}
 use lib.Dec.{ltb}
-use lib.Int_n.{ℤ}
-use lib.List_n.{get_or}
+use lib.IntN.{ℤ}
+use lib.ListN.{get_or}
 use Rattle.limits.specs.Limits.{most_records, most_frequency}
 use Rattle.refusals.specs.Outcome.{Outcome, accepted, refused, ◌>>=◌}
 use Rattle.refusals.specs.Checked.{good, bad, at_place}
@@ -30,7 +30,7 @@ use Rattle.month_workings.specs.Worked.{argument_of, correction_of}
 use Rattle.month_prepared.specs.Prepared.{Constituent}
 use Rattle.month_prepared.specs.declared.Month.{Month}
 use Rattle.month_prepared.specs.inner.View.{constituent_at, constituents_after, constituents_from, constituents_of}
-use Rattle.month_prepared.specs.inner.Rows.{In_range}
+use Rattle.month_prepared.specs.inner.Rows.{InRange}
 use Rattle.month.specs.Month.{records_prepared, constituent, month_of}
 use Rattle.month.specs.inner.View.{frequencies_of}
 use Rattle.month.proofs.Whole.{rows-are-month}
@@ -89,24 +89,24 @@ module _ (frequencies places lags : List ℕ) where
 
 module _ (t : Table) (s : Station) where
   -- these are the frequencies of the station's records
-  abbrev pub Are_frequencies : List ℕ → Type 0
-  Are_frequencies fs = (k : ℕ) → k < held_by s → get_or fs k 0 ≡ frequency_at (frequencies_of t.speeds t.frequencies) s.places s.lags k
+  abbrev pub AreFrequencies : List ℕ → Type 0
+  AreFrequencies fs = (k : ℕ) → k < held_by s → get_or fs k 0 ≡ frequency_at (frequencies_of t.speeds t.frequencies) s.places s.lags k
 
   module _ (year month : ℕ) (m : Month) (ready : month_of (table_of t) (station_of s) year month ≡ accepted (constituents_of m)) where
     recorded : Recorded (frequencies_of t.speeds t.frequencies) s.places s.lags 0 (held_by s) (constituents_of m)
     unfolding station_of
     recorded = prepared-recorded (frequencies_of t.speeds t.frequencies) s.places s.lags _ _ _ _ s.amplitudes 1 0 (held_by s) (constituents_of m) (rows-are-month t (station_of s) year month ∙ ready)
 
-    pub month-frequencies : Are_frequencies m.frequencies
+    pub month-frequencies : AreFrequencies m.frequencies
     month-frequencies k h =
         rw (zero-add k) at (recorded-frequencies (frequencies_of t.speeds t.frequencies) s.places s.lags m.arguments m.lags m.frequencies m.ps m.qs 0 (held_by s) (min m.count most_records) recorded k h)
 
-    pub month-constituents : (fs : List ℕ) → Are_frequencies fs → month_of (table_of t) (station_of s) year month ≡ accepted (constituents_from m.arguments s.lags fs m.ps m.qs (held_by s))
+    pub month-constituents : (fs : List ℕ) → AreFrequencies fs → month_of (table_of t) (station_of s) year month ≡ accepted (constituents_from m.arguments s.lags fs m.ps m.qs (held_by s))
     month-constituents fs are =
         ready ∙ ap accepted (recorded-same (frequencies_of t.speeds t.frequencies) s.places s.lags m.arguments m.lags m.frequencies m.ps m.qs fs 0 (held_by s) (min m.count most_records) recorded (λ j h. rw (zero-add j) (are j h)))
 
   -- where those of the table are in range, so are they
-  pub frequencies-in-range : In_range t.frequencies t.speeds → (fs : List ℕ) → Are_frequencies fs → In_range (held_by s) fs
+  pub frequencies-in-range : InRange t.frequencies t.speeds → (fs : List ℕ) → AreFrequencies fs → InRange (held_by s) fs
   frequencies-in-range within fs are k h = rw (are k h) (by (get_or s.places k 0))
     where
       by : (place : ℕ) → get_or (frequencies_of t.speeds t.frequencies) place 0 ≤ most_frequency

@@ -3,21 +3,21 @@ use mathlib.Core.Path.{◌≡◌, refl}
 use mathlib.Core.List.{List}
 use Prim.Native.Nat.{ℕ, zero, suc, ◌+◌, ◌<◌}
 use native.Mathlib.Omega.{arith}
-use lib.Int_n.{ℤ}
-use lib.List_n.{get_or}
+use lib.IntN.{ℤ}
+use lib.ListN.{get_or}
 use Rattle.refusals.specs.Outcome.{accepted, refused}
 use Rattle.calendar.specs.Calendar.{month_minutes, months_a_year}
 use Rattle.table.specs.Table.{Table}
 use Rattle.station.specs.Station.{Station}
 use Rattle.month_prepared.specs.Prepared.{Constituent}
 use Rattle.month_prepared.specs.declared.months.Months.{Months}
-use Rattle.month_prepared.specs.inner.Rows.{Has_rows, month_at, months_after}
+use Rattle.month_prepared.specs.inner.Rows.{HasRows, month_at, months_after}
 use Rattle.month.specs.Month.{month_of}
 use Rattle.year.specs.Year.{months_from}
-use Rattle.year.specs.inner.Rows.{Is_year, Twelve_rows}
+use Rattle.year.specs.inner.Rows.{IsYear, TwelveRows}
 
 -- the rows of a year are the rows of its months
-pub has-rows : (year count : ℕ) (months : Months) (vs : List ℕ) (ps qs : List ℤ) → Is_year year count months → Twelve_rows vs ps qs → Has_rows months vs ps qs
+pub has-rows : (year count : ℕ) (months : Months) (vs : List ℕ) (ps qs : List ℤ) → IsYear year count months → TwelveRows vs ps qs → HasRows months vs ps qs
 has-rows year count months vs ps qs is rows = record { arguments = omega (arith, is.twelve, rows.arguments); cosines = omega (arith, is.twelve, rows.cosines); sines = omega (arith, is.twelve, rows.sines) }
 
 module _ (t : Table) (s : Station) (year : ℕ) where

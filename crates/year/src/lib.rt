@@ -3,8 +3,8 @@ ghost use Rattle.std.specs.Prelude.{◌*◌, ◌≤◌, ◌≡◌, true};
 ghost use Rattle.std.proofs.Math.Seq.{paste};
 ghost use Rattle.limits.specs.Limits.{most_records};
 ghost use Rattle.calendar.specs.Calendar.{year_in_range};
-ghost use Rattle.cosine.specs.Fixed.{Is_table};
-ghost use Rattle.year.specs.inner.Rows.{Year_months, Row_into, Twelve_rows, Prepared_post};
+ghost use Rattle.cosine.specs.Fixed.{IsTable};
+ghost use Rattle.year.specs.inner.Rows.{YearMonths, RowInto, TwelveRows, PreparedPost};
 
 use cosine::ENTRIES;
 use limits::RECORDS;
@@ -19,7 +19,7 @@ pub const ROWS: usize = 1_752;
 // The months of a year, each with so many constituents.
 pub fn months_of(year: u32, count: usize) -> Months
     requires { count ≤ most_records }
-    ensures { Year_months year count result }
+    ensures { YearMonths year count result }
 {
     let mut lasts = [0u64; MONTHS];
     let mut m: usize = 0;
@@ -36,7 +36,7 @@ pub fn months_of(year: u32, count: usize) -> Months
 
 // Puts a month's arguments into row m.
 fn put_arguments(row: &[u64; RECORDS], m: usize, rows: &mut [u64; ROWS])
-    requires { Row_into row.now m rows.old }
+    requires { RowInto row.now m rows.old }
     ensures { rows.new ≡ paste rows.old (m * most_records) row.now most_records }
 {
     let from = m * RECORDS;
@@ -49,7 +49,7 @@ fn put_arguments(row: &[u64; RECORDS], m: usize, rows: &mut [u64; ROWS])
 
 // Puts a month's weights P, or its weights Q, into row m.
 fn put_weights(row: &[i32; RECORDS], m: usize, rows: &mut [i32; ROWS])
-    requires { Row_into row.now m rows.old }
+    requires { RowInto row.now m rows.old }
     ensures { rows.new ≡ paste rows.old (m * most_records) row.now most_records }
 {
     let from = m * RECORDS;
@@ -72,16 +72,16 @@ pub fn prepare(
     ps: &mut [i32; ROWS],
     qs: &mut [i32; ROWS],
 ) -> Preparation
-    requires { Is_table cosines.now × ((year_in_range year ≡ true) × Twelve_rows arguments.old ps.old qs.old) }
-    ensures { Prepared_post table station year frequencies.new arguments.new ps.new qs.new result }
+    requires { IsTable cosines.now × ((year_in_range year ≡ true) × TwelveRows arguments.old ps.old qs.old) }
+    ensures { PreparedPost table station year frequencies.new arguments.new ps.new qs.new result }
 {
     let mut m: usize = 0;
     while m < MONTHS {
         let prepared = month::prepare(cosines, table, station, year, m as u32 + 1);
         let answer = prepared.answer;
         match answer {
-            Preparation::Too_large(place) => {
-                return Preparation::Too_large(place);
+            Preparation::TooLarge(place) => {
+                return Preparation::TooLarge(place);
             }
             Preparation::Ready => {
                 let month = prepared.month;

@@ -4,11 +4,11 @@ use mathlib.Core.Path.{◌≡◌, refl, ◌∙◌, ap}
 use mathlib.Core.Bool.{true, false}
 use Prim.Native.Nat.{ℕ, ◌/◌, ◌<◌, ◌^◌}
 use native.Mathlib.Nat.{div-le_self, lt_of_le_of_lt}
-use lib.Int_n.{ℤ, pos, negsuc}
+use lib.IntN.{ℤ, pos, negsuc}
 use lib.Signed.{mag, lt_z}
 use mir.Syntax.{w64}
 use mir.Val.{SFits}
-use mir.Val_laws.{to_z-of_z}
+use mir.ValLaws.{to_z-of_z}
 use Rattle.angles.specs.Floor.{floor_div}
 use Rattle.angles.proofs.Machine.{through, fits-as, if-negative, if-not-negative, signed_is, below-zero-is}
 use borrow.Author.Rules.{rules}

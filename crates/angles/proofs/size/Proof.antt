@@ -3,10 +3,10 @@
 use mathlib.Core.Path.{◌≡◌, refl, ◌∙◌, ap}
 use Prim.Native.Nat.{ℕ, ◌+◌}
 use native.Mathlib.Numerals.{add-one}
-use lib.Int_n.{nat_abs}
+use lib.IntN.{nat_abs}
 use lib.Signed.{mag}
 use mir.Syntax.{w64}
-use mir.Val_laws.{to_z-of_z}
+use mir.ValLaws.{to_z-of_z}
 use borrow.Author.Rules.{rules}
 use Rattle.angles.proofs.Machine.{if-negative, if-not-negative}
 use Rattle.angles.proofs.size.Statement.{statement}

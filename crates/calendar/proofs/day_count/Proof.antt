@@ -2,7 +2,7 @@
 use mathlib.Core.Path.{◌∙◌}
 use borrow.Author.Rules.{rules}
 use mir.Syntax.{w64}
-use mir.Val_laws.{to_z-of_z}
+use mir.ValLaws.{to_z-of_z}
 use Rattle.calendar.proofs.Differences.{difference-fits}
 use Rattle.calendar.proofs.Days.{count-signed}
 use Rattle.calendar.proofs.day_count.Statement.{statement}

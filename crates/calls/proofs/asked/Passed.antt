@@ -6,7 +6,7 @@ use lib.Dec.{ltb}
 use borrow.Author.Tests.{ltb-false}
 use Rattle.limits.specs.Limits.{most_step}
 use Rattle.calendar.specs.Calendar.{year_minutes}
-use Rattle.heights.specs.inner.Places.{Series_within}
+use Rattle.heights.specs.inner.Places.{SeriesWithin}
 use Rattle.refusals.specs.Outcome.{accepted}
 use Rattle.refusals.proofs.Laws.{not-both}
 use Rattle.calls.specs.Asked.{minute_outside, series_outside, turns_outside, step_outside, last_minute}
@@ -31,7 +31,7 @@ second-false true b e = let z : ◌≡◌ {A = Bool} true false = e in absurd (t
 second-false false b e = e
 
 -- minutes that are not outside
-series-inside : (last start step places : ℕ) → series_outside last start step places ≡ false → Series_within last start step places
+series-inside : (last start step places : ℕ) → series_outside last start step places ≡ false → SeriesWithin last start step places
 series-inside last start step places e =
     let both = first-false (ltb last start || step_outside step) (ltb last (last_minute start step places)) e in
     let steps = second-false (ltb last start) (step_outside step) both in
@@ -49,7 +49,7 @@ turns-inside end first last e =
 pub height-within : (t s d : Bool) (last minute : ℕ) → minutes_by t s d (minute_outside last minute) ≡ accepted tt → (t ≡ true) × (minute ≤ last)
 height-within t s d last minute e = let p = passed t s d (ltb last minute) e in (p.0, ltb-false last minute p.1)
 
-pub series-within : (t s d : Bool) (last start step places : ℕ) → minutes_by t s d (series_outside last start step places) ≡ accepted tt → (t ≡ true) × Series_within last start step places
+pub series-within : (t s d : Bool) (last start step places : ℕ) → minutes_by t s d (series_outside last start step places) ≡ accepted tt → (t ≡ true) × SeriesWithin last start step places
 series-within t s d last start step places e =
     let p = passed t s d (series_outside last start step places) e in (p.0, series-inside last start step places p.1)
 
@@ -59,7 +59,7 @@ turns-within t s d end first last e =
 
 -- a year's sheet that is not outside: its series and its search are within the year
 pub sheet-within : (sheet : Sheet) (places : ℕ) → sheet_outside sheet places ≡ false
-    → Series_within (year_minutes sheet.year) sheet.start sheet.step places × (sheet.last ≤ year_minutes sheet.year) × (sheet.first ≤ sheet.last)
+    → SeriesWithin (year_minutes sheet.year) sheet.start sheet.step places × (sheet.last ≤ year_minutes sheet.year) × (sheet.first ≤ sheet.last)
 sheet-within sheet places e =
     let end = year_minutes sheet.year in
     let series = series_outside end sheet.start sheet.step places in

@@ -5,7 +5,7 @@ use mathlib.Core.Path.{◌≡◌, refl, sym}
 use mathlib.Core.List.{List}
 use mathlib.Core.Bool.{Bool, true, false, not}
 use lib.Dec.{ltb}
-use lib.Int_n.{ℤ}
+use lib.IntN.{ℤ}
 use Rattle.refusals.specs.Outcome.{Outcome, accepted, refused, refuse_if, ◌>>◌, answered}
 use Rattle.refusals.proofs.Laws.{not-both}
 use Rattle.calendar.specs.Calendar.{in_range, year_in_range}

@@ -7,10 +7,10 @@ use mathlib.Core.Bool.{Bool, true, false, not}
 use mathlib.Core.Path.{◌≡◌, refl, ◌∙◌}
 use mathlib.Core.List.{List, [], ◌∷◌}
 use lib.Dec.{eqb, ltb}
-use lib.List_n.{length, get_or, drop, drop_of_length-le}
+use lib.ListN.{length, get_or, drop, drop_of_length-le}
 use lib.Seq.{drop-cons}
 use borrow.Author.Tests.{ltb-false}
-use Rattle.heights.specs.inner.Places.{All_within}
+use Rattle.heights.specs.inner.Places.{AllWithin}
 use Rattle.refusals.specs.Outcome.{Outcome, accepted, refused, refuse_if, answered, ◌>>◌}
 use Rattle.refusals.proofs.Laws.{not-both}
 use Rattle.calls.specs.Asked.{minute_outside}
@@ -40,7 +40,7 @@ pass true place next e = not-both e
 pass false place next e = (refl, e)
 
 -- none of the minutes is later than the last, where none is refused
-pub minutes-within : (last place : ℕ) (minutes : List ℕ) → minutes_from last place minutes ≡ accepted tt → All_within last minutes
+pub minutes-within : (last place : ℕ) (minutes : List ℕ) → minutes_from last place minutes ≡ accepted tt → AllWithin last minutes
 unfolding minutes_from
 minutes-within last place [] e k h = absurd (omega arith)
 minutes-within last place (m ∷ ms) e zero h = ltb-false last m (pass (ltb last m) place _ e).0

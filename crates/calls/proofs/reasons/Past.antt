@@ -10,7 +10,7 @@ use Rattle.limits.specs.Limits.{most_step}
 use Rattle.calls.specs.Asked.{step_outside, last_minute}
 use Rattle.calls.specs.Reasons.{series_reason}
 use Rattle.calls.specs.declared.reasons.Reason.{Reason}
-use Rattle.calls.specs.declared.reasons.Reason.The_variants.{Within, Start, Step, End}
+use Rattle.calls.specs.declared.reasons.Reason.TheVariants.{Within, Start, Step, End}
 
 -- a start in the month and a step in range leave the last minute to be asked
 pub in-range : (last start step places : ℕ) → start ≤ last → 1 ≤ step → step ≤ most_step

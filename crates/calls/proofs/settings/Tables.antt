@@ -1,6 +1,6 @@
 -- What the table's struct counts of its document's table. Rests on the laws of rows. Assumes nothing.
 use mathlib.Core.Path.{◌≡◌}
-use lib.List_n.{length}
+use lib.ListN.{length}
 use Rattle.table.specs.inner.View.{table_of, frequency_of}
 use Rattle.table.specs.declared.Table.{Table}
 use Rattle.table.proofs.Rows.{listed-length}

@@ -11,6 +11,6 @@ use Rattle.calls.specs.Calls.{station_returns}
 use Rattle.calls.specs.inner.Flags.{tabled_only}
 
 -- what a station comes to, where a table is there or not
-pub record Taken_post (tabled : Bool) (table : Table) (station : Station) (r : Taken) : Type 0 where
+pub record TakenPost (tabled : Bool) (table : Table) (station : Station) (r : Taken) : Type 0 where
   pub says : outcome_of r.answer ≡ station_returns (tabled_only tabled (table_of table)) station
   pub keeps : outcome_of r.answer ≡ accepted tt → station_of r.station ≡ station

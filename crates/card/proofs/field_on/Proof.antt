@@ -2,7 +2,7 @@
 use borrow.Author.Rules.{rules}
 use mir.Syntax.{w64}
 use mir.Val.{SFits}
-use mir.Val_laws.{to_z-of_z}
+use mir.ValLaws.{to_z-of_z}
 use Rattle.card.proofs.field_on.Statement.{statement}
 use Rattle.card.proofs.field_on.Tie as tie
 

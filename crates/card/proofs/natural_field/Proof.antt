@@ -5,10 +5,10 @@ use Rattle.card.proofs.natural_field.Tie as tie
 use mathlib.Core.Path.{◌≡◌, sym, ◌∙◌}
 use mir.Syntax.{w64}
 use mir.Val.{SFits}
-use mir.Val_laws.{to_z-of_z}
+use mir.ValLaws.{to_z-of_z}
 use mir.Facts.{Fits-nat_abs}
 use lib.Signed.{pos-nat_abs}
-use Rattle.fields.specs.declared.Field.The_variants.{Value, Malformed, Out_of_range}
+use Rattle.fields.specs.declared.Field.TheVariants.{Value, Malformed, OutOfRange}
 use Rattle.card.specs.Card.{field_on}
 use Rattle.card.proofs.Ranges.{natural-is, number_is}
 use Rattle.card.proofs.field_on.Reads as field-on-reads
@@ -53,7 +53,7 @@ returns-2 : tie.Need-returns-2
 returns-2 c = let a = c.before.before.before.before.before.args in (rw c.fault-in.ensures (number_is a.line.now a.f Malformed (sym c.before.enum_told.given.1 ∙ c.before.before.before.field-on.ensures)), tt)
 
 returns-3 : tie.Need-returns-3
-returns-3 c = let a = c.before.before.before.before.before.args in (rw c.fault-in2.ensures (number_is a.line.now a.f Out_of_range (sym c.before.enum-told2.given.1 ∙ c.before.before.before.field-on.ensures)), tt)
+returns-3 c = let a = c.before.before.before.before.before.args in (rw c.fault-in2.ensures (number_is a.line.now a.f OutOfRange (sym c.before.enum-told2.given.1 ∙ c.before.before.before.field-on.ensures)), tt)
 
 pub natural-field-spec : {M : Type 1} → statement M
 natural-field-spec =

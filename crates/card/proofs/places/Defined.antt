@@ -5,10 +5,10 @@ use Prim.Native.Nat.{ℕ, zero, suc, ◌+◌, ◌-◌, ◌*◌, ◌≤◌, ◌<�
 use mathlib.Core.List.{List, [], ◌∷◌, ◌++◌}
 use mathlib.Core.Bool.{Bool, true, false, cond, ◌||◌}
 use lib.Dec.{eqb}
-use lib.List_n.{get_or}
+use lib.ListN.{get_or}
 use native.Mathlib.Omega.{arith}
 use Rattle.columns.specs.Names.{same, names_from, place_from, place_of}
-use Rattle.columns.specs.declared.names.Found.The_variants.{At}
+use Rattle.columns.specs.declared.names.Found.TheVariants.{At}
 use Rattle.table.specs.inner.View.{listed}
 use Rattle.table.proofs.Rows.{listed_next, listed-end}
 use Rattle.refusals.specs.Checked.{good, bad}

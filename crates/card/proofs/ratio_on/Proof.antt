@@ -3,8 +3,8 @@ use borrow.Author.Rules.{rules}
 use Rattle.card.proofs.ratio_on.Statement.{statement}
 use Rattle.card.proofs.ratio_on.Tie as tie
 use mathlib.Core.Path.{◌≡◌}
-use lib.Int_n.{pos}
-use Rattle.fields.specs.declared.Field.The_variants.{Value, Malformed, Out_of_range}
+use lib.IntN.{pos}
+use Rattle.fields.specs.declared.Field.TheVariants.{Value, Malformed, OutOfRange}
 use Rattle.card.specs.Card.{field_on}
 use Rattle.card.specs.Formats.{ratio_field}
 use Rattle.card.proofs.Ranges.{number_is}
@@ -48,7 +48,7 @@ returns-3 : tie.Need-returns-3
 returns-3 c =
     let a = c.before.before.before.before.before.before.args in
     let read = rw (c.before.enum-told2.given.1, c.before.before.before.before.ratio.ensures) at c.before.before.before.narrow-field.ensures.0 in
-    (rw (c.fault-in2.ensures, c.before.before.before.before.ratio.ensures) (number_is a.line.now (ratio_field a.j) Out_of_range read), tt)
+    (rw (c.fault-in2.ensures, c.before.before.before.before.ratio.ensures) (number_is a.line.now (ratio_field a.j) OutOfRange read), tt)
 
 pub ratio-on-spec : {M : Type 1} → statement M
 ratio-on-spec =

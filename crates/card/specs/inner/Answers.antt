@@ -3,13 +3,13 @@ use Rattle.std.specs.Prelude.{ℕ, ◌≤◌, ℤ, pos}
 use Rattle.refusals.specs.Checked.{good, bad}
 use Rattle.card.specs.Card.{Card}
 use Rattle.card.specs.declared.Small.{Small}
-use Rattle.card.specs.declared.Small.The_variants as small
+use Rattle.card.specs.declared.Small.TheVariants as small
 use Rattle.card.specs.declared.Natural.{Natural}
-use Rattle.card.specs.declared.Natural.The_variants as natural
+use Rattle.card.specs.declared.Natural.TheVariants as natural
 use Rattle.card.specs.declared.Ratio.{Ratio}
-use Rattle.card.specs.declared.Ratio.The_variants as ratio
+use Rattle.card.specs.declared.Ratio.TheVariants as ratio
 use Rattle.card.specs.declared.Check.{Check}
-use Rattle.card.specs.declared.Check.The_variants as check
+use Rattle.card.specs.declared.Check.TheVariants as check
 
 -- a signed number of a card
 abbrev pub small_gives : Small → Card ℤ
@@ -22,9 +22,9 @@ natural_gives (natural.Value n) = good (pos n)
 natural_gives (natural.Bad fault) = bad fault
 
 -- it keeps to its range
-abbrev pub Natural_within : Natural → ℕ → Type 0
-Natural_within (natural.Value n) most = n ≤ most
-Natural_within (natural.Bad fault) most = Unit
+abbrev pub NaturalWithin : Natural → ℕ → Type 0
+NaturalWithin (natural.Value n) most = n ≤ most
+NaturalWithin (natural.Bad fault) most = Unit
 
 -- a satellite's ratio
 abbrev pub ratio_gives : Ratio → Card ℤ
@@ -32,9 +32,9 @@ ratio_gives (ratio.Value n) = good (pos n)
 ratio_gives (ratio.Bad fault) = bad fault
 
 -- 02, No. 2: "it never passes 20,000 ten-thousandths"
-abbrev pub Ratio_within : Ratio → ℕ → Type 0
-Ratio_within (ratio.Value n) most = n ≤ most
-Ratio_within (ratio.Bad fault) most = Unit
+abbrev pub RatioWithin : Ratio → ℕ → Type 0
+RatioWithin (ratio.Value n) most = n ≤ most
+RatioWithin (ratio.Bad fault) most = Unit
 
 -- something on a card, unless it has a fault
 abbrev pub check_gives : {A : Type 0} → Check → A → Card A

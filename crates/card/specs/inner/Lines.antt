@@ -4,13 +4,13 @@ use Rattle.columns.specs.Lines.{lines_of, rest_lines}
 use Rattle.card.specs.Card.{Reading, given, refused}
 use Rattle.card.specs.Card as card
 use Rattle.card.specs.declared.lines.Progress.{Progress}
-use Rattle.card.specs.declared.lines.Progress.The_variants.{Reached, Refused}
+use Rattle.card.specs.declared.lines.Progress.TheVariants.{Reached, Refused}
 use Rattle.card.specs.declared.lines.Opening.{Opening}
-use Rattle.card.specs.declared.lines.Opening.The_variants as opening
+use Rattle.card.specs.declared.lines.Opening.TheVariants as opening
 
 -- behind the line at a byte of the file the next starts at byte r, past its LF, or the file ends there
-abbrev pub Next_line : List ℕ → ℕ → ℕ → Type 0
-Next_line file at r = (at < r) × (r ≤ length file) × (drop r file ≡ rest_lines (drop at file))
+abbrev pub NextLine : List ℕ → ℕ → ℕ → Type 0
+NextLine file at r = (at < r) × (r ≤ length file) × (drop r file ≡ rest_lines (drop at file))
 
 -- how a card begins
 abbrev pub opening_gives : Opening → card.Opening
@@ -24,6 +24,6 @@ reading_gives file (Reached at n) a = given a (lines_of (drop at file)) n
 reading_gives file (Refused r n) a = refused r n
 
 -- a line takes a byte at least
-abbrev pub Within_file : List ℕ → Progress → Type 0
-Within_file file (Reached at n) = (at ≤ length file) × (n ≤ at + 1)
-Within_file file (Refused r n) = Unit
+abbrev pub WithinFile : List ℕ → Progress → Type 0
+WithinFile file (Reached at n) = (at ≤ length file) × (n ≤ at + 1)
+WithinFile file (Refused r n) = Unit

@@ -4,7 +4,7 @@ use Rattle.table.specs.inner.View.{listed}
 use Rattle.refusals.specs.Checked.{good, bad}
 use Rattle.card.specs.Card.{Card}
 use Rattle.card.specs.declared.places.Place.{Place}
-use Rattle.card.specs.declared.places.Place.The_variants as place
+use Rattle.card.specs.declared.places.Place.TheVariants as place
 
 -- a place
 abbrev pub place_gives : Place → Card ℕ

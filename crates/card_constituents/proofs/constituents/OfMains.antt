@@ -9,24 +9,24 @@ use native.Mathlib.Nat.{zero-add, add-zero}
 use native.Mathlib.Numerals.{lt_of_le_of_ne}
 use lib.Dec.{leb, eqb}
 use borrow.Author.Tests.{eqb-true, eqb-false}
-use lib.Int_n.{ℤ}
-use lib.List_n.{length, get_or, drop}
+use lib.IntN.{ℤ}
+use lib.ListN.{length, get_or, drop}
 use Rattle.columns.specs.Lines.{lines_of, first_line, rest_lines}
 use Rattle.table.specs.Table.{Main}
 use Rattle.limits.specs.Limits.{satellites_a_card}
 use Rattle.table.specs.inner.View.{listed, row_of, naturals, satellite_of, main_of}
 use Rattle.table.proofs.Rows.{listed-one-more, listed-length}
 use Rattle.card.proofs.lines.Walk.{lines-here, lines_end}
-use Rattle.card.specs.declared.faults.What.The_variants.{File}
-use Rattle.card.specs.declared.faults.Trouble.The_variants.{Ended_in_mains}
+use Rattle.card.specs.declared.faults.What.TheVariants.{File}
+use Rattle.card.specs.declared.faults.Trouble.TheVariants.{EndedInMains}
 use Rattle.card.specs.Faults.{only}
 use Rattle.card.specs.Card.{given, refused, onward, onward_or_end}
 use Rattle.card.specs.inner.Answers.{check_gives}
 use Rattle.card.specs.declared.Check.{Check}
 use Rattle.card.specs.inner.Places.{places_in}
 use Rattle.card_mains.specs.Mains.{next_main, main_places, satellites_in}
-use Rattle.card_mains.specs.declared.mains.Main_step.{Main_step}
-use Rattle.card_constituents.specs.inner.Rows.{satellite_count, satellites_end, Stored, mains_in, Counted, step_gives, Main_stored, Mains_kept, mains_over, Satellites_stored}
+use Rattle.card_mains.specs.declared.mains.MainStep.{MainStep}
+use Rattle.card_constituents.specs.inner.Rows.{satellite_count, satellites_end, Stored, mains_in, Counted, step_gives, MainStored, MainsKept, mains_over, SatellitesStored}
 use Rattle.card_constituents.specs.Constituents.{mains_from, satellites_from}
 
 -- one main more, whose satellites are stored too
@@ -56,7 +56,7 @@ counted-one-more cards before ratios ratiosbefore angles anglesbefore sat satbef
     ∙ rw (listed-length (satellite_of sat ratios) (get_or (naturals 3 cards m) 1 0) (satellite_count cards m))
 
 -- a main begun adds none, and a satellite card those that stand on it
-pub counted-begun : (cards before ratios : List ℕ) (angles anglesbefore sat : List ℤ) (m s : ℕ) → Mains_kept cards angles before anglesbefore m → satellite_count cards m ≡ 0
+pub counted-begun : (cards before ratios : List ℕ) (angles anglesbefore sat : List ℤ) (m s : ℕ) → MainsKept cards angles before anglesbefore m → satellite_count cards m ≡ 0
     → Counted before anglesbefore sat ratios m s → Counted cards angles sat ratios (m + 1) s
 counted-begun cards before ratios angles anglesbefore sat m s kept none counted =
     omega (arith, counted-one-more cards before ratios ratios angles anglesbefore sat sat m (kept sat ratios), none, counted)
@@ -74,19 +74,19 @@ places_of cards angles sat ratios k (suc n) = rw (add-zero (3 * k), places_of ca
 
 module _ (names : List (List ℕ)) (file : List ℕ) (at n : ℕ) (mains : List Main) where
   -- no line is left
-  pub mains-end : length file ≤ at → mains_from names (lines_of (drop at file)) n mains ≡ refused (only File Ended_in_mains) n
+  pub mains-end : length file ≤ at → mains_from names (lines_of (drop at file)) n mains ≡ refused (only File EndedInMains) n
   unfolding mains_from satellites_from
   mains-end h = rw (lines_end file at h)
 
-  pub satellites-end : (main : Main) (count : ℕ) → length file ≤ at → satellites_from names (lines_of (drop at file)) n mains main count ≡ refused (only File Ended_in_mains) n
+  pub satellites-end : (main : Main) (count : ℕ) → length file ≤ at → satellites_from names (lines_of (drop at file)) n mains main count ≡ refused (only File EndedInMains) n
   unfolding mains_from satellites_from
   satellites-end main count h = rw (lines_end file at h)
 
 -- the line at byte `at` was read, and the next starts at byte `next`
 module _ (names : List (List ℕ)) (file : List ℕ) (at next n : ℕ) (line : List ℕ) (h : at < length file) (first : line ≡ first_line (drop at file)) (rest : drop next file ≡ rest_lines (drop at file)) (m : ℕ) where
   -- a constituent card
-  pub mains-step : (s : ℕ) (cards before : List ℕ) (angles anglesbefore sat : List ℤ) (ratios : List ℕ) (step : Main_step)
-      → Main_stored step cards angles m (next_main names (places_in 3 before m) s line) → Mains_kept cards angles before anglesbefore m → Counted before anglesbefore sat ratios m s
+  pub mains-step : (s : ℕ) (cards before : List ℕ) (angles anglesbefore sat : List ℤ) (ratios : List ℕ) (step : MainStep)
+      → MainStored step cards angles m (next_main names (places_in 3 before m) s line) → MainsKept cards angles before anglesbefore m → Counted before anglesbefore sat ratios m s
       → mains_from names (lines_of (drop at file)) n (mains_in before anglesbefore sat ratios m)
       ≡ onward_or_end (step_gives step (main_of cards angles sat ratios m)) n (given (mains_in cards angles sat ratios m) (lines_of (drop next file)) (n + 1))
       (λ c. cond (eqb c.count 0)
@@ -98,7 +98,7 @@ module _ (names : List (List ℕ)) (file : List ℕ) (at next n : ℕ) (line : L
 
   -- a satellite card
   pub satellites-step : (cards before : List ℕ) (angles sat satbefore : List ℤ) (ratios ratiosbefore : List ℕ) (check : Check) (count : ℕ)
-      → Satellites_stored check (mains_over cards sat ratios) (mains_over before satbefore ratiosbefore) m count line
+      → SatellitesStored check (mains_over cards sat ratios) (mains_over before satbefore ratiosbefore) m count line
       → satellites_from names (lines_of (drop at file)) n (mains_in before angles satbefore ratiosbefore m) (main_of before angles satbefore ratiosbefore m) count
       ≡ onward (check_gives check (main_of cards angles sat ratios m)) n
       (λ more. cond (leb count satellites_a_card)

@@ -5,32 +5,32 @@ use Prim.Native.Nat.{ℕ, ◌+◌, ◌*◌, ◌≤◌, ◌<◌}
 use mathlib.Core.List.{List, [], ◌∷◌, ◌++◌}
 use native.Mathlib.Omega.{arith}
 use native.Mathlib.Nat.{zero-add, add-zero}
-use lib.Int_n.{ℤ, pos}
-use lib.List_n.{length, get_or, set, length-append, length-set}
+use lib.IntN.{ℤ, pos}
+use lib.ListN.{length, get_or, set, length-append, length-set}
 use lib.Seq.{sets, length-sets, get_or-set_same, get_or-set_other, take_at, get_or_at}
 use Rattle.table.specs.inner.View.{listed, row_of, naturals, integers, satellite_of, main_of}
 use Rattle.table.proofs.Rows.{listed_same, listed-one-more, listed-both, row_put, row_kept, ends_with, listed-length}
 use Rattle.limits.specs.Limits.{most_mains, most_satellites}
-use Rattle.card_mains.specs.inner.Satellites.{As_before}
+use Rattle.card_mains.specs.inner.Satellites.{AsBefore}
 use Rattle.card.specs.Card.{Next, gives}
 use Rattle.card.specs.inner.Places.{places_in}
-use Rattle.card_mains.specs.Mains.{Main_card, next_main}
+use Rattle.card_mains.specs.Mains.{MainCard, next_main}
 use Rattle.card_mains.specs.inner.Mains.{main_gives, main_step_gives}
-use Rattle.card_mains.specs.declared.mains.Main_read.{Main_read}
-use Rattle.card_mains.specs.declared.mains.Main_step.The_variants.{Gives}
+use Rattle.card_mains.specs.declared.mains.MainRead.{MainRead}
+use Rattle.card_mains.specs.declared.mains.MainStep.TheVariants.{Gives}
 use Rattle.card_mains.proofs.mains.Room.{main-room}
 use Rattle.card_constituents.specs.Satellites.{with_more}
-use Rattle.card_constituents.specs.inner.Rows.{Main_room, satellite_count, satellites_end, Stored, mains_in, Main_stored, Mains_kept, Begun}
+use Rattle.card_constituents.specs.inner.Rows.{MainRoom, satellite_count, satellites_end, Stored, mains_in, MainStored, MainsKept, Begun}
 
 -- a main whose rows and satellites are as they were
 main-same : (cards cards' ratios ratios' : List ℕ) (angles angles' sat sat' : List ℤ) (k s : ℕ) → naturals 3 cards' k ≡ naturals 3 cards k → integers 7 angles' k ≡ integers 7 angles k
-    → satellites_end cards k ≤ s → As_before (satellite_of sat' ratios') (satellite_of sat ratios) s → main_of cards' angles' sat' ratios' k ≡ main_of cards angles sat ratios k
+    → satellites_end cards k ≤ s → AsBefore (satellite_of sat' ratios') (satellite_of sat ratios) s → main_of cards' angles' sat' ratios' k ≡ main_of cards angles sat ratios k
 unfolding main_of
 main-same cards cards' ratios ratios' angles angles' sat sat' k s c a end kept =
     rw (c, a, listed_same (satellite_of sat' ratios') (satellite_of sat ratios) (get_or (naturals 3 cards k) 1 0) (get_or (naturals 3 cards k) 2 0) (λ i x y. kept i (omega arith)))
 
 -- the mains, where only satellites past theirs are stored anew
-pub mains-kept : (cards ratios ratios' : List ℕ) (angles sat sat' : List ℤ) (m s : ℕ) → Stored cards m s → As_before (satellite_of sat' ratios') (satellite_of sat ratios) s
+pub mains-kept : (cards ratios ratios' : List ℕ) (angles sat sat' : List ℤ) (m s : ℕ) → Stored cards m s → AsBefore (satellite_of sat' ratios') (satellite_of sat ratios) s
     → mains_in cards angles sat' ratios' m ≡ mains_in cards angles sat ratios m
 mains-kept cards ratios ratios' angles sat sat' m s stored kept =
     listed_same (main_of cards angles sat' ratios') (main_of cards angles sat ratios) 0 m
@@ -77,18 +77,18 @@ module _ (cards : List ℕ) (angles : List ℤ) (m place first : ℕ) (doodson :
   mains-begun sat ratios = listed-one-more (main_of begun-cards begun-angles sat ratios) 0 m ∙ rw (zero-add m, main-begun sat ratios, mains-kept-begun sat ratios)
 
 -- a card that gives a main had room for it and for its satellites
-pub step_room : (names : List (List ℕ)) (cards : List ℕ) (m s : ℕ) (line : List ℕ) (r : Main_read) (count : ℕ)
+pub step_room : (names : List (List ℕ)) (cards : List ℕ) (m s : ℕ) (line : List ℕ) (r : MainRead) (count : ℕ)
     → main_gives r ≡ next_main names (places_in 3 cards m) s line → r.step ≡ Gives count → (m < most_mains) × (s + count ≤ most_satellites)
 step_room names cards m s line r count e g =
     let h = main-room names (places_in 3 cards m) s line _ (sym e ∙ ap (λ st. main_step_gives st r.place r.doodson r.phase) g) in
     (omega (arith, h.0, listed-length (λ k. get_or cards (3 * k) 0) 0 m), h.1)
 
 -- the rows with main m begun are those of the mains before, and of what the card gives
-pub stored-begun : (cards cards' : List ℕ) (angles angles' : List ℤ) (m s place count : ℕ) (doodson : List ℤ) (phase : ℤ) (card : Next Main_card) → length doodson ≡ 6
-    → (m < most_mains) × (s + count ≤ most_satellites) → Stored cards m s → Main_room cards angles
+pub stored-begun : (cards cards' : List ℕ) (angles angles' : List ℤ) (m s place count : ℕ) (doodson : List ℤ) (phase : ℤ) (card : Next MainCard) → length doodson ≡ 6
+    → (m < most_mains) × (s + count ≤ most_satellites) → Stored cards m s → MainRoom cards angles
     → cards' ≡ sets cards (3 * m) (place ∷ s ∷ 0 ∷ []) → angles' ≡ set (sets angles (7 * m) doodson) (7 * m + 6) phase
     → gives (record { main = record { place = place; doodson = doodson; phase = phase; satellites = [] }; count = count }) ≡ card
-    → Main_stored (Gives count) cards' angles' m card × (Mains_kept cards' angles' cards angles m × (Begun (Gives count) cards' m s × Main_room cards' angles'))
+    → MainStored (Gives count) cards' angles' m card × (MainsKept cards' angles' cards angles m × (Begun (Gives count) cards' m s × MainRoom cards' angles'))
 stored-begun cards cards' angles angles' m s place count doodson phase card six room stored rooms ec ea e =
     let h : 3 * m + 3 ≤ length cards = omega (arith, room.0, rooms.0) in
     let g : 7 * m + 7 ≤ length angles = omega (arith, room.0, rooms.1) in
@@ -132,7 +132,7 @@ module _ (cards : List ℕ) (m t s : ℕ) (roomy : 3 * m + 3 ≤ length cards) w
   pub grown-stored : (s' : ℕ) → s ≤ s' → Stored cards m s → Stored grown-cards m s'
   grown-stored s' h stored k b = rw (grown-row-kept k b) (omega (arith, stored k b))
 
-  module _ (angles sat sat' : List ℤ) (ratios ratios' : List ℕ) (kept : As_before (satellite_of sat' ratios') (satellite_of sat ratios) s) where
+  module _ (angles sat sat' : List ℤ) (ratios ratios' : List ℕ) (kept : AsBefore (satellite_of sat' ratios') (satellite_of sat ratios) s) where
     pub main-grown : satellites_end cards m ≡ s → main_of grown-cards angles sat' ratios' m ≡ with_more (main_of cards angles sat ratios m) (listed (satellite_of sat' ratios') s t)
     unfolding main_of with_more
     main-grown e =

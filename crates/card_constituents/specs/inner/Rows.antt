@@ -6,15 +6,15 @@ use Rattle.table.specs.Table.{Main}
 use Rattle.card.specs.inner.Answers.{check_gives}
 use Rattle.card.specs.Card.{Next, ends, gives, fails}
 use Rattle.card.specs.declared.Check.{Check}
-use Rattle.card.specs.declared.Check.The_variants as check
-use Rattle.card_mains.specs.Mains.{Main_card, satellites_in}
-use Rattle.card_mains.specs.declared.mains.Main_step.{Main_step}
-use Rattle.card_mains.specs.declared.mains.Main_step.The_variants as main
+use Rattle.card.specs.declared.Check.TheVariants as check
+use Rattle.card_mains.specs.Mains.{MainCard, satellites_in}
+use Rattle.card_mains.specs.declared.mains.MainStep.{MainStep}
+use Rattle.card_mains.specs.declared.mains.MainStep.TheVariants as main
 use Rattle.card_constituents.specs.Satellites.{with_card}
 
 -- the arrays of mains have all their rows
-abbrev pub Main_room : List ℕ → List ℤ → Type 0
-Main_room cards angles = (length cards ≡ 3 * most_mains) × (length angles ≡ 7 * most_mains)
+abbrev pub MainRoom : List ℕ → List ℤ → Type 0
+MainRoom cards angles = (length cards ≡ 3 * most_mains) × (length angles ≡ 7 * most_mains)
 
 -- the satellites of main k: its row has its place, its first satellite, and their count
 abbrev pub satellite_count : List ℕ → ℕ → ℕ
@@ -37,21 +37,21 @@ abbrev pub Counted : List ℕ → List ℤ → List ℤ → List ℕ → ℕ →
 Counted cards angles satelliteangles satelliteratios mains satellites = satellites_in (mains_in cards angles satelliteangles satelliteratios mains) ≡ satellites
 
 -- a constituent card, with its main as stored
-abbrev pub step_gives : Main_step → Main → Next Main_card
+abbrev pub step_gives : MainStep → Main → Next MainCard
 step_gives main.Ends m = ends
 step_gives (main.Gives count) m = gives (record { main = m; count = count })
 step_gives (main.Fails fault) m = fails fault
 
 -- the constituent card, its main being as stored, whatever the rows of satellites hold
-abbrev pub Main_stored : Main_step → List ℕ → List ℤ → ℕ → Next Main_card → Type 0
-Main_stored step cards angles m card = (sat : List ℤ) (ratios : List ℕ) → step_gives step (main_of cards angles sat ratios m) ≡ card
+abbrev pub MainStored : MainStep → List ℕ → List ℤ → ℕ → Next MainCard → Type 0
+MainStored step cards angles m card = (sat : List ℤ) (ratios : List ℕ) → step_gives step (main_of cards angles sat ratios m) ≡ card
 
 -- the mains stored before, as they were, whatever the rows of satellites hold
-abbrev pub Mains_kept : List ℕ → List ℤ → List ℕ → List ℤ → ℕ → Type 0
-Mains_kept cards angles before anglesbefore m = (sat : List ℤ) (ratios : List ℕ) → mains_in cards angles sat ratios m ≡ mains_in before anglesbefore sat ratios m
+abbrev pub MainsKept : List ℕ → List ℤ → List ℕ → List ℤ → ℕ → Type 0
+MainsKept cards angles before anglesbefore m = (sat : List ℤ) (ratios : List ℕ) → mains_in cards angles sat ratios m ≡ mains_in before anglesbefore sat ratios m
 
 -- a main that a card gives had room, for its satellites too, and has none so far
-abbrev pub Begun : Main_step → List ℕ → ℕ → ℕ → Type 0
+abbrev pub Begun : MainStep → List ℕ → ℕ → ℕ → Type 0
 Begun main.Ends cards m satellites = Unit
 Begun (main.Gives count) cards m satellites = (m < most_mains) × (satellites + count ≤ most_satellites) × (satellites_end cards m ≡ satellites) × Stored cards m satellites × (satellite_count cards m ≡ 0)
 Begun (main.Fails fault) cards m satellites = Unit
@@ -67,6 +67,6 @@ abbrev pub mains_over : List ℕ → List ℤ → List ℕ → List ℤ → ℕ 
 mains_over cards sat ratios angles = main_of cards angles sat ratios
 
 -- main m, its rows being changed, has the satellites of the card; the mains before are as they were
-abbrev pub Satellites_stored : Check → (List ℤ → ℕ → Main) → (List ℤ → ℕ → Main) → ℕ → ℕ → List ℕ → Type 0
-Satellites_stored check stored before m count line =
+abbrev pub SatellitesStored : Check → (List ℤ → ℕ → Main) → (List ℤ → ℕ → Main) → ℕ → ℕ → List ℕ → Type 0
+SatellitesStored check stored before m count line =
     (angles : List ℤ) → (check_gives check (stored angles m) ≡ with_card (before angles m) count line) × (listed (stored angles) 0 m ≡ listed (before angles) 0 m)

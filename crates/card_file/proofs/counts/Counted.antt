@@ -2,11 +2,11 @@
 use mathlib.Core.Path.{◌≡◌, sym, ap, ◌∙◌}
 use Prim.Native.Nat.{ℕ}
 use mathlib.Core.List.{List}
-use lib.List_n.{length}
+use lib.ListN.{length}
 use Rattle.refusals.specs.Outcome.{accepted, refused, number_of}
 use Rattle.refusals.specs.declared.Refusal.{Refusal}
 use Rattle.refusals.specs.declared.Answer.{Answer}
-use Rattle.refusals.specs.declared.Answer.The_variants.{Accepted, Refused}
+use Rattle.refusals.specs.declared.Answer.TheVariants.{Accepted, Refused}
 use Rattle.table.specs.inner.View.{table_of, listed, frequency_of, main_of, shallow_of}
 use Rattle.table.specs.declared.Table.{Table}
 use Rattle.table.proofs.Rows.{listed-length}

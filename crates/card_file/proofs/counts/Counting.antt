@@ -7,7 +7,7 @@ use lib.Dec.{ltb}
 use borrow.Author.Tests.{ltb-true, ltb-false}
 use mathlib.Core.List.{List}
 use native.Mathlib.Omega.{arith}
-use lib.List_n.{length, get_or, get_or-eq_default}
+use lib.ListN.{length, get_or, get_or-eq_default}
 use Rattle.table.specs.Table.{Main}
 use Rattle.table.specs.inner.View.{listed, row_of, main_of, satellite_of, table_of}
 use Rattle.table.specs.declared.Table.{Table}

@@ -3,8 +3,8 @@ use mathlib.Core.Path.{◌≡◌, sym, ap, ap₂}
 use Prim.Native.Nat.{ℕ}
 use mathlib.Core.List.{List, [], ◌++◌}
 use Rattle.columns.specs.Names.{names_from}
-use lib.Int_n.{ℤ}
-use lib.List_n.{length}
+use lib.IntN.{ℤ}
+use lib.ListN.{length}
 use Rattle.table.proofs.Rows.{listed-length}
 use Rattle.card_file.specs.Cards.{first_undefined}
 use Rattle.table.specs.inner.View.{table_of, listed, frequency_of, shallow_of}
@@ -15,7 +15,7 @@ use Rattle.card_constituents.specs.Constituents.{mains_from}
 use Rattle.card_shallows.specs.Shallows.{shallow_places, shallows_from}
 use Rattle.card.specs.inner.Places.{places_in}
 use Rattle.table.proofs.Names.{names-of}
-use Rattle.card_constituents.proofs.constituents.Of_mains as mains
+use Rattle.card_constituents.proofs.constituents.OfMains as mains
 use Rattle.card_shallows.proofs.shallows.Rows as shallows
 
 names_in_lem : (t : Table) → names_of (table_of t).frequencies ≡ names_from t.names 0 t.frequencies

@@ -4,21 +4,21 @@ use mathlib.Core.Path.{◌≡◌, refl, sym, subst}
 use Prim.Native.Nat.{ℕ, zero, suc, ◌+◌, ◌≤◌}
 use mathlib.Core.List.{List, [], ◌∷◌, ◌++◌}
 use native.Mathlib.Omega.{arith}
-use lib.List_n.{length, get_or}
-use lib.Int_n.{ℤ, nat_abs}
+use lib.ListN.{length, get_or}
+use lib.IntN.{ℤ, nat_abs}
 use Rattle.columns.specs.Columns.{columns}
 use Rattle.fields.specs.declared.Field.{Field}
-use Rattle.fields.specs.declared.Field.The_variants.{Value, Malformed, Out_of_range}
+use Rattle.fields.specs.declared.Field.TheVariants.{Value, Malformed, OutOfRange}
 use Rattle.table.specs.Table.{Frequency, Table}
 use Rattle.columns.specs.Lines.{lines_of}
 use Rattle.card.specs.Formats.{frequency_name, frequency_field, longitude_field, increase_field}
 use Rattle.limits.specs.Limits.{most_frequency, most_frequencies}
 use Rattle.refusals.specs.Checked.{good, bad, ◌>>=◌}
-use Rattle.card.specs.declared.faults.Trouble.The_variants.{Too_many_frequencies}
+use Rattle.card.specs.declared.faults.Trouble.TheVariants.{TooManyFrequencies}
 use Rattle.card.specs.Card.{Card, field_on, number, new_name, field_gives, Next, ends, gives, fails, Opening, blank_ends, read_fields, fails_first, opening, opened, Reading, given, refused, onward_or_end}
 use Rattle.card_frequencies.specs.Frequencies.{names_of, frequency_card, next_frequency, frequencies_from}
 use Rattle.columns.specs.declared.names.Found.{Found}
-use Rattle.columns.specs.declared.names.Found.The_variants.{At, Nothing}
+use Rattle.columns.specs.declared.names.Found.TheVariants.{At, Nothing}
 use Rattle.card_file.specs.Cards.{followed, first_undefined, unless_undefined, read_cards, outcome_in, cards_outcome}
 use Rattle.refusals.specs.Outcome.{accepted}
 use Rattle.card_frequencies.specs.Longitudes.{five_from}
@@ -45,7 +45,7 @@ read_low line v e = by (field_on line frequency_field) refl e
     by : (x : Field) → field_on line frequency_field ≡ x → field_gives frequency_field x ≡ good v → nat_abs v ≤ most_frequency
     by (Value w) r q = let w-is : w ≡ v = cc in (natural-is frequency_field.low frequency_field.high v _ refl (rw w-is at (sym r))).1
     by Malformed r q = let z : ◌≡◌ {A = ℕ} 0 1 = cc in absurd (omega arith)
-    by Out_of_range r q = let z : ◌≡◌ {A = ℕ} 0 1 = cc in absurd (omega arith)
+    by OutOfRange r q = let z : ◌≡◌ {A = ℕ} 0 1 = cc in absurd (omega arith)
 
 -- a frequency card's number
 card-low : (names : List (List ℕ)) (line : List ℕ) (f : Frequency) → frequency_card names line ≡ good f → f.frequency ≤ most_frequency
@@ -60,7 +60,7 @@ card-low names line f e = by (new_name names (columns line frequency_name 5)) (n
 
 next_low : (names : List (List ℕ)) (line : List ℕ) (f : Frequency) → next_frequency names line ≡ gives f → f.frequency ≤ most_frequency
 unfolding next_frequency
-next_low names line f e = by (opening most_frequencies Too_many_frequencies (length names) line) (frequency_card names line) refl e
+next_low names line f e = by (opening most_frequencies TooManyFrequencies (length names) line) (frequency_card names line) refl e
   where
     by : (o : Opening) (c : Card Frequency) → frequency_card names line ≡ c → opened o c ≡ gives f → f.frequency ≤ most_frequency
     by read_fields (good g) r q = let is : g ≡ f = cc in card-low names line f (rw is at r)
@@ -95,18 +95,18 @@ defined-is : (found : Found) (lines : List (List ℕ)) (n : ℕ) (whole t : Tabl
 defined-is Nothing lines n whole t rest m e = cc
 defined-is (At k) lines n whole t rest m e = let z : ◌≡◌ {A = ℕ} 0 1 = cc in absurd (omega arith)
 
-abbrev Low_in : Table → Type 0
-Low_in t = Low most_frequency t.frequencies
+abbrev LowIn : Table → Type 0
+LowIn t = Low most_frequency t.frequencies
 
 pub given-in-range : (file : List ℕ) (t : Table) (rest : List (List ℕ)) (m : ℕ) (none : Frequency) → none.frequency ≡ 0 → read_cards file ≡ given t rest m → (k : ℕ) → (get_or t.frequencies k none).frequency ≤ most_frequency
 unfolding read_cards
 given-in-range file t rest m none z e k =
-    followed-through Low_in (frequencies_from (lines_of file) 1 []) _ t rest m (λ fs lines n r q.
-    followed-through Low_in (five_from longitude_field lines n) _ t rest m (λ ls lines₂ n₂ r₂ q₂.
-    followed-through Low_in (five_from increase_field lines₂ n₂) _ t rest m (λ is lines₃ n₃ r₃ q₃.
-    followed-through Low_in (mains_from (names_of fs) lines₃ n₃ []) _ t rest m (λ ms lines₄ n₄ r₄ q₄.
-    followed-through Low_in (shallows_from (names_of fs) (main_places ms) lines₄ n₄ []) _ t rest m (λ ss lines₅ n₅ r₅ q₅.
-    subst Low_in (defined-is (first_undefined (main_places ms ++ shallow_places ss) 0 (length fs)) lines₅ n₅ (record { frequencies = fs; longitudes = ls; increases = is; mains = ms; shallows = ss }) t rest m q₅)
+    followed-through LowIn (frequencies_from (lines_of file) 1 []) _ t rest m (λ fs lines n r q.
+    followed-through LowIn (five_from longitude_field lines n) _ t rest m (λ ls lines₂ n₂ r₂ q₂.
+    followed-through LowIn (five_from increase_field lines₂ n₂) _ t rest m (λ is lines₃ n₃ r₃ q₃.
+    followed-through LowIn (mains_from (names_of fs) lines₃ n₃ []) _ t rest m (λ ms lines₄ n₄ r₄ q₄.
+    followed-through LowIn (shallows_from (names_of fs) (main_places ms) lines₄ n₄ []) _ t rest m (λ ss lines₅ n₅ r₅ q₅.
+    subst LowIn (defined-is (first_undefined (main_places ms ++ shallow_places ss) 0 (length fs)) lines₅ n₅ (record { frequencies = fs; longitudes = ls; increases = is; mains = ms; shallows = ss }) t rest m q₅)
     (part_low (lines_of file) 1 [] fs lines n (λ n₀ z₀ j. rw z₀ (omega arith)) r)) q₄) q₃) q₂) q) e none z k
 
 pub accepted-in-range : (file : List ℕ) (t : Table) (none : Frequency) → none.frequency ≡ 0 → cards_outcome file ≡ accepted t → (k : ℕ) → (get_or t.frequencies k none).frequency ≤ most_frequency

@@ -3,14 +3,14 @@
 use Rattle.std.specs.Prelude.{List, ℕ}
 use Rattle.refusals.specs.Outcome.{Outcome, accepted, refused, number_of}
 use Rattle.refusals.specs.declared.Answer.{Answer}
-use Rattle.refusals.specs.declared.Answer.The_variants.{Accepted, Refused}
+use Rattle.refusals.specs.declared.Answer.TheVariants.{Accepted, Refused}
 use Rattle.table.specs.Table.{Table}
 use Rattle.table.specs.inner.View.{table_of}
 use Rattle.card.specs.Card as card
 use Rattle.card.specs.Card.{Reading}
 use Rattle.card.specs.inner.Lines.{reading_gives}
 use Rattle.card.specs.declared.Check.{Check}
-use Rattle.card.specs.declared.Check.The_variants.{Clear, Bad}
+use Rattle.card.specs.declared.Check.TheVariants.{Clear, Bad}
 use Rattle.card_file.specs.declared.reader.Parsed.{Parsed}
 use Rattle.card_file.specs.declared.reader.Read.{Read}
 

@@ -5,8 +5,8 @@ use Prim.Native.Nat.{ℕ, suc, ◌+◌, ◌-◌, ◌*◌, ◌≤◌, ◌<◌}
 use mathlib.Core.List.{List, [], ◌∷◌, ◌++◌}
 use native.Mathlib.Omega.{arith}
 use native.Mathlib.Nat.{zero-add}
-use lib.Int_n.{nat_abs}
-use lib.List_n.{length, get_or, set, drop}
+use lib.IntN.{nat_abs}
+use lib.ListN.{length, get_or, set, drop}
 use lib.Seq.{sets, get_or-set_same, get_or-set_other}
 use Rattle.columns.specs.Columns.{padded, columns}
 use Rattle.columns.specs.Lines.{lines_of, first_line, rest_lines}
@@ -15,12 +15,12 @@ use Rattle.table.specs.Table.{Frequency}
 use Rattle.table.specs.inner.View.{listed, frequency_of}
 use Rattle.table.proofs.Rows.{listed_same, listed-one-more, row_put, row_kept}
 use Rattle.card.specs.declared.Natural.{Natural}
-use Rattle.card.specs.declared.Natural.The_variants as natural
-use Rattle.card_frequencies.specs.declared.frequencies.Frequency_step.{Frequency_step}
+use Rattle.card.specs.declared.Natural.TheVariants as natural
+use Rattle.card_frequencies.specs.declared.frequencies.FrequencyStep.{FrequencyStep}
 use Rattle.card.specs.Formats.{frequency_name}
 use Rattle.refusals.specs.Checked.{good, ◌>>=◌}
 use Rattle.limits.specs.Limits.{most_frequencies}
-use Rattle.card.specs.declared.faults.Trouble.The_variants.{Too_many_frequencies, Ended_in_frequencies}
+use Rattle.card.specs.declared.faults.Trouble.TheVariants.{TooManyFrequencies, EndedInFrequencies}
 use Rattle.card.specs.Card.{gives, given, ended, onward_or_end}
 use Rattle.card_frequencies.specs.Frequencies.{frequency_card, next_frequency, frequencies_from}
 use Rattle.columns.proofs.names.Names.{names-count}
@@ -32,7 +32,7 @@ use Rattle.table.proofs.Names.{names-of}
 
 pub frequency-room : (names line : List ℕ) (n : ℕ) (f : Frequency) → next_frequency (names_from names 0 n) line ≡ gives f → n < most_frequencies
 unfolding next_frequency
-frequency-room names line n f e = rw (names-count names 0 n) at (had-room most_frequencies Too_many_frequencies (length (names_from names 0 n)) line (frequency_card (names_from names 0 n) line) f e)
+frequency-room names line n f e = rw (names-count names 0 n) at (had-room most_frequencies TooManyFrequencies (length (names_from names 0 n)) line (frequency_card (names_from names 0 n) line) f e)
 
 -- the frequency is the number in its field
 pub frequency-read : (line : List ℕ) (r : Natural) → frequency_read line r ≡ (natural_gives r >>= λ f. good (record { name = columns line frequency_name 5; frequency = nat_abs f }))
@@ -69,7 +69,7 @@ frequency-put names speeds name v n wide fits room =
 
 -- the frequencies from byte `at` on, as the code reads the line there and steps to the next; or none left
 module _ (file : List ℕ) (at n : ℕ) (names speeds : List ℕ) (count : ℕ) where
-  pub frequencies-step : (next : ℕ) (line : List ℕ) (r : Frequency_step) → at < length file → line ≡ first_line (drop at file) → drop next file ≡ rest_lines (drop at file)
+  pub frequencies-step : (next : ℕ) (line : List ℕ) (r : FrequencyStep) → at < length file → line ≡ first_line (drop at file) → drop next file ≡ rest_lines (drop at file)
       → frequency_gives line r ≡ next_frequency (names_from names 0 count) line
       → frequencies_from (lines_of (drop at file)) n (listed (frequency_of names speeds) 0 count)
       ≡ onward_or_end (frequency_gives line r) n (given (listed (frequency_of names speeds) 0 count) (lines_of (drop next file)) (n + 1))
@@ -78,6 +78,6 @@ module _ (file : List ℕ) (at n : ℕ) (names speeds : List ℕ) (count : ℕ) 
   frequencies-step next line r h first rest card =
       rw (lines-here file at next line h first rest, names-of names speeds 0 count, ← card)
 
-  pub frequencies-end : length file ≤ at → frequencies_from (lines_of (drop at file)) n (listed (frequency_of names speeds) 0 count) ≡ ended Ended_in_frequencies n
+  pub frequencies-end : length file ≤ at → frequencies_from (lines_of (drop at file)) n (listed (frequency_of names speeds) 0 count) ≡ ended EndedInFrequencies n
   unfolding frequencies_from
   frequencies-end h = rw (lines_end file at h)

@@ -4,8 +4,8 @@ use mathlib.Core.Path.{◌≡◌, refl, ◌∙◌}
 use Prim.Native.Nat.{ℕ, suc, ◌+◌, ◌-◌, ◌*◌, ◌≤◌, ◌<◌}
 use mathlib.Core.List.{List, [], ◌∷◌, ◌++◌}
 use native.Mathlib.Omega.{arith}
-use lib.Int_n.{ℤ, pos}
-use lib.List_n.{length, set, length-append}
+use lib.IntN.{ℤ, pos}
+use lib.ListN.{length, set, length-append}
 use lib.Seq.{sets, take_at, get_or_at}
 use Rattle.table.specs.Table.{mark_of, Satellite}
 use Rattle.table.specs.inner.View.{listed, satellite_of}
@@ -13,7 +13,7 @@ use Rattle.table.proofs.Rows.{listed_same, listed-one-more, row_put, row_kept}
 use Rattle.refusals.specs.Checked.{good, ◌>>=◌}
 use Rattle.card_mains.specs.Satellite.{satellite}
 use Rattle.card_mains.specs.Satellites.{satellites_on}
-use Rattle.card_mains.specs.inner.Satellites.{As_before}
+use Rattle.card_mains.specs.inner.Satellites.{AsBefore}
 use Rattle.table.proofs.Rows.{ends_with}
 
 -- satellite k stored
@@ -31,14 +31,14 @@ module _ (angles : List ℤ) (ratios : List ℕ) (k : ℕ) (ds : List ℤ) (p : 
         get_or_at ds p [] (pos 0) 3 three,
       )
 
-  pub satellite-kept : As_before (satellite_of (set (sets angles (4 * k) ds) (4 * k + 3) p) (sets ratios (2 * k) (ratio ∷ mark ∷ []))) (satellite_of angles ratios) k
+  pub satellite-kept : AsBefore (satellite_of (set (sets angles (4 * k) ds) (4 * k + 3) p) (sets ratios (2 * k) (ratio ∷ mark ∷ []))) (satellite_of angles ratios) k
   unfolding satellite_of
   satellite-kept i h =
       let four : length (ds ++ (p ∷ [])) ≡ 4 = rw (length-append ds (p ∷ []), three) in
       rw (ends_with angles (4 * k) ds p 3 three, row_kept (pos 0) 4 angles k (ds ++ (p ∷ [])) four i h, row_kept 0 2 ratios k (ratio ∷ mark ∷ []) refl i h)
 
 -- a satellite more, behind those from `first` on
-pub satellites-grow : (f g : ℕ → Satellite) (first n : ℕ) (s : Satellite) → As_before f g (first + n) → f (first + n) ≡ s → listed f first (n + 1) ≡ listed g first n ++ (s ∷ [])
+pub satellites-grow : (f g : ℕ → Satellite) (first n : ℕ) (s : Satellite) → AsBefore f g (first + n) → f (first + n) ≡ s → listed f first (n + 1) ≡ listed g first n ++ (s ∷ [])
 satellites-grow f g first n s kept new = listed-one-more f first n ∙ rw (new, listed_same f g first n (λ i a b. kept i b))
 
 -- the satellites of a card, satellite j next: one more, or none left

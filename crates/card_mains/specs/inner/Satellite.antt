@@ -3,8 +3,8 @@ use Rattle.std.specs.Prelude.{take}
 use Rattle.table.specs.Table.{mark_of, Satellite}
 use Rattle.card.specs.inner.Answers.{check_gives}
 use Rattle.card.specs.Card.{Card}
-use Rattle.card_mains.specs.declared.satellitefields.Satellite_read.{Satellite_read}
+use Rattle.card_mains.specs.declared.satellitefields.SatelliteRead.{SatelliteRead}
 
 -- a satellite of a card
-abbrev pub satellite_gives : Satellite_read → Card Satellite
+abbrev pub satellite_gives : SatelliteRead → Card Satellite
 satellite_gives s = check_gives s.check (record { differences = take 3 s.differences; phase = s.phase; ratio = s.ratio; mark = mark_of s.mark })

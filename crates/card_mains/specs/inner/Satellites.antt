@@ -3,9 +3,9 @@ use Rattle.std.specs.Prelude.{ℕ, ◌<◌, ◌*◌, ◌≡◌, List, length, �
 use Rattle.limits.specs.Limits.{most_satellites}
 
 -- the entries before one are as they were
-abbrev pub As_before : {A : Type 0} → (ℕ → A) → (ℕ → A) → ℕ → Type 0
-As_before now before n = (k : ℕ) → k < n → now k ≡ before k
+abbrev pub AsBefore : {A : Type 0} → (ℕ → A) → (ℕ → A) → ℕ → Type 0
+AsBefore now before n = (k : ℕ) → k < n → now k ≡ before k
 
 -- the arrays of satellites have all their rows
-abbrev pub Satellite_room : List ℤ → List ℕ → Type 0
-Satellite_room angles ratios = (length angles ≡ 4 * most_satellites) × (length ratios ≡ 2 * most_satellites)
+abbrev pub SatelliteRoom : List ℤ → List ℕ → Type 0
+SatelliteRoom angles ratios = (length angles ≡ 4 * most_satellites) × (length ratios ≡ 2 * most_satellites)

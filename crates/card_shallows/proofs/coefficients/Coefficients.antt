@@ -4,15 +4,15 @@ use mathlib.Core.Path.{◌≡◌, refl}
 use mathlib.Core.Bool.{Bool, true, false, cond}
 use Prim.Native.Nat.{ℕ, zero, suc, ◌+◌, ◌/◌, ◌%◌, ◌≤◌, ◌<◌}
 use native.Mathlib.Omega.{arith}
-use lib.Int_n.{ℤ, pos, negsuc, neg_ℤ, nat_abs}
+use lib.IntN.{ℤ, pos, negsuc, neg_ℤ, nat_abs}
 use lib.Signed.{le_z, quot_z, rem_z}
 use borrow.Author.Tests.{leb-true, ltb-false, eq-eqb, ne_eqb, lt-ltb, le-ltb}
 use mir.Syntax.{w8, w64}
 use mir.Val.{SFits}
 use Rattle.limits.specs.Limits.{most_sizes}
 use Rattle.refusals.specs.Checked.{good, bad}
-use Rattle.card.specs.declared.faults.Trouble.The_variants.{Out_of_range, Not_whole, Past_twelve}
-use Rattle.card.specs.declared.formats.Number_field.{Number_field}
+use Rattle.card.specs.declared.faults.Trouble.TheVariants.{OutOfRange, NotWhole, PastTwelve}
+use Rattle.card.specs.declared.formats.NumberField.{NumberField}
 use Rattle.card.specs.Formats.{fault_in}
 use Rattle.card_shallows.specs.Coefficients.{whole_of, is_zero, is_broken, is_past, coefficient}
 
@@ -44,18 +44,18 @@ hundredths-size (pos n) (a, b) = leb-true n 900 b
 hundredths-size (negsuc n) (a, b) = omega (arith, leb-true n 899 a)
 
 -- when hundredths are a coefficient: not 0, whole, and no size in all past 12
-module _ (f : Number_field) (sizes : ℕ) (h : ℤ) where
-  pub coefficient-zero : nat_abs h ≡ 0 → coefficient f sizes h ≡ bad (fault_in f Out_of_range)
+module _ (f : NumberField) (sizes : ℕ) (h : ℤ) where
+  pub coefficient-zero : nat_abs h ≡ 0 → coefficient f sizes h ≡ bad (fault_in f OutOfRange)
   unfolding coefficient
   coefficient-zero z = rw (eq-eqb _ _ z)
 
   module _ (some : nat_abs h ≡ 0 → ⊥) where
-    pub coefficient-broken : 0 < nat_abs h % 100 → coefficient f sizes h ≡ bad (fault_in f Not_whole)
+    pub coefficient-broken : 0 < nat_abs h % 100 → coefficient f sizes h ≡ bad (fault_in f NotWhole)
     unfolding coefficient
     coefficient-broken part = rw (ne_eqb (nat_abs h) 0 some, rem-size h 100, ne_eqb (nat_abs h % 100) 0 (λ e. omega arith))
 
     module _ (exact : nat_abs h % 100 ≡ 0) where
-      pub coefficient-large : most_sizes < sizes + nat_abs h / 100 → coefficient f sizes h ≡ bad (fault_in f Past_twelve)
+      pub coefficient-large : most_sizes < sizes + nat_abs h / 100 → coefficient f sizes h ≡ bad (fault_in f PastTwelve)
       unfolding coefficient
       coefficient-large over = rw (ne_eqb (nat_abs h) 0 some, rem-size h 100, eq-eqb (nat_abs h % 100) 0 exact, quot-size h 100, lt-ltb most_sizes (sizes + nat_abs h / 100) over)
 
@@ -64,11 +64,11 @@ module _ (f : Number_field) (sizes : ℕ) (h : ℤ) where
       coefficient-good within = rw (ne_eqb (nat_abs h) 0 some, rem-size h 100, eq-eqb (nat_abs h % 100) 0 exact, quot-size h 100, le-ltb most_sizes (sizes + nat_abs h / 100) within)
 
 -- a coefficient that is good leaves the sizes at 12 or below
-pub coefficient-sizes : (f : Number_field) (sizes : ℕ) (h c : ℤ) → coefficient f sizes h ≡ good c → sizes + nat_abs c ≤ most_sizes
+pub coefficient-sizes : (f : NumberField) (sizes : ℕ) (h c : ℤ) → coefficient f sizes h ≡ good c → sizes + nat_abs c ≤ most_sizes
 unfolding coefficient
 coefficient-sizes f sizes h c e = go (is_zero h) (is_broken h) (is_past sizes h) refl e
   where
-    go : (s t u : Bool) → is_past sizes h ≡ u → cond s (bad (fault_in f Out_of_range)) (cond t (bad (fault_in f Not_whole)) (cond u (bad (fault_in f Past_twelve)) (good (whole_of h)))) ≡ good c → sizes + nat_abs c ≤ most_sizes
+    go : (s t u : Bool) → is_past sizes h ≡ u → cond s (bad (fault_in f OutOfRange)) (cond t (bad (fault_in f NotWhole)) (cond u (bad (fault_in f PastTwelve)) (good (whole_of h)))) ≡ good c → sizes + nat_abs c ≤ most_sizes
     go true t u k q = let z : ◌≡◌ {A = ℕ} 0 1 = cc in absurd (omega arith)
     go false true u k q = let z : ◌≡◌ {A = ℕ} 0 1 = cc in absurd (omega arith)
     go false false true k q = let z : ◌≡◌ {A = ℕ} 0 1 = cc in absurd (omega arith)

@@ -5,8 +5,8 @@ use mathlib.Core.List.{List, [], ◌∷◌, ◌++◌}
 use Prim.Native.Nat.{ℕ, suc, ◌+◌, ◌-◌, ◌≤◌, ◌<◌}
 use native.Mathlib.Omega.{arith}
 use native.Mathlib.Nat.{zero-add}
-use lib.Int_n.{ℤ, pos, nat_abs}
-use lib.List_n.{length, set}
+use lib.IntN.{ℤ, pos, nat_abs}
+use lib.ListN.{length, set}
 use lib.Seq.{get_or-set_same, get_or-set_other}
 use Rattle.columns.specs.Columns.{columns}
 use Rattle.table.specs.Table.{Part}
@@ -19,8 +19,8 @@ use Rattle.card.specs.Card.{Card, number}
 use Rattle.card_shallows.specs.Coefficients.{coefficient, coefficient_in}
 use Rattle.card_shallows.specs.Parts.{parts_on}
 use Rattle.card.specs.Places.{main_named}
-use Rattle.card_shallows.specs.declared.parts.Part_read.{Part_read}
-use Rattle.card_shallows.specs.declared.parts.Part_read.The_variants.{Gives}
+use Rattle.card_shallows.specs.declared.parts.PartRead.{PartRead}
+use Rattle.card_shallows.specs.declared.parts.PartRead.TheVariants.{Gives}
 use Rattle.card_shallows.specs.inner.Answers.{part_gives}
 use Rattle.card_shallows.proofs.coefficients.Coefficients.{coefficient-sizes}
 use Rattle.card_shallows.specs.Parts as shallows
@@ -70,7 +70,7 @@ module _ (names : List (List ℕ)) (mains : List ℕ) (line : List ℕ) where
       from (bad r) q = let z : ◌≡◌ {A = ℕ} 0 1 = cc in absurd (omega arith)
 
   -- and so does one that the code has read
-  pub read-sizes : (sizes j : ℕ) (r : Part_read) (c : ℤ) (m : ℕ) → r ≡ Gives c m → part_gives r ≡ shallows.part names mains sizes line j → sizes + nat_abs c ≤ most_sizes
+  pub read-sizes : (sizes j : ℕ) (r : PartRead) (c : ℤ) (m : ℕ) → r ≡ Gives c m → part_gives r ≡ shallows.part names mains sizes line j → sizes + nat_abs c ≤ most_sizes
   read-sizes sizes j r c m told is = part-sizes sizes j (record { coefficient = c; main = m }) (rw told at is)
 
 -- a part stored in the rows is the last of them

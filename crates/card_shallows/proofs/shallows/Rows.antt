@@ -5,14 +5,14 @@ use mathlib.Core.List.{List, [], ◌∷◌, ◌++◌}
 use Prim.Native.Nat.{ℕ, zero, suc, ◌+◌, ◌*◌, ◌≤◌, ◌<◌}
 use native.Mathlib.Omega.{arith}
 use native.Mathlib.Nat.{zero-add, add-zero}
-use lib.Int_n.{ℤ, pos}
-use lib.List_n.{length, get_or, drop}
+use lib.IntN.{ℤ, pos}
+use lib.ListN.{length, get_or, drop}
 use lib.Seq.{sets}
 use Rattle.columns.specs.Lines.{lines_of, first_line, rest_lines}
 use Rattle.table.specs.inner.View.{listed, shallow_of}
 use Rattle.table.proofs.Rows.{listed_same, listed-one-more, listed-length, row_at, row_put, row_kept}
 use Rattle.limits.specs.Limits.{most_shallows}
-use Rattle.card.specs.declared.faults.Trouble.The_variants.{Too_many_shallows, Ended_in_shallows}
+use Rattle.card.specs.declared.faults.Trouble.TheVariants.{TooManyShallows, EndedInShallows}
 use Rattle.card.specs.Card.{given, ended, onward_or_end}
 use Rattle.card_shallows.specs.Shallow.{shallow_card, next_shallow}
 use Rattle.card_shallows.specs.Shallows.{shallow_places, shallows_from}
@@ -20,9 +20,9 @@ use Rattle.card.specs.inner.Places.{places_in}
 use Rattle.card.proofs.lines.Walk.{lines-here, lines_end}
 use Rattle.card.proofs.lines.Openings.{had-room}
 use Rattle.card_shallows.specs.inner.Answers.{in_rows, step_gives, shallow_gives}
-use Rattle.card_shallows.specs.declared.parts.Shallow_step.{Shallow_step}
-use Rattle.card_shallows.specs.declared.parts.Shallow_step.The_variants.{Gives}
-use Rattle.card_shallows.specs.declared.parts.Shallow_read.{Shallow_read}
+use Rattle.card_shallows.specs.declared.parts.ShallowStep.{ShallowStep}
+use Rattle.card_shallows.specs.declared.parts.ShallowStep.TheVariants.{Gives}
+use Rattle.card_shallows.specs.declared.parts.ShallowRead.{ShallowRead}
 
 -- a row begins with its place
 pub places_of : (cards : List ℕ) (coefficients : List ℤ) (k n : ℕ) → shallow_places (listed (shallow_of cards coefficients) k n) ≡ listed (λ i. get_or cards (6 * i) 0) k n
@@ -32,11 +32,11 @@ places_of cards coefficients k (suc n) =
     rw (row_at 0 6 cards k 0 (omega arith), add-zero (6 * k), places_of cards coefficients (suc k) n)
 
 -- a card that gives a constituent had room
-pub shallow-room : (names : List (List ℕ)) (mains : List ℕ) (cards line : List ℕ) (n : ℕ) (r : Shallow_read) → r.step ≡ Gives → shallow_gives r ≡ next_shallow names mains (places_in 6 cards n) line → n < most_shallows
+pub shallow-room : (names : List (List ℕ)) (mains : List ℕ) (cards line : List ℕ) (n : ℕ) (r : ShallowRead) → r.step ≡ Gives → shallow_gives r ≡ next_shallow names mains (places_in 6 cards n) line → n < most_shallows
 unfolding next_shallow
 shallow-room names mains cards line n r told card =
-    let e = sym card ∙ ap (λ (s : Shallow_step). step_gives s (in_rows r.card r.coefficients)) told in
-    rw (listed-length (λ i. get_or cards (6 * i) 0) 0 n) at (had-room most_shallows Too_many_shallows (length (places_in 6 cards n)) line (shallow_card names mains (places_in 6 cards n) line) _ e)
+    let e = sym card ∙ ap (λ (s : ShallowStep). step_gives s (in_rows r.card r.coefficients)) told in
+    rw (listed-length (λ i. get_or cards (6 * i) 0) 0 n) at (had-room most_shallows TooManyShallows (length (places_in 6 cards n)) line (shallow_card names mains (places_in 6 cards n) line) _ e)
 
 -- a constituent stored in the next rows
 pub shallow-put : (cards : List ℕ) (coefficients : List ℤ) (card : List ℕ) (row : List ℤ) (n : ℕ) → length card ≡ 6 → length row ≡ 4 → 6 * n + 6 ≤ length cards → 4 * n + 4 ≤ length coefficients
@@ -54,7 +54,7 @@ shallow-put cards coefficients card row n wide wide' fits fits' =
 
 -- the cards from byte `at` on, as the code reads the line there and steps to the next; or none left
 module _ (names : List (List ℕ)) (mains : List ℕ) (file : List ℕ) (at n : ℕ) (cards : List ℕ) (coefficients : List ℤ) (count : ℕ) where
-  pub shallows-step : (next : ℕ) (line : List ℕ) (r : Shallow_read) → at < length file → line ≡ first_line (drop at file) → drop next file ≡ rest_lines (drop at file)
+  pub shallows-step : (next : ℕ) (line : List ℕ) (r : ShallowRead) → at < length file → line ≡ first_line (drop at file) → drop next file ≡ rest_lines (drop at file)
       → shallow_gives r ≡ next_shallow names mains (places_in 6 cards count) line
       → shallows_from names mains (lines_of (drop at file)) n (listed (shallow_of cards coefficients) 0 count)
       ≡ onward_or_end (shallow_gives r) n (given (listed (shallow_of cards coefficients) 0 count) (lines_of (drop next file)) (n + 1))
@@ -63,6 +63,6 @@ module _ (names : List (List ℕ)) (mains : List ℕ) (file : List ℕ) (at n : 
   shallows-step next line r h first rest card =
       rw (lines-here file at next line h first rest, places_of cards coefficients 0 count, ← card)
 
-  pub shallows-end : length file ≤ at → shallows_from names mains (lines_of (drop at file)) n (listed (shallow_of cards coefficients) 0 count) ≡ ended Ended_in_shallows n
+  pub shallows-end : length file ≤ at → shallows_from names mains (lines_of (drop at file)) n (listed (shallow_of cards coefficients) 0 count) ≡ ended EndedInShallows n
   unfolding shallows_from
   shallows-end h = rw (lines_end file at h)

@@ -3,7 +3,7 @@
 use mathlib.Core.Path.{◌≡◌, sym, ◌∙◌, ap, ap₂}
 use Prim.Native.Nat.{ℕ, ◌+◌, ◌*◌}
 use native.Mathlib.Nat.{add_comm}
-use lib.Int_n.{ℤ, pos, neg_ℤ, one, ◌+ℤ◌, ◌-ℤ◌, ◌*ℤ◌, +ℤ_idl, +ℤ_invr, +ℤ-neg_ℤ_cancel, *ℤ-one}
+use lib.IntN.{ℤ, pos, neg_ℤ, one, ◌+ℤ◌, ◌-ℤ◌, ◌*ℤ◌, +ℤ_idl, +ℤ_invr, +ℤ-neg_ℤ_cancel, *ℤ-one}
 use Rattle.angles.specs.Ticks.{centidegree}
 use Rattle.angles.specs.Floor.{mod_turn}
 use Rattle.angles.proofs.Ints.{distrib-sub}

@@ -4,8 +4,8 @@ use Prim.{tt}
 use mathlib.Core.Path.{◌≡◌, refl, ◌∙◌, ap}
 use mathlib.Core.List.{[], ◌∷◌}
 use Prim.Native.Nat.{ℕ}
-use lib.Int_n as ints
-use lib.Int_n.{ℤ, pos, negsuc, neg_ℤ, ◌*ℤ◌, *ℤ-one, *ℤ-zero, *ℤ-negsuc}
+use lib.IntN as ints
+use lib.IntN.{ℤ, pos, negsuc, neg_ℤ, ◌*ℤ◌, *ℤ-one, *ℤ-zero, *ℤ-negsuc}
 use Rattle.cosine.specs.Fraction.{factorial, arc, unit, term, added, taken, whole, base}
 use Rattle.cosine.specs.Fixed.{one, entry, fixed_base, fixed_cosine}
 use Rattle.calendar.specs.Calendar.{is_fourth, month_days, months_days, years_days, day_count}
@@ -14,7 +14,7 @@ use Rattle.month_arguments.specs.Arguments.{argument}
 use Rattle.month_satellites.specs.Satellites.{sum_over, main_pair}
 use Rattle.month.specs.Month.{constituent}
 use Rattle.heights.specs.Height.{height_at}
-use Rattle.claim.specs.Starred.{starred, Z0, Starred_hold}
+use Rattle.claim.specs.Starred.{starred, Z0, StarredHold}
 use Rattle.claim.proofs.cases.Advance.{advance-is}
 use Rattle.claim.proofs.cases.Level.{level-height, cosine_of_lag}
 
@@ -28,7 +28,7 @@ module _ (A minute : ℕ) where
   unfolding constituent argument times longitudes_on longitude day_count years_days months_days month_days is_fourth main_pair sum_over
   z0-height lag s e = level-height A s lag minute e
 
-pub all_hold : Starred_hold
+pub all_hold : StarredHold
 unfolding starred fixed_cosine fixed_base entry base added taken whole term factorial arc unit argument times longitudes_on longitude day_count years_days months_days month_days is_fourth ints.one
 all_hold A minute =
     refl and refl and refl and refl and refl and refl and ap pos (advance-is 0 0 805_114_007 minute) and refl and refl

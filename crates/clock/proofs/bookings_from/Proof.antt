@@ -2,7 +2,7 @@
 use borrow.Author.Rules.{rules}
 use native.Mathlib.Omega.{arith}
 use mathlib.Core.Path.{◌≡◌, sym, ap, ◌∙◌}
-use lib.List_n.{length}
+use lib.ListN.{length}
 use Rattle.limits.specs.Limits.{most_records}
 use Rattle.refusals.specs.Outcome.{outcome_of}
 use Rattle.month_prepared.specs.inner.View.{constituents_from}

@@ -1,26 +1,26 @@
--- `clock::bookings_lent` meets its contract: a walk of its MIR. The clock's arrays are lent on and its numbers read (`Lent_on`), the two slices are passed on, and all goes to the covered `bookings_from`. Assumes nothing.
+-- `clock::bookings_lent` meets its contract: a walk of its MIR. The clock's arrays are lent on and its numbers read (`LentOn`), the two slices are passed on, and all goes to the covered `bookings_from`. Assumes nothing.
 use types.Logic.{Logic}
 use denote.Ref.{Bor, shr_vals}
-use Rattle.clock.proofs.Walking.{refl, ℕ, List, [], ◌∷◌, length, Ura, named, SProp, ent, emp, id⊢, Lft, Share, Memory, Routine, Calls, Loops, Wp_fn, Fun, fact_i, tables_of, ‵, raw, ◌$◌, ◌∵◌, !, qed, move, fsplit, suffices, frame, done, whole, sub, look_in, look, init, forget, stop, hop, fld, from, load, and_then, no_more, assigns, land, returns, enter, alloc1, alloc0, params1, pass1, pass0, free1, free0, Fm_c, owns, Is, shows, u32, Ref_t, ptr-vals, peeks, Vals, Contract, Triple, cited, says, needs, Stays, walk_of, Walks, ends_at, walked, Met, asks, walks-meet}
-use lib.Int_n.{ℤ}
+use Rattle.clock.proofs.Walking.{refl, ℕ, List, [], ◌∷◌, length, Ura, named, SProp, ent, emp, id⊢, Lft, Share, Memory, Routine, Calls, Loops, WpFn, Fun, fact_i, tables_of, ‵, raw, ◌$◌, ◌∵◌, !, qed, move, fsplit, suffices, frame, done, whole, sub, look_in, look, init, forget, stop, hop, fld, from, load, and_then, no_more, assigns, land, returns, enter, alloc1, alloc0, params1, pass1, pass0, free1, free0, FmC, owns, Is, shows, u32, RefT, ptr-vals, peeks, Vals, Contract, Triple, cited, says, needs, Stays, walk_of, Walks, ends_at, walked, Met, asks, walks-meet}
+use lib.IntN.{ℤ}
 use contract.Lifetimes.{toks}
 use types.Part.{agg}
 use types.Run.{addr}
-use denote.Rattle_type.{Rattle_type, Denots}
+use denote.RattleType.{RattleType, Denots}
 use denote.Builtin.{i64}
-use denote.Ref.{Shr_ref, shr_Tells}
-use denote.Slice.{slice_val, Shr_slice, Mut_slice, Room, shr_slice_vals, mut_slice_vals, shr_slice_Tells, mut_slice_Tells}
+use denote.Ref.{ShrRef, shr_Tells}
+use denote.Slice.{slice_val, ShrSlice, MutSlice, Room, shr_slice_vals, mut_slice_vals, shr_slice_Tells, mut_slice_Tells}
 use denote.Enum.Laws as EL
 use Rattle.refusals.specs.declared.Answer.{Answer}
 use Rattle.refusals.specs.Outcome.{outcome_of}
 use Rattle.refusals.specs.contracts.Answer as R
-use Rattle.refusals.proofs.Answer.The_laws as R'
+use Rattle.refusals.proofs.Answer.TheLaws as R'
 use Rattle.clock.specs.declared.Clock.{Clock}
 use Rattle.clock.specs.View.{Made}
-use Rattle.clock.specs.inner.Posts.{Bookings_from}
+use Rattle.clock.specs.inner.Posts.{BookingsFrom}
 use Rattle.clock.proofs.Lent.{parts-made, bookings-from-parts}
-use Rattle.clock.proofs.Lent_on.{lent_args, lent_vals, lent-on, of-the-others}
-use Rattle.clock.proofs.Passed_on.{all-passed, all_go}
+use Rattle.clock.proofs.LentOn.{lent_args, lent_vals, lent-on, of-the-others}
+use Rattle.clock.proofs.PassedOn.{all-passed, all_go}
 use Rattle.clock.specs.contracts.Clock as T
 use Rattle.clock.specs.contracts.bookings_from as inner
 use Rattle.clock.proofs.bookings_from.Symbol as inner-def
@@ -34,7 +34,7 @@ use Rattle.clock.proofs.bookings_lent.Code as code
 abbrev stayed : Stays (it.ended).signature.params (it.ended).kept
 stayed = all-passed (it.ended).signature.params (it.ended).kept
 
-module _ {M : Type 1} {𝓤 : Ura M} (𝓛 : Logic 𝓤) (at_mem : Memory → SProp 𝓤) (run : Routine → Fun 𝓤) (𝓒 : Calls 𝓤 𝓛.H) (Λ : Loops 𝓤 𝓛.H) (fm : Fm_c 𝓤 𝓛.H 𝓛.laws 𝓒)
+module _ {M : Type 1} {𝓤 : Ura M} (𝓛 : Logic 𝓤) (at_mem : Memory → SProp 𝓤) (run : Routine → Fun 𝓤) (𝓒 : Calls 𝓤 𝓛.H) (Λ : Loops 𝓤 𝓛.H) (fm : FmC 𝓤 𝓛.H 𝓛.laws 𝓒)
     (known : Triple 𝓤 (𝓒 #inner) (Met 𝓛 inner.ended (inner.clauses 𝓛 at_mem run))) where
   open 𝓛 use {H}
 
@@ -43,8 +43,8 @@ module _ {M : Type 1} {𝓤 : Ura M} (𝓛 : Logic 𝓤) (at_mem : Memory → SP
 
   module _ (κ κ₁ κ₂ : Lft) (q q₁ q₂ : Share) (x : Bor Clock) (minutes : Bor (List ℕ)) (heights : Bor (List ℤ)) where
     -- the two slices
-    abbrev others : List Rattle_type
-    others = Shr_slice (named 1) κ₁ u32 ∷ Mut_slice (named 2) κ₂ i64 ∷ []
+    abbrev others : List RattleType
+    others = ShrSlice (named 1) κ₁ u32 ∷ MutSlice (named 2) κ₂ i64 ∷ []
 
     abbrev slices : Denots others
     slices = (minutes, (heights, tt))
@@ -57,11 +57,11 @@ module _ {M : Type 1} {𝓤 : Ura M} (𝓛 : Logic 𝓤) (at_mem : Memory → SP
 
     -- what the call says
     abbrev Said : Answer → List ℤ → Type 0
-    Said r left = Bookings_from x.now.tabled x.now.stationed x.now.dated x.now.last x.now.count x.now.arguments x.now.lags x.now.frequencies x.now.ps x.now.qs minutes.now heights.now left (outcome_of r)
+    Said r left = BookingsFrom x.now.tabled x.now.stationed x.now.dated x.now.last x.now.count x.now.arguments x.now.lags x.now.frequencies x.now.ps x.now.qs minutes.now heights.now left (outcome_of r)
 
-    walk : Room u32 (length minutes.now) → Room i64 (length heights.now) → ent 𝓤 (Walk.pre ghosts) (Wp_fn 𝓤 H 𝓒 Λ code.function (Walk.args ghosts) (Walk.post ghosts))
+    walk : Room u32 (length minutes.now) → Room i64 (length heights.now) → ent 𝓤 (Walk.pre ghosts) (WpFn 𝓤 H 𝓒 Λ code.function (Walk.args ghosts) (Walk.post ghosts))
     walk gm gh = needs 𝓤 (Made x.now) _ (λ made.
-        qed 𝓛 (raw (toks 𝓛 3 (κ, (κ₁, (κ₂, tt))) (q, (q₁, (q₂, tt)))) ∷ ‵ (owns (Shr_ref (named 0) κ T.the_row ∷ others) (x, slices) at) ∷ []) ∵ enter ! 𝓒 Λ code.function (Walk.args ghosts) _ $
+        qed 𝓛 (raw (toks 𝓛 3 (κ, (κ₁, (κ₂, tt))) (q, (q₁, (q₂, tt)))) ∷ ‵ (owns (ShrRef (named 0) κ T.the_row ∷ others) (x, slices) at) ∷ []) ∵ enter ! 𝓒 Λ code.function (Walk.args ghosts) _ $
         alloc1 ! (λ l₀. alloc1 ! (λ l₁. alloc1 ! (λ l₂. alloc1 ! (λ l₃. alloc1 ! (λ l₄. alloc1 ! (λ l₅. alloc1 ! (λ l₆. alloc1 ! (λ l₇. alloc1 ! (λ l₈. alloc1 ! (λ l₉. alloc1 ! (λ l₁₀. alloc1 ! (λ l₁₁. alloc1 ! (λ l₁₂. alloc1 ! (λ l₁₃. alloc1 ! (λ l₁₄. alloc1 ! (λ l₁₅. alloc1 ! (λ l₁₆. alloc0 ! $ params1 ! $
         pass1 ! (init ! 30 refl (tt, tt)) $ pass1 ! (init ! 28 refl (tt, (tt, (record { fits = gm.0 }, tt)))) $ pass1 ! (init ! 26 refl (tt, (tt, (record { fits = gh.0 }, tt)))) $ pass0 ! $
         move ! (35 ∷ []) $ fsplit ! $ move ! (0 ∷ 1 ∷ 36 ∷ 26 ∷ 24 ∷ 22 ∷ 20 ∷ 18 ∷ 16 ∷ 14 ∷ 12 ∷ 10 ∷ 8 ∷ 6 ∷ 32 ∷ []) $
@@ -79,8 +79,8 @@ module _ {M : Type 1} {𝓤 : Ura M} (𝓛 : Logic 𝓤) (at_mem : Memory → SP
         suffices ! _ (ends_at 𝓛 it.ended stayed (it.clauses 𝓛 at_mem run) ghosts v r (tt, (tt, (ws.1.1.1.1.1.1.1.1.1.1.1.1.0, tt))) (tt, (tt, (tt, tt)))) $ says ! (bookings-from-parts x.now minutes.now heights.now _ (outcome_of r) p) $
         move ! (1 ∷ []) $ frame ! $ move ! (1 ∷ []) $ of-the-others 𝓛 $ frame ! $ done !)))))))))))))))))))))
 
-  walks : Walks 𝓛 it.ended stayed (Wp_fn 𝓤 H 𝓒 Λ code.function) (it.clauses 𝓛 at_mem run)
-  walks = walked 𝓛 it.ended stayed (it.clauses 𝓛 at_mem run) (Wp_fn 𝓤 H 𝓒 Λ code.function)
+  walks : Walks 𝓛 it.ended stayed (WpFn 𝓤 H 𝓒 Λ code.function) (it.clauses 𝓛 at_mem run)
+  walks = walked 𝓛 it.ended stayed (it.clauses 𝓛 at_mem run) (WpFn 𝓤 H 𝓒 Λ code.function)
       (λ κs. (shr_vals, (shr_slice_vals, (mut_slice_vals, tt)))) (λ κs. (shr_Tells (named 0) κs.0 T.the_row, (shr_slice_Tells (named 1) κs.1.0 u32, (mut_slice_Tells (named 2) κs.1.1.0 i64, tt))))
       (λ κs qs bounds a g are. walk κs.0 κs.1.0 κs.1.1.0 qs.0 qs.1.0 qs.1.1.0 a.0 a.1.0 a.1.1.0 are.1.0.0.1 are.1.1.0.0.1)
 

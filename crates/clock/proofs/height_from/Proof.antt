@@ -4,12 +4,12 @@ use Rattle.clock.proofs.height_from.Statement.{statement}
 use Rattle.clock.proofs.height_from.Tie as tie
 use native.Mathlib.Omega.{arith}
 use Prim.Native.Nat.{◌≤◌}
-use lib.List_n.{length}
+use lib.ListN.{length}
 use Rattle.limits.specs.Limits.{most_minutes, most_records}
 use mathlib.Core.Path.{◌≡◌, sym, ap, ◌∙◌}
 use mir.Syntax.{w64}
 use mir.Val.{SFits}
-use mir.Val_laws.{to_z-of_z}
+use mir.ValLaws.{to_z-of_z}
 use Rattle.refusals.specs.Outcome.{outcome_of}
 use Rattle.month_prepared.specs.inner.View.{constituents_from}
 use Rattle.calls.proofs.asked.Passed.{height-within}

@@ -1,21 +1,21 @@
--- `clock::height_lent` meets its contract: a walk of its MIR. The clock's arrays are lent on and its numbers read (`Lent_on`), and all goes to the covered `height_from`. Assumes nothing.
+-- `clock::height_lent` meets its contract: a walk of its MIR. The clock's arrays are lent on and its numbers read (`LentOn`), and all goes to the covered `height_from`. Assumes nothing.
 use types.Logic.{Logic}
 use denote.Ref.{Bor, shr_vals}
-use Rattle.clock.proofs.Walking.{refl, ℕ, ◌<◌, ◌^◌, [], ◌∷◌, Ura, named, w32, vint, SProp, ent, emp, id⊢, Lft, Share, Memory, Routine, Calls, Loops, Wp_fn, Fun, fact_i, tables_of, ‵, raw, ◌$◌, ◌∵◌, !, qed, move, fsplit, suffices, frame, done, look, init, forget, stop, from, load, and_then, no_more, land, returns, enter, alloc1, alloc0, params1, pass1, pass0, free1, free0, Fm_c, owns, Is, shows, uint_vals, uint_Tells, u32, Ref_t, ptr-vals, peeks, Vals, Contract, Triple, cited, says, needs, Stays, walk_of, Walks, ends_at, walked, Met, asks, walks-meet}
+use Rattle.clock.proofs.Walking.{refl, ℕ, ◌<◌, ◌^◌, [], ◌∷◌, Ura, named, w32, vint, SProp, ent, emp, id⊢, Lft, Share, Memory, Routine, Calls, Loops, WpFn, Fun, fact_i, tables_of, ‵, raw, ◌$◌, ◌∵◌, !, qed, move, fsplit, suffices, frame, done, look, init, forget, stop, from, load, and_then, no_more, land, returns, enter, alloc1, alloc0, params1, pass1, pass0, free1, free0, FmC, owns, Is, shows, uint_vals, uint_Tells, u32, RefT, ptr-vals, peeks, Vals, Contract, Triple, cited, says, needs, Stays, walk_of, Walks, ends_at, walked, Met, asks, walks-meet}
 use contract.Lifetimes.{toks}
-use denote.Ref.{Shr_ref, shr_Tells}
+use denote.Ref.{ShrRef, shr_Tells}
 use denote.Enum.Laws as EL
 use Rattle.clock.specs.declared.Clock.{Clock}
-use Rattle.clock.specs.declared.Height_answer.{Height_answer}
+use Rattle.clock.specs.declared.HeightAnswer.{HeightAnswer}
 use Rattle.clock.specs.View.{Made}
 use Rattle.clock.specs.Returned.{height_returned}
-use Rattle.clock.specs.inner.Posts.{Height_from}
+use Rattle.clock.specs.inner.Posts.{HeightFrom}
 use Rattle.clock.proofs.Lent.{parts-made, from_parts}
-use Rattle.clock.proofs.Lent_on.{lent_args, lent_vals, lent-on, of-the-others}
-use Rattle.clock.proofs.Passed_on.{all-passed, all_go}
+use Rattle.clock.proofs.LentOn.{lent_args, lent_vals, lent-on, of-the-others}
+use Rattle.clock.proofs.PassedOn.{all-passed, all_go}
 use Rattle.clock.specs.contracts.Clock as T
-use Rattle.clock.specs.contracts.Height_answer as R
-use Rattle.clock.proofs.Height_answer.The_laws as R'
+use Rattle.clock.specs.contracts.HeightAnswer as R
+use Rattle.clock.proofs.HeightAnswer.TheLaws as R'
 use Rattle.clock.specs.contracts.height_from as inner
 use Rattle.clock.proofs.height_from.Symbol as inner-def
 use Rattle.clock.proofs.height_from.Symbol.{name as #inner}
@@ -28,7 +28,7 @@ use Rattle.clock.proofs.height_lent.Code as code
 abbrev stayed : Stays (it.ended).signature.params (it.ended).kept
 stayed = all-passed (it.ended).signature.params (it.ended).kept
 
-module _ {M : Type 1} {𝓤 : Ura M} (𝓛 : Logic 𝓤) (at_mem : Memory → SProp 𝓤) (run : Routine → Fun 𝓤) (𝓒 : Calls 𝓤 𝓛.H) (Λ : Loops 𝓤 𝓛.H) (fm : Fm_c 𝓤 𝓛.H 𝓛.laws 𝓒)
+module _ {M : Type 1} {𝓤 : Ura M} (𝓛 : Logic 𝓤) (at_mem : Memory → SProp 𝓤) (run : Routine → Fun 𝓤) (𝓒 : Calls 𝓤 𝓛.H) (Λ : Loops 𝓤 𝓛.H) (fm : FmC 𝓤 𝓛.H 𝓛.laws 𝓒)
     (known : Triple 𝓤 (𝓒 #inner) (Met 𝓛 inner.ended (inner.clauses 𝓛 at_mem run))) where
   open 𝓛 use {H}
 
@@ -43,12 +43,12 @@ module _ {M : Type 1} {𝓤 : Ura M} (𝓛 : Logic 𝓤) (at_mem : Memory → SP
     ghosts = (((κ, tt), (q, tt), tt, (x, (m, tt)), at), tt)
 
     -- what the call says
-    abbrev Said : Height_answer → Type 0
-    Said r = Height_from x.now.tabled x.now.stationed x.now.dated x.now.last x.now.count x.now.arguments x.now.lags x.now.frequencies x.now.ps x.now.qs m (height_returned r)
+    abbrev Said : HeightAnswer → Type 0
+    Said r = HeightFrom x.now.tabled x.now.stationed x.now.dated x.now.last x.now.count x.now.arguments x.now.lags x.now.frequencies x.now.ps x.now.qs m (height_returned r)
 
-    walk : m < 2 ^ 32 → ent 𝓤 (Walk.pre ghosts) (Wp_fn 𝓤 H 𝓒 Λ code.function (Walk.args ghosts) (Walk.post ghosts))
+    walk : m < 2 ^ 32 → ent 𝓤 (Walk.pre ghosts) (WpFn 𝓤 H 𝓒 Λ code.function (Walk.args ghosts) (Walk.post ghosts))
     walk gm = needs 𝓤 (Made x.now) _ (λ made.
-        qed 𝓛 (raw (toks 𝓛 1 (κ, tt) (q, tt)) ∷ ‵ (owns (Shr_ref (named 0) κ T.the_row ∷ u32 ∷ []) (x, (m, tt)) at) ∷ []) ∵ enter ! 𝓒 Λ code.function (Walk.args ghosts) _ $
+        qed 𝓛 (raw (toks 𝓛 1 (κ, tt) (q, tt)) ∷ ‵ (owns (ShrRef (named 0) κ T.the_row ∷ u32 ∷ []) (x, (m, tt)) at) ∷ []) ∵ enter ! 𝓒 Λ code.function (Walk.args ghosts) _ $
         alloc1 ! (λ l₀. alloc1 ! (λ l₁. alloc1 ! (λ l₂. alloc1 ! (λ l₃. alloc1 ! (λ l₄. alloc1 ! (λ l₅. alloc1 ! (λ l₆. alloc1 ! (λ l₇. alloc1 ! (λ l₈. alloc1 ! (λ l₉. alloc1 ! (λ l₁₀. alloc1 ! (λ l₁₁. alloc1 ! (λ l₁₂. alloc1 ! (λ l₁₃. alloc0 ! $ params1 ! $
         pass1 ! (init ! 24 refl (tt, tt)) $ pass1 ! (init ! 22 refl (tt, record { fits = gm })) $ pass0 ! $
         move ! (29 ∷ []) $ fsplit ! $ move ! (0 ∷ 1 ∷ 30 ∷ 22 ∷ 20 ∷ 18 ∷ 16 ∷ 14 ∷ 12 ∷ 10 ∷ 8 ∷ 6 ∷ 4 ∷ 2 ∷ 26 ∷ []) $
@@ -64,8 +64,8 @@ module _ {M : Type 1} {𝓤 : Ura M} (𝓛 : Logic 𝓤) (at_mem : Memory → SP
         suffices ! _ (ends_at 𝓛 it.ended stayed (it.clauses 𝓛 at_mem run) ghosts v r (tt, (tt, tt)) (tt, (tt, tt))) $ says ! (from_parts x.now m (height_returned r) p) $
         move ! (1 ∷ []) $ frame ! $ move ! (1 ∷ []) $ of-the-others 𝓛 $ frame ! $ done !))))))))))))))))))
 
-  walks : Walks 𝓛 it.ended stayed (Wp_fn 𝓤 H 𝓒 Λ code.function) (it.clauses 𝓛 at_mem run)
-  walks = walked 𝓛 it.ended stayed (it.clauses 𝓛 at_mem run) (Wp_fn 𝓤 H 𝓒 Λ code.function)
+  walks : Walks 𝓛 it.ended stayed (WpFn 𝓤 H 𝓒 Λ code.function) (it.clauses 𝓛 at_mem run)
+  walks = walked 𝓛 it.ended stayed (it.clauses 𝓛 at_mem run) (WpFn 𝓤 H 𝓒 Λ code.function)
       (λ κs. (shr_vals, (uint_vals w32, tt))) (λ κs. (shr_Tells (named 0) κs.0 T.the_row, (uint_Tells w32, tt)))
       (λ κs qs bounds a g are. walk κs.0 qs.0 a.0 a.1.0 are.1.0.1)
 

@@ -6,7 +6,7 @@ use Rattle.table.specs.inner.View.{table_of}
 use Rattle.station.specs.inner.Station.{station_of}
 use Rattle.calls.proofs.Carded.{cards-refused, cards-given, hourly-tabled}
 use Rattle.clock.specs.View.{view, month_in}
-use Rattle.clock.proofs.One_month.{lent_row}
+use Rattle.clock.proofs.OneMonth.{lent_row}
 use Rattle.clock.proofs.hourly.Statement.{statement}
 use Rattle.clock.proofs.hourly.Tie as tie
 

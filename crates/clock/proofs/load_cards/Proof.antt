@@ -1,8 +1,8 @@
--- `clock::load_cards` meets its contract: a card file's two cases (`Cards_case`). Assumes nothing.
+-- `clock::load_cards` meets its contract: a card file's two cases (`CardsCase`). Assumes nothing.
 use borrow.Author.Rules.{rules}
 use Rattle.clock.proofs.load_cards.Statement.{statement}
 use Rattle.clock.proofs.load_cards.Tie as tie
-use Rattle.clock.proofs.Cards_case.{cards-accepted, cards-refused}
+use Rattle.clock.proofs.CardsCase.{cards-accepted, cards-refused}
 
 read-cards-requires : tie.Need-read-cards-requires
 read-cards-requires c κs = search rules

@@ -3,7 +3,7 @@ use borrow.Author.Rules.{rules}
 use Rattle.clock.proofs.place_station.Statement.{statement}
 use Rattle.clock.proofs.place_station.Tie as tie
 use mir.Syntax.{w32}
-use mir.Val_laws.{to_z-of_z}
+use mir.ValLaws.{to_z-of_z}
 use Rattle.station.specs.Records.{records_of}
 use Rattle.station.specs.Station.{station_lent}
 use Rattle.clock.proofs.Stations.{taken-accepted, taken_refused}

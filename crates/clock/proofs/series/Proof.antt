@@ -9,7 +9,7 @@ use Rattle.station.specs.inner.Station.{station_of}
 use Rattle.calls.proofs.asked.Passed.{series-within}
 use Rattle.calls.proofs.Posed.{series-refused, series-given}
 use Rattle.clock.specs.View.{view, month_in}
-use Rattle.clock.proofs.One_month.{lent_row, one-rows, one_end, one-heights}
+use Rattle.clock.proofs.OneMonth.{lent_row, one-rows, one_end, one-heights}
 
 series-answer-requires : tie.Need-series-answer-requires
 series-answer-requires c κs = search rules

@@ -9,7 +9,7 @@ use Rattle.station.specs.inner.Station.{station_of}
 use Rattle.calls.proofs.asked.Passed.{turns-within}
 use Rattle.calls.proofs.Posed.{turns-refused, turns-given}
 use Rattle.clock.specs.View.{view, month_in}
-use Rattle.clock.proofs.One_month.{lent_row, one-rows, one_end, one-heights, one-slopes}
+use Rattle.clock.proofs.OneMonth.{lent_row, one-rows, one_end, one-heights, one-slopes}
 
 turns-answer-requires : tie.Need-turns-answer-requires
 turns-answer-requires c κs = search rules

@@ -1,4 +1,4 @@
--- `clock::year` meets its contract: refused by what is asked first, or what the sheet gives (`Year_sheet` in calls). Assumes nothing.
+-- `clock::year` meets its contract: refused by what is asked first, or what the sheet gives (`YearSheet` in calls). Assumes nothing.
 use borrow.Author.Rules.{rules}
 use Rattle.clock.proofs.year.Statement.{statement}
 use Rattle.clock.proofs.year.Tie as tie
@@ -7,7 +7,7 @@ use Rattle.refusals.specs.Outcome.{outcome_of}
 use Rattle.table.specs.inner.View.{table_of}
 use Rattle.station.specs.inner.Station.{station_of}
 use Rattle.calls.specs.inner.Flags.{when}
-use Rattle.calls.proofs.Year_sheet.{year-passed, year-refused}
+use Rattle.calls.proofs.YearSheet.{year-passed, year-refused}
 use Rattle.clock.specs.View.{view, month_in}
 
 year-answer-requires : tie.Need-year-answer-requires

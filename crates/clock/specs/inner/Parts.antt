@@ -4,7 +4,7 @@ use Rattle.std.specs.Prelude.{ℕ, min, true, false}
 use Rattle.limits.specs.Limits.{most_records}
 use Rattle.station.specs.declared.Station.{Station}
 use Rattle.month_prepared.specs.declared.Month.{Month}
-use Rattle.refusals.specs.declared.Answer.The_variants.{Accepted}
+use Rattle.refusals.specs.declared.Answer.TheVariants.{Accepted}
 use Rattle.clock.specs.declared.Clock.{Clock}
 use Rattle.clock.specs.declared.After.{After}
 

@@ -5,7 +5,7 @@ use Rattle.std.specs.Prelude.{ℕ, ◌≤◌, Bool, true, List, ◌≡◌, ℤ}
 use Rattle.limits.specs.Limits.{most_minutes, most_records}
 use Rattle.refusals.specs.Outcome.{Outcome, outcome_of, answered, on_accepted}
 use Rattle.refusals.specs.declared.Answer.{Answer}
-use Rattle.cosine.specs.Fixed.{Is_table}
+use Rattle.cosine.specs.Fixed.{IsTable}
 use Rattle.table.specs.inner.View.{table_of}
 use Rattle.table.specs.declared.Table as declared
 use Rattle.table.specs.Table.{Table}
@@ -16,8 +16,8 @@ use Rattle.month_prepared.specs.inner.View.{constituents_from}
 use Rattle.calendar.specs.Calendar.{month_minutes}
 use Rattle.month.specs.Month.{month_of}
 use Rattle.month_prepared.specs.Prepared.{Month}
-use Rattle.heights.specs.inner.Places.{Series_within}
-use Rattle.turns.specs.Written.{Turns_found}
+use Rattle.heights.specs.inner.Places.{SeriesWithin}
+use Rattle.turns.specs.Written.{TurnsFound}
 use Rattle.turns.specs.inner.Search.{Reaches}
 use Rattle.station.specs.declared.Station as declared_station
 use Rattle.calls.specs.declared.annual.Sheet.{Sheet}
@@ -30,8 +30,8 @@ use Rattle.clock.specs.View.{view, Sound}
 use Rattle.clock.specs.declared.Clock.{Clock}
 
 -- a clock with a table or none, and nothing else
-pub record Bare_post (tabled : Bool) (table : declared.Table) (r : Clock) : Type 0 where
-  pub cosines : Is_table r.cosines
+pub record BarePost (tabled : Bool) (table : declared.Table) (r : Clock) : Type 0 where
+  pub cosines : IsTable r.cosines
   pub flag : r.tabled ≡ tabled
   pub same : r.table ≡ table
   pub count : r.count ≡ 0
@@ -40,7 +40,7 @@ pub record Bare_post (tabled : Bool) (table : declared.Table) (r : Clock) : Type
   pub there : view r ≡ tabled_only tabled (table_of table)
 
 -- a month that is prepared for a date in range, whatever the flags of the clock say
-pub record Prepared_post (c : Clock) (year month : ℕ) (answer : Answer) (left : Clock) : Type 0 where
+pub record PreparedPost (c : Clock) (year month : ℕ) (answer : Answer) (left : Clock) : Type 0 where
   pub sound : Sound left
   pub returns : outcome_of answer ≡ answered (month_of (table_of c.table) (station_of c.station) year month)
   pub leaves : view left ≡ on_accepted (month_of (table_of c.table) (station_of c.station) year month) (λ constituents. record {
@@ -50,28 +50,28 @@ pub record Prepared_post (c : Clock) (year month : ℕ) (answer : Answer) (left 
   }) (view c)
 
 -- what a height and bookings ask of the parts of a clock that has a table
-abbrev pub Parts_made : Bool → List ℕ → ℕ → ℕ → Type 0
-Parts_made tabled cosines count last = tabled ≡ true → Is_table cosines × ((count ≤ most_records) × (last ≤ most_minutes))
+abbrev pub PartsMade : Bool → List ℕ → ℕ → ℕ → Type 0
+PartsMade tabled cosines count last = tabled ≡ true → IsTable cosines × ((count ≤ most_records) × (last ≤ most_minutes))
 
 -- a height from the parts of a clock, whatever table, station and date it has
-pub record Height_from (tabled stationed dated : Bool) (last count : ℕ) (arguments lags frequencies : List ℕ) (ps qs : List ℤ) (minute : ℕ) (returned : Outcome ℤ) : Type 0 where
+pub record HeightFrom (tabled stationed dated : Bool) (last count : ℕ) (arguments lags frequencies : List ℕ) (ps qs : List ℤ) (minute : ℕ) (returned : Outcome ℤ) : Type 0 where
   pub returns : (t : Table) (s : Station) (year month : ℕ) → returned ≡ height_returns (state_of tabled t stationed s dated (record { year = year; month = month; prepared = record { last = last; constituents = constituents_from arguments lags frequencies ps qs count } })) minute
 
 -- bookings from the parts of a clock, whatever table, station and date it has
-pub record Bookings_from (tabled stationed dated : Bool) (last count : ℕ) (arguments lags frequencies : List ℕ) (ps qs : List ℤ) (minutes : List ℕ) (heights left : List ℤ) (returned : Outcome Unit) : Type 0 where
+pub record BookingsFrom (tabled stationed dated : Bool) (last count : ℕ) (arguments lags frequencies : List ℕ) (ps qs : List ℤ) (minutes : List ℕ) (heights left : List ℤ) (returned : Outcome Unit) : Type 0 where
   pub gives : (t : Table) (s : Station) (year month : ℕ) → record { returned = returned; heights = left }
       ≡ bookings_gives (state_of tabled t stationed s dated (record { year = year; month = month; prepared = record { last = last; constituents = constituents_from arguments lags frequencies ps qs count } })) minutes heights
 
 -- a year's sheet, of a table and a station, for a year in range, whatever month the clock has
-pub record Sheet_post (table : declared.Table) (station : declared_station.Station) (sheet : Sheet) (series series_left : List ℤ) (minutes minutes_left : List ℕ) (heights heights_left : List ℤ) (returned : Outcome Turns_found) : Type 0 where
+pub record SheetPost (table : declared.Table) (station : declared_station.Station) (sheet : Sheet) (series series_left : List ℤ) (minutes minutes_left : List ℕ) (heights heights_left : List ℤ) (returned : Outcome TurnsFound) : Type 0 where
   pub gives : (month : Maybe Dated) → record { returned = returned; series = series_left; minutes = minutes_left; heights = heights_left }
       ≡ year_gives (record { table = some (table_of table); station = some (station_of station); month = month }) sheet series minutes heights
 
 -- a series and a search within months that end at a minute
-pub record Sheet_within (end stride : ℕ) (sheet : Sheet) (places : ℕ) : Type 0 where
-  pub series : Series_within end sheet.start sheet.step places
+pub record SheetWithin (end stride : ℕ) (sheet : Sheet) (places : ℕ) : Type 0 where
+  pub series : SeriesWithin end sheet.start sheet.step places
   pub search : Reaches end (record { stride = stride; first = sheet.first; last = sheet.last })
 
 -- the sheet of months that follow one another, by strides of so many minutes
-pub record Written_post (months : List Month) (stride : ℕ) (sheet : Sheet) (series series_left : List ℤ) (minutes minutes_left : List ℕ) (heights heights_left : List ℤ) (returned : Outcome Turns_found) : Type 0 where
+pub record WrittenPost (months : List Month) (stride : ℕ) (sheet : Sheet) (series series_left : List ℤ) (minutes minutes_left : List ℕ) (heights heights_left : List ℤ) (returned : Outcome TurnsFound) : Type 0 where
   pub gives : record { returned = returned; series = series_left; minutes = minutes_left; heights = heights_left } ≡ sheet_over months stride sheet series minutes heights

@@ -2,7 +2,7 @@
 use borrow.Author.Rules.{rules}
 use Rattle.columns.proofs.column.Statement.{statement}
 use Rattle.columns.proofs.column.Tie as tie
-use lib.List_n.{get_or-eq_default}
+use lib.ListN.{get_or-eq_default}
 use mathlib.Core.Path.{sym}
 use Rattle.columns.proofs.Columns.{get_d-within}
 

@@ -2,7 +2,7 @@
 use borrow.Author.Rules.{rules}
 use Rattle.columns.proofs.is_blank.Statement.{statement}
 use Rattle.columns.proofs.is_blank.Tie as tie
-use lib.List_n.{length}
+use lib.ListN.{length}
 use native.Mathlib.Nat.{sub-zero}
 use Rattle.columns.proofs.Columns.{padded-all}
 

@@ -4,7 +4,7 @@ use borrow.Author.Rules.{rules}
 use Rattle.columns.proofs.line_good.Statement.{statement}
 use Rattle.columns.proofs.line_good.Tie as tie
 use Prim.Native.Nat.{◌≤◌, ◌<◌}
-use lib.List_n.{length}
+use lib.ListN.{length}
 use native.Mathlib.Nat.{sub-zero}
 use borrow.Author.Tests.{le-leb, lt-leb}
 use Rattle.columns.proofs.Columns.{padded-all}

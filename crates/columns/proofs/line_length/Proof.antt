@@ -6,7 +6,7 @@ use Rattle.columns.proofs.line_length.Tie as tie
 use mathlib.Core.Path.{◌≡◌}
 use Prim.Native.Nat.{suc, ◌+◌, ◌-◌}
 use native.Mathlib.Nat.{sub-zero}
-use lib.List_n.{length}
+use lib.ListN.{length}
 use borrow.Author.Tests.{eq-eqb, ne_eqb}
 use Rattle.columns.specs.Bytes.{leading}
 use Rattle.columns.specs.Lines.{in_line, first_line}

@@ -4,10 +4,10 @@ use mathlib.Core.Path.{◌≡◌, refl, ap}
 use Prim.Native.Nat.{ℕ, zero, suc, ◌+◌, ◌-◌, ◌≤◌, ◌<◌}
 use mathlib.Core.List.{List}
 use mathlib.Core.Bool.{true, cond, ◌&&◌}
-use lib.List_n.{length, get_or}
+use lib.ListN.{length, get_or}
 use lib.Dec.{eqb}
 use native.Mathlib.Omega.{arith}
-use Rattle.columns.specs.declared.names.Found.The_variants.{At, Nothing}
+use Rattle.columns.specs.declared.names.Found.TheVariants.{At, Nothing}
 use Rattle.columns.specs.Columns.{padded}
 use Rattle.columns.specs.Names.{same, name_at, names_from, place_from}
 

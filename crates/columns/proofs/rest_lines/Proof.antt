@@ -5,7 +5,7 @@ use Rattle.columns.proofs.rest_lines.Statement.{statement}
 use Rattle.columns.proofs.rest_lines.Tie as tie
 use mathlib.Core.Path.{sym}
 use Prim.Native.Nat.{◌≤◌, ◌-◌, ◌+◌}
-use lib.List_n.{length, drop, length-drop, drop_of_length-le}
+use lib.ListN.{length, drop, length-drop, drop_of_length-le}
 use lib.Seq.{take_all}
 
 line-length-requires : tie.Need-line-length-requires

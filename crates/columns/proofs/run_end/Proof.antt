@@ -5,7 +5,7 @@ use Rattle.columns.proofs.run_end.Statement.{statement}
 use Rattle.columns.proofs.run_end.Tie as tie
 use mathlib.Core.Path.{◌≡◌, refl}
 use Prim.Native.Nat.{suc, ◌+◌, ◌-◌}
-use lib.List_n.{length}
+use lib.ListN.{length}
 use borrow.Author.Tests.{le-leb, lt-leb}
 use mathlib.Core.Bool.{and-false}
 use Rattle.columns.specs.Bytes.{among, leading}

@@ -2,7 +2,7 @@
 use Prim.Native.Nat.{◌-◌}
 use mathlib.Core.Path.{◌≡◌, sym, ◌∙◌}
 use native.Mathlib.Omega.{arith}
-use lib.List_n.{length, drop}
+use lib.ListN.{length, drop}
 use Rattle.columns.specs.Bytes.{among}
 use Rattle.columns.proofs.Bytes.{leading-is}
 use Rattle.commandline.specs.Words.{word_at}

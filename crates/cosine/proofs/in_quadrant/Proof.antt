@@ -5,7 +5,7 @@ use mathlib.Core.Bool.{Bool, true, false, cond}
 use Prim.Native.Nat.{ℕ, zero, suc, ◌+◌, ◌%◌, ◌≤◌, ◌<◌}
 use native.Mathlib.Omega.{arith}
 use lib.Dec.{eqb, leb, lit<}
-use lib.Int_n.{ℤ, pos, neg_ℤ}
+use lib.IntN.{ℤ, pos, neg_ℤ}
 use Rattle.angles.proofs.Known.{known, kept, says}
 use Rattle.cosine.specs.Fraction.{in_quadrant}
 use Rattle.cosine.specs.Fixed.{one}

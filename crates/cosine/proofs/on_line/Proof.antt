@@ -4,7 +4,7 @@ use Prim.Native.Nat.{◌+◌}
 use native.Mathlib.Omega.{arith}
 use borrow.Author.Rules.{rules}
 use lib.Dec.{lit<}
-use lib.List_n.{get_or}
+use lib.ListN.{get_or}
 use Rattle.cosine.specs.Fixed.{step}
 use Rattle.cosine.proofs.Computed.{passed}
 use Rattle.cosine.proofs.Quadrants.{entry-fits, Falling, falling-line}

@@ -2,7 +2,7 @@
 use borrow.Author.Rules.{rules}
 use Prim.Native.Nat.{◌-◌}
 use mathlib.Core.Path.{◌≡◌}
-use lib.List_n.{length}
+use lib.ListN.{length}
 use Rattle.cuvalimodo.proofs.put_arguments.Statement.{statement}
 use Rattle.cuvalimodo.proofs.put_arguments.Tie as tie
 

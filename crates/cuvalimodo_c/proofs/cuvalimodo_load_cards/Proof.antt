@@ -1,15 +1,15 @@
 -- `cuvalimodo_load_cards` meets its contract: a walk of its MIR, by `Stored`. Assumes nothing.
 use types.Logic.{Logic}
 use denote.Ref.{Bor, shr_vals, mut_vals}
-use Rattle.clock.proofs.Walking.{refl, List, [], ◌∷◌, ℕ, Ura, length, named, Val, SProp, ent, emp, id⊢, Lft, Share, flft, Memory, Routine, Calls, Loops, Wp_fn, Fun, fact_i, tables_of, ‵, raw, ◌⊛◌, ◌$◌, ◌∵◌, !, qed, move, split, join, fsplit, fjoin, suffices, frame, done, look, init, forget, stop, from, load, and_then, no_more, enter, alloc1, alloc0, params1, pass1, pass0, free1, free0, Fm_c, yes, owns, u8, Ref_t, ptr-vals, plain, nothing, Vals, Contract, Triple, cited, says, needs, Stays, stay_dropped, Goes-dropped, walk_of, Walks, ends_at, walked, Met, asks, walks-meet}
+use Rattle.clock.proofs.Walking.{refl, List, [], ◌∷◌, ℕ, Ura, length, named, Val, SProp, ent, emp, id⊢, Lft, Share, flft, Memory, Routine, Calls, Loops, WpFn, Fun, fact_i, tables_of, ‵, raw, ◌⊛◌, ◌$◌, ◌∵◌, !, qed, move, split, join, fsplit, fjoin, suffices, frame, done, look, init, forget, stop, from, load, and_then, no_more, enter, alloc1, alloc0, params1, pass1, pass0, free1, free0, FmC, yes, owns, u8, RefT, ptr-vals, plain, nothing, Vals, Contract, Triple, cited, says, needs, Stays, stay_dropped, Goes-dropped, walk_of, Walks, ends_at, walked, Met, asks, walks-meet}
 use contract.Lifetimes.{toks}
-use denote.Ref.{Mut_ref, mut_Tells}
-use denote.Slice.{slice_val, Shr_slice, Room, shr_slice_vals, shr_slice_Tells}
+use denote.Ref.{MutRef, mut_Tells}
+use denote.Slice.{slice_val, ShrSlice, Room, shr_slice_vals, shr_slice_Tells}
 use denote.Signature.{Slot, shr_slice_of}
 use denote.Triple.Walked.{stay_ref, Goes-ref}
 use Rattle.clock.specs.declared.Clock.{Clock}
 use Rattle.clock.specs.View.{Made}
-use Rattle.clock.specs.Posts.{Cards_post}
+use Rattle.clock.specs.Posts.{CardsPost}
 use Rattle.clock.specs.contracts.Clock as T
 use Rattle.cuvalimodo_c.specs.declared.byvalue.Left.{Left}
 use Rattle.cuvalimodo_c.specs.Answers.{verdict_returned, Plain}
@@ -29,7 +29,7 @@ file = shr_slice_of (1 ∷ []) tt (plain (λ _. u8))
 abbrev stayed : Stays (it.ended).signature.params (it.ended).kept
 stayed = (stay_ref (0 ∷ []) tt (plain (λ _. T.the_row)), (stay_dropped file yes, tt))
 
-module _ {M : Type 1} {𝓤 : Ura M} (𝓛 : Logic 𝓤) (at_mem : Memory → SProp 𝓤) (run : Routine → Fun 𝓤) (𝓒 : Calls 𝓤 𝓛.H) (Λ : Loops 𝓤 𝓛.H) (fm : Fm_c 𝓤 𝓛.H 𝓛.laws 𝓒)
+module _ {M : Type 1} {𝓤 : Ura M} (𝓛 : Logic 𝓤) (at_mem : Memory → SProp 𝓤) (run : Routine → Fun 𝓤) (𝓒 : Calls 𝓤 𝓛.H) (Λ : Loops 𝓤 𝓛.H) (fm : FmC 𝓤 𝓛.H 𝓛.laws 𝓒)
     (known : Triple 𝓤 (𝓒 #inner) (Met 𝓛 inner.ended (inner.clauses 𝓛 at_mem run))) where
   open 𝓛 use {H}
 
@@ -44,14 +44,14 @@ module _ {M : Type 1} {𝓤 : Ura M} (𝓛 : Logic 𝓤) (at_mem : Memory → SP
     at = (shr_vals x, (sv ∷ [], tt))
 
     abbrev Said : Left → Type 0
-    Said s = Cards_post x.now bytes.now (verdict_returned s.verdict) s.clock × Plain s.verdict
+    Said s = CardsPost x.now bytes.now (verdict_returned s.verdict) s.clock × Plain s.verdict
 
     abbrev ghosts : Walk.Ghost
     ghosts = (((κ, (κ₁, tt)), (q, (q₁, tt)), tt, (x, (bytes, tt)), at), tt)
 
-    walk : Room u8 (length bytes.now) → ent 𝓤 (Walk.pre ghosts) (Wp_fn 𝓤 H 𝓒 Λ code.function (Walk.args ghosts) (Walk.post ghosts))
+    walk : Room u8 (length bytes.now) → ent 𝓤 (Walk.pre ghosts) (WpFn 𝓤 H 𝓒 Λ code.function (Walk.args ghosts) (Walk.post ghosts))
     walk gn = needs 𝓤 (Made x.now) _ (λ made.
-        qed 𝓛 ((‵ (flft κ q) ⊛ raw (toks 𝓛 1 (κ₁, tt) (q₁, tt))) ∷ ‵ (owns (Mut_ref (named 0) κ T.the_row ∷ Shr_slice (named 1) κ₁ u8 ∷ []) (x, (bytes, tt)) at) ∷ []) ∵ enter ! 𝓒 Λ code.function (Walk.args ghosts) _ $
+        qed 𝓛 ((‵ (flft κ q) ⊛ raw (toks 𝓛 1 (κ₁, tt) (q₁, tt))) ∷ ‵ (owns (MutRef (named 0) κ T.the_row ∷ ShrSlice (named 1) κ₁ u8 ∷ []) (x, (bytes, tt)) at) ∷ []) ∵ enter ! 𝓒 Λ code.function (Walk.args ghosts) _ $
         alloc1 ! (λ l₀. alloc1 ! (λ l₁. alloc1 ! (λ l₂. alloc1 ! (λ l₃. alloc1 ! (λ l₄. alloc0 ! $ params1 ! $
         pass1 ! (init ! 6 refl (tt, tt)) $ pass1 ! (init ! 4 refl (tt, (tt, (record { fits = gn.0 }, tt)))) $ pass0 ! $
         move ! (10 ∷ []) $ split ! $ move ! (12 ∷ []) $ fsplit ! $ move ! (0 ∷ 2 ∷ 3 ∷ 1 ∷ 4 ∷ 6 ∷ 10 ∷ 12 ∷ []) $
@@ -63,8 +63,8 @@ module _ {M : Type 1} {𝓤 : Ura M} (𝓛 : Logic 𝓤) (at_mem : Memory → SP
         suffices ! _ (ends_at 𝓛 it.ended stayed (it.clauses 𝓛 at_mem run) ghosts (verdict_val s) s.verdict (s.clock, (tt, tt)) (tt, (tt, tt))) $ says ! p $
         move ! (2 ∷ 3 ∷ []) $ join ! $ frame ! $ nothing ! $ nothing ! $ fjoin ! $ move ! (2 ∷ 0 ∷ []) $ fjoin ! $ frame ! $ done !)))))))
 
-  walks : Walks 𝓛 it.ended stayed (Wp_fn 𝓤 H 𝓒 Λ code.function) (it.clauses 𝓛 at_mem run)
-  walks = walked 𝓛 it.ended stayed (it.clauses 𝓛 at_mem run) (Wp_fn 𝓤 H 𝓒 Λ code.function)
+  walks : Walks 𝓛 it.ended stayed (WpFn 𝓤 H 𝓒 Λ code.function) (it.clauses 𝓛 at_mem run)
+  walks = walked 𝓛 it.ended stayed (it.clauses 𝓛 at_mem run) (WpFn 𝓤 H 𝓒 Λ code.function)
       (λ κs. (mut_vals, (shr_slice_vals, tt))) (λ κs. (mut_Tells (named 0) κs.0 T.the_row, (shr_slice_Tells (named 1) κs.1.0 u8, tt)))
       (λ κs qs bounds a g are. walk κs.0 κs.1.0 qs.0 qs.1.0 a.0 a.1.0 are.1.0.0.1)
 

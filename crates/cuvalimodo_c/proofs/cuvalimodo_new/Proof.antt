@@ -1,17 +1,17 @@
 -- `cuvalimodo_new` meets its contract: a walk of its MIR. The clock that `clock::new` makes is stored behind the reference. Assumes nothing.
 use types.Logic.{Logic}
-use denote.Ref.{Mut_bor, mut_vals}
-use Rattle.clock.proofs.Walking.{refl, List, [], ◌∷◌, Ura, full_share, named, Val, SProp, ent, emp, via, fst∗, id⊢, Lft, Share, flft, Memory, Routine, Calls, Loops, Wp_fn, Fun, tables_of, ‵, raw, ◌⊛◌, ◌$◌, ◌∵◌, !, qed, move, keep, drop, split, join, fsplit, fsplit3, fjoin, fjoin3, feq_i, suffices, frame, done, look, store_raw, init, forget, stop, hop, from, load, of_opd, assigns, no_more, land, returns, enter, alloc1, alloc0, params1, pass1, pass0, free1, free0, Fm_c, owns, Is, shows, Ref_t, ptr-vals, plain, peeks, spelt, nothing, Contract, Triple, cited, says, Stays, walk_of, Walks, ends_at, walked, Met, asks, walks-meet}
+use denote.Ref.{MutBor, mut_vals}
+use Rattle.clock.proofs.Walking.{refl, List, [], ◌∷◌, Ura, full_share, named, Val, SProp, ent, emp, via, fst∗, id⊢, Lft, Share, flft, Memory, Routine, Calls, Loops, WpFn, Fun, tables_of, ‵, raw, ◌⊛◌, ◌$◌, ◌∵◌, !, qed, move, keep, drop, split, join, fsplit, fsplit3, fjoin, fjoin3, feq_i, suffices, frame, done, look, store_raw, init, forget, stop, hop, from, load, of_opd, assigns, no_more, land, returns, enter, alloc1, alloc0, params1, pass1, pass0, free1, free0, FmC, owns, Is, shows, RefT, ptr-vals, plain, peeks, spelt, nothing, Contract, Triple, cited, says, Stays, walk_of, Walks, ends_at, walked, Met, asks, walks-meet}
 use mir.Val.{vunit}
 use types.Run.{unit_lit}
-use denote.Ref.{Mut_ref, mut_Tells}
+use denote.Ref.{MutRef, mut_Tells}
 use denote.Steps.{opens, closes}
 use denote.Struct.Laws as LL
 use denote.Triple.Walked.{stay_ref, Goes-ref}
 use Rattle.clock.specs.declared.Clock.{Clock}
-use Rattle.clock.specs.Posts.{New_post}
+use Rattle.clock.specs.Posts.{NewPost}
 use Rattle.clock.specs.contracts.Clock as T
-use Rattle.clock.proofs.Clock.The_laws as T'
+use Rattle.clock.proofs.Clock.TheLaws as T'
 use Rattle.clock.specs.contracts.new as inner
 use Rattle.clock.proofs.new.Symbol as inner-def
 use Rattle.clock.proofs.new.Symbol.{name as #inner}
@@ -24,23 +24,23 @@ use Rattle.cuvalimodo_c.proofs.cuvalimodo_new.Code as code
 abbrev stayed : Stays (it.ended).signature.params (it.ended).kept
 stayed = (stay_ref (0 ∷ []) tt (plain (λ _. T.the_row)), tt)
 
-module _ {M : Type 1} {𝓤 : Ura M} (𝓛 : Logic 𝓤) (at_mem : Memory → SProp 𝓤) (run : Routine → Fun 𝓤) (𝓒 : Calls 𝓤 𝓛.H) (Λ : Loops 𝓤 𝓛.H) (fm : Fm_c 𝓤 𝓛.H 𝓛.laws 𝓒)
+module _ {M : Type 1} {𝓤 : Ura M} (𝓛 : Logic 𝓤) (at_mem : Memory → SProp 𝓤) (run : Routine → Fun 𝓤) (𝓒 : Calls 𝓤 𝓛.H) (Λ : Loops 𝓤 𝓛.H) (fm : FmC 𝓤 𝓛.H 𝓛.laws 𝓒)
     (known : Triple 𝓤 (𝓒 #inner) (Met 𝓛 inner.ended (inner.clauses 𝓛 at_mem run))) where
   open 𝓛 use {H}
 
   abbrev Walk : Contract 𝓤
   Walk = walk_of 𝓛 it.ended stayed (it.clauses 𝓛 at_mem run)
 
-  module _ (κ : Lft) (q : Share) (x : Mut_bor Clock) where
+  module _ (κ : Lft) (q : Share) (x : MutBor Clock) where
     abbrev ghosts : Walk.Ghost
     ghosts = (((κ, tt), (q, tt), tt, (x, tt), (mut_vals x, tt)), tt)
 
-    walk : ent 𝓤 (Walk.pre ghosts) (Wp_fn 𝓤 H 𝓒 Λ code.function (Walk.args ghosts) (Walk.post ghosts))
+    walk : ent 𝓤 (Walk.pre ghosts) (WpFn 𝓤 H 𝓒 Λ code.function (Walk.args ghosts) (Walk.post ghosts))
     walk = via 𝓤 _ (fst∗ 𝓤 _ (emp 𝓤)) (
-        qed 𝓛 ((‵ (flft κ q) ⊛ raw (emp 𝓤)) ∷ ‵ (owns (Mut_ref (named 0) κ T.the_row ∷ []) (x, tt) (mut_vals x, tt)) ∷ []) ∵ enter ! 𝓒 Λ code.function (Walk.args ghosts) _ $
+        qed 𝓛 ((‵ (flft κ q) ⊛ raw (emp 𝓤)) ∷ ‵ (owns (MutRef (named 0) κ T.the_row ∷ []) (x, tt) (mut_vals x, tt)) ∷ []) ∵ enter ! 𝓒 Λ code.function (Walk.args ghosts) _ $
         alloc1 ! (λ l₀. alloc1 ! (λ l₁. alloc1 ! (λ l₂. alloc0 ! $ params1 ! $ pass1 ! (init ! 2 refl (tt, tt)) $ pass0 ! $
         move ! (7 ∷ []) $ fsplit ! $ fsplit3 ! $ drop ! $ move ! (9 ∷ []) $ split ! $ move ! (1 ∷ 4 ∷ []) $
-        asks 𝓛 inner.ended (inner.clauses 𝓛 at_mem run) (tt, tt, tt, tt, tt) tt (λ c ws. New_post c) (id⊢ 𝓤 _) (λ c ws. id⊢ 𝓤 _) fm known (no_more !) (λ v c ws p.
+        asks 𝓛 inner.ended (inner.clauses 𝓛 at_mem run) (tt, tt, tt, tt, tt) tt (λ c ws. NewPost c) (id⊢ 𝓤 _) (λ c ws. id⊢ 𝓤 _) fm known (no_more !) (λ v c ws p.
         peeks ! T.the_row (Is T.the_row) (shows 𝓛 T.the_row) c (v ∷ []) (λ is.
         -- [what the new clock owns; no tokens; true; the token; obs; the borrow; _2; …; _1; …; _0; …]
         land ! (from ! (stop !)) (init ! 6 refl ((LL.lawful T.the_type T'.the_laws 𝓛).typed c _ is).0) $ move ! (4 ∷ 5 ∷ 3 ∷ []) $
@@ -54,8 +54,8 @@ module _ {M : Type 1} {𝓤 : Ura M} (𝓛 : Logic 𝓤) (at_mem : Memory → SP
         feq_i ! (List Val) (mut_vals x) (mut_vals x) refl $ fjoin3 ! $ move ! (1 ∷ 3 ∷ []) $ join ! $ frame ! $ keep ! (0 ∷ []) $ nothing ! $ move ! (1 ∷ 0 ∷ []) $ fjoin ! $
         feq_i ! (List Val) (vunit ∷ []) (vunit ∷ []) refl $ move ! (1 ∷ 0 ∷ []) $ done !)))))))
 
-  walks : Walks 𝓛 it.ended stayed (Wp_fn 𝓤 H 𝓒 Λ code.function) (it.clauses 𝓛 at_mem run)
-  walks = walked 𝓛 it.ended stayed (it.clauses 𝓛 at_mem run) (Wp_fn 𝓤 H 𝓒 Λ code.function) (λ κs. (mut_vals, tt)) (λ κs. (mut_Tells (named 0) κs.0 T.the_row, tt))
+  walks : Walks 𝓛 it.ended stayed (WpFn 𝓤 H 𝓒 Λ code.function) (it.clauses 𝓛 at_mem run)
+  walks = walked 𝓛 it.ended stayed (it.clauses 𝓛 at_mem run) (WpFn 𝓤 H 𝓒 Λ code.function) (λ κs. (mut_vals, tt)) (λ κs. (mut_Tells (named 0) κs.0 T.the_row, tt))
       (λ κs qs bounds a g are. walk κs.0 qs.0 a.0)
 
 pub cuvalimodo-new-spec : {M : Type 1} → stated.statement M

@@ -1,25 +1,25 @@
--- `cuvalimodo_series` meets its contract: a walk of its MIR. The clock is copied (`Copied`), the slice is lent on, and both go to `byvalue::series` (`Passed_on`). Assumes nothing.
+-- `cuvalimodo_series` meets its contract: a walk of its MIR. The clock is copied (`Copied`), the slice is lent on, and both go to `byvalue::series` (`PassedOn`). Assumes nothing.
 use types.Logic.{Logic}
 use denote.Ref.{Bor, shr_vals}
-use Rattle.clock.proofs.Walking.{refl, ℕ, ◌<◌, ◌^◌, List, [], ◌∷◌, length, Ura, named, w32, Val, vint, SProp, ent, emp, id⊢, Lft, Share, flft, Memory, Routine, Calls, Loops, Wp_fn, Fun, fact_i, tables_of, ‵, raw, ◌⊛◌, ◌$◌, ◌∵◌, !, qed, move, split, join, fsplit, suffices, frame, done, look, init, stop, from, load, and_then, no_more, land, returns, enter, alloc1, alloc0, params1, pass1, pass0, free0, Fm_c, owns, Is, shows, uint_vals, uint_Tells, u32, Ref_t, ptr-vals, peeks, Vals, Contract, Triple, cited, says, needs, Stays, walk_of, Walks, ends_at, walked, Met, asks, walks-meet}
-use lib.Int_n.{ℤ}
+use Rattle.clock.proofs.Walking.{refl, ℕ, ◌<◌, ◌^◌, List, [], ◌∷◌, length, Ura, named, w32, Val, vint, SProp, ent, emp, id⊢, Lft, Share, flft, Memory, Routine, Calls, Loops, WpFn, Fun, fact_i, tables_of, ‵, raw, ◌⊛◌, ◌$◌, ◌∵◌, !, qed, move, split, join, fsplit, suffices, frame, done, look, init, stop, from, load, and_then, no_more, land, returns, enter, alloc1, alloc0, params1, pass1, pass0, free0, FmC, owns, Is, shows, uint_vals, uint_Tells, u32, RefT, ptr-vals, peeks, Vals, Contract, Triple, cited, says, needs, Stays, walk_of, Walks, ends_at, walked, Met, asks, walks-meet}
+use lib.IntN.{ℤ}
 use contract.Lifetimes.{toks}
 use denote.Builtin.{i64}
-use denote.Ref.{Shr_ref, shr_Tells}
-use denote.Slice.{slice_val, Mut_slice, Room, mut_slice_vals, mut_slice_Tells}
+use denote.Ref.{ShrRef, shr_Tells}
+use denote.Slice.{slice_val, MutSlice, Room, mut_slice_vals, mut_slice_Tells}
 use denote.Struct.Laws as LL
 use Rattle.clock.specs.declared.Clock.{Clock}
 use Rattle.clock.specs.View.{Made}
-use Rattle.clock.specs.Posts.{Series_post}
+use Rattle.clock.specs.Posts.{SeriesPost}
 use Rattle.clock.specs.contracts.Clock as T
 use Rattle.cuvalimodo_c.specs.declared.answers.Verdict.{Verdict}
 use Rattle.cuvalimodo_c.specs.Answers.{verdict_returned, Plain}
 use Rattle.cuvalimodo_c.proofs.Stored.{clock_val}
 use Rattle.cuvalimodo_c.proofs.Copied.{copied}
 use Rattle.cuvalimodo_c.proofs.Lending.{relent, freed}
-use Rattle.clock.proofs.Passed_on.{all-passed, all_go}
+use Rattle.clock.proofs.PassedOn.{all-passed, all_go}
 use Rattle.cuvalimodo_c.specs.contracts.answers.Verdict as R
-use Rattle.cuvalimodo_c.proofs.answers.Verdict.The_laws as R'
+use Rattle.cuvalimodo_c.proofs.answers.Verdict.TheLaws as R'
 use Rattle.cuvalimodo_c.specs.contracts.byvalue.series as inner
 use Rattle.cuvalimodo_c.proofs.byvalue.series.Symbol as inner-def
 use Rattle.cuvalimodo_c.proofs.byvalue.series.Symbol.{name as #inner}
@@ -32,7 +32,7 @@ use Rattle.cuvalimodo_c.proofs.cuvalimodo_series.Code as code
 abbrev stayed : Stays (it.ended).signature.params (it.ended).kept
 stayed = all-passed (it.ended).signature.params (it.ended).kept
 
-module _ {M : Type 1} {𝓤 : Ura M} (𝓛 : Logic 𝓤) (at_mem : Memory → SProp 𝓤) (run : Routine → Fun 𝓤) (𝓒 : Calls 𝓤 𝓛.H) (Λ : Loops 𝓤 𝓛.H) (fm : Fm_c 𝓤 𝓛.H 𝓛.laws 𝓒)
+module _ {M : Type 1} {𝓤 : Ura M} (𝓛 : Logic 𝓤) (at_mem : Memory → SProp 𝓤) (run : Routine → Fun 𝓤) (𝓒 : Calls 𝓤 𝓛.H) (Λ : Loops 𝓤 𝓛.H) (fm : FmC 𝓤 𝓛.H 𝓛.laws 𝓒)
     (known : Triple 𝓤 (𝓒 #inner) (Met 𝓛 inner.ended (inner.clauses 𝓛 at_mem run))) where
   open 𝓛 use {H}
 
@@ -47,14 +47,14 @@ module _ {M : Type 1} {𝓤 : Ura M} (𝓛 : Logic 𝓤) (at_mem : Memory → SP
     at = (shr_vals x, (vint w32 start ∷ [], (vint w32 step ∷ [], (hv ∷ [], tt))))
 
     abbrev Said : Verdict → List ℤ → Type 0
-    Said r left = Series_post x.now start step heights.now left (verdict_returned r) × Plain r
+    Said r left = SeriesPost x.now start step heights.now left (verdict_returned r) × Plain r
 
     abbrev ghosts : Walk.Ghost
     ghosts = (((κ, (κ₁, tt)), (q, (q₁, tt)), tt, (x, (start, (step, (heights, tt)))), at), tt)
 
-    walk : start < 2 ^ 32 → step < 2 ^ 32 → Room i64 (length heights.now) → ent 𝓤 (Walk.pre ghosts) (Wp_fn 𝓤 H 𝓒 Λ code.function (Walk.args ghosts) (Walk.post ghosts))
+    walk : start < 2 ^ 32 → step < 2 ^ 32 → Room i64 (length heights.now) → ent 𝓤 (Walk.pre ghosts) (WpFn 𝓤 H 𝓒 Λ code.function (Walk.args ghosts) (Walk.post ghosts))
     walk gs gt gn = needs 𝓤 (Made x.now) _ (λ made.
-        qed 𝓛 ((‵ (flft κ q) ⊛ raw (toks 𝓛 1 (κ₁, tt) (q₁, tt))) ∷ ‵ (owns (Shr_ref (named 0) κ T.the_row ∷ u32 ∷ u32 ∷ Mut_slice (named 1) κ₁ i64 ∷ []) (x, (start, (step, (heights, tt)))) at) ∷ []) ∵ enter ! 𝓒 Λ code.function (Walk.args ghosts) _ $
+        qed 𝓛 ((‵ (flft κ q) ⊛ raw (toks 𝓛 1 (κ₁, tt) (q₁, tt))) ∷ ‵ (owns (ShrRef (named 0) κ T.the_row ∷ u32 ∷ u32 ∷ MutSlice (named 1) κ₁ i64 ∷ []) (x, (start, (step, (heights, tt)))) at) ∷ []) ∵ enter ! 𝓒 Λ code.function (Walk.args ghosts) _ $
         alloc1 ! (λ l₀. alloc1 ! (λ l₁. alloc1 ! (λ l₂. alloc1 ! (λ l₃. alloc1 ! (λ l₄. alloc1 ! (λ l₅. alloc1 ! (λ l₆. alloc1 ! (λ l₇. alloc0 ! $ params1 ! $
         pass1 ! (init ! 12 refl (tt, tt)) $ pass1 ! (init ! 10 refl (tt, record { fits = gs })) $ pass1 ! (init ! 8 refl (tt, record { fits = gt })) $ pass1 ! (init ! 6 refl (tt, (tt, (record { fits = gn.0 }, tt)))) $ pass0 ! $
         move ! (16 ∷ []) $ split ! $ move ! (18 ∷ []) $ fsplit ! $ move ! (0 ∷ 1 ∷ 2 ∷ 8 ∷ 16 ∷ []) $
@@ -71,8 +71,8 @@ module _ {M : Type 1} {𝓤 : Ura M} (𝓛 : Logic 𝓤) (at_mem : Memory → SP
         suffices ! _ (ends_at 𝓛 it.ended stayed (it.clauses 𝓛 at_mem run) ghosts v r ws (tt, (tt, (tt, (tt, tt))))) $ says ! p $
         move ! (3 ∷ 1 ∷ []) $ join ! $ frame ! $ move ! (1 ∷ []) $ frame ! $ done !)))))))))))
 
-  walks : Walks 𝓛 it.ended stayed (Wp_fn 𝓤 H 𝓒 Λ code.function) (it.clauses 𝓛 at_mem run)
-  walks = walked 𝓛 it.ended stayed (it.clauses 𝓛 at_mem run) (Wp_fn 𝓤 H 𝓒 Λ code.function)
+  walks : Walks 𝓛 it.ended stayed (WpFn 𝓤 H 𝓒 Λ code.function) (it.clauses 𝓛 at_mem run)
+  walks = walked 𝓛 it.ended stayed (it.clauses 𝓛 at_mem run) (WpFn 𝓤 H 𝓒 Λ code.function)
       (λ κs. (shr_vals, (uint_vals w32, (uint_vals w32, (mut_slice_vals, tt))))) (λ κs. (shr_Tells (named 0) κs.0 T.the_row, (uint_Tells w32, (uint_Tells w32, (mut_slice_Tells (named 1) κs.1.0 i64, tt)))))
       (λ κs qs bounds a g are. walk κs.0 κs.1.0 qs.0 qs.1.0 a.0 a.1.0 a.1.1.0 a.1.1.1.0 are.1.0.1 are.1.1.0.1 are.1.1.1.0.0.1)
 

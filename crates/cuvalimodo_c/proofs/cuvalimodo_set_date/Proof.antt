@@ -1,12 +1,12 @@
 -- `cuvalimodo_set_date` meets its contract: a walk of its MIR, by `Stored`. Assumes nothing.
 use types.Logic.{Logic}
-use denote.Ref.{Mut_bor, mut_vals}
-use Rattle.clock.proofs.Walking.{refl, ◌<◌, ◌^◌, [], ◌∷◌, ℕ, Ura, named, w32, vint, SProp, ent, emp, id⊢, Lft, Share, flft, Memory, Routine, Calls, Loops, Wp_fn, Fun, fact_i, tables_of, ‵, raw, ◌⊛◌, ◌$◌, ◌∵◌, !, qed, move, split, join, fsplit, fjoin, suffices, frame, done, look, init, forget, stop, from, load, and_then, no_more, enter, alloc1, alloc0, params1, pass1, pass0, free1, free0, Fm_c, yes, owns, uint_vals, uint_Tells, u32, Ref_t, ptr-vals, plain, nothing, Vals, Contract, Triple, cited, says, needs, Stays, stay_dropped, Goes-dropped, walk_of, Walks, ends_at, walked, Met, asks, walks-meet}
-use denote.Ref.{Mut_ref, mut_Tells}
+use denote.Ref.{MutBor, mut_vals}
+use Rattle.clock.proofs.Walking.{refl, ◌<◌, ◌^◌, [], ◌∷◌, ℕ, Ura, named, w32, vint, SProp, ent, emp, id⊢, Lft, Share, flft, Memory, Routine, Calls, Loops, WpFn, Fun, fact_i, tables_of, ‵, raw, ◌⊛◌, ◌$◌, ◌∵◌, !, qed, move, split, join, fsplit, fjoin, suffices, frame, done, look, init, forget, stop, from, load, and_then, no_more, enter, alloc1, alloc0, params1, pass1, pass0, free1, free0, FmC, yes, owns, uint_vals, uint_Tells, u32, RefT, ptr-vals, plain, nothing, Vals, Contract, Triple, cited, says, needs, Stays, stay_dropped, Goes-dropped, walk_of, Walks, ends_at, walked, Met, asks, walks-meet}
+use denote.Ref.{MutRef, mut_Tells}
 use denote.Triple.Walked.{stay_ref, Goes-ref}
 use Rattle.clock.specs.declared.Clock.{Clock}
 use Rattle.clock.specs.View.{Made}
-use Rattle.clock.specs.Posts.{Date_post}
+use Rattle.clock.specs.Posts.{DatePost}
 use Rattle.clock.specs.contracts.Clock as T
 use Rattle.cuvalimodo_c.specs.declared.byvalue.Left.{Left}
 use Rattle.cuvalimodo_c.specs.Answers.{verdict_returned, Plain}
@@ -23,26 +23,26 @@ use Rattle.cuvalimodo_c.proofs.cuvalimodo_set_date.Code as code
 abbrev stayed : Stays (it.ended).signature.params (it.ended).kept
 stayed = (stay_ref (0 ∷ []) tt (plain (λ _. T.the_row)), (stay_dropped (plain (λ _. u32)) yes, (stay_dropped (plain (λ _. u32)) yes, tt)))
 
-module _ {M : Type 1} {𝓤 : Ura M} (𝓛 : Logic 𝓤) (at_mem : Memory → SProp 𝓤) (run : Routine → Fun 𝓤) (𝓒 : Calls 𝓤 𝓛.H) (Λ : Loops 𝓤 𝓛.H) (fm : Fm_c 𝓤 𝓛.H 𝓛.laws 𝓒)
+module _ {M : Type 1} {𝓤 : Ura M} (𝓛 : Logic 𝓤) (at_mem : Memory → SProp 𝓤) (run : Routine → Fun 𝓤) (𝓒 : Calls 𝓤 𝓛.H) (Λ : Loops 𝓤 𝓛.H) (fm : FmC 𝓤 𝓛.H 𝓛.laws 𝓒)
     (known : Triple 𝓤 (𝓒 #inner) (Met 𝓛 inner.ended (inner.clauses 𝓛 at_mem run))) where
   open 𝓛 use {H}
 
   abbrev Walk : Contract 𝓤
   Walk = walk_of 𝓛 it.ended stayed (it.clauses 𝓛 at_mem run)
 
-  module _ (κ : Lft) (q : Share) (x : Mut_bor Clock) (y m : ℕ) where
+  module _ (κ : Lft) (q : Share) (x : MutBor Clock) (y m : ℕ) where
     abbrev at : Vals it.signature (κ, tt)
     at = (mut_vals x, (vint w32 y ∷ [], (vint w32 m ∷ [], tt)))
 
     abbrev Said : Left → Type 0
-    Said s = Date_post x.now y m (verdict_returned s.verdict) s.clock × Plain s.verdict
+    Said s = DatePost x.now y m (verdict_returned s.verdict) s.clock × Plain s.verdict
 
     abbrev ghosts : Walk.Ghost
     ghosts = (((κ, tt), (q, tt), tt, (x, (y, (m, tt))), at), tt)
 
-    walk : y < 2 ^ 32 → m < 2 ^ 32 → ent 𝓤 (Walk.pre ghosts) (Wp_fn 𝓤 H 𝓒 Λ code.function (Walk.args ghosts) (Walk.post ghosts))
+    walk : y < 2 ^ 32 → m < 2 ^ 32 → ent 𝓤 (Walk.pre ghosts) (WpFn 𝓤 H 𝓒 Λ code.function (Walk.args ghosts) (Walk.post ghosts))
     walk gy gm = needs 𝓤 (Made x.now) _ (λ made.
-        qed 𝓛 ((‵ (flft κ q) ⊛ raw (emp 𝓤)) ∷ ‵ (owns (Mut_ref (named 0) κ T.the_row ∷ u32 ∷ u32 ∷ []) (x, (y, (m, tt))) at) ∷ []) ∵ enter ! 𝓒 Λ code.function (Walk.args ghosts) _ $
+        qed 𝓛 ((‵ (flft κ q) ⊛ raw (emp 𝓤)) ∷ ‵ (owns (MutRef (named 0) κ T.the_row ∷ u32 ∷ u32 ∷ []) (x, (y, (m, tt))) at) ∷ []) ∵ enter ! 𝓒 Λ code.function (Walk.args ghosts) _ $
         alloc1 ! (λ l₀. alloc1 ! (λ l₁. alloc1 ! (λ l₂. alloc1 ! (λ l₃. alloc1 ! (λ l₄. alloc1 ! (λ l₅. alloc0 ! $ params1 ! $
         pass1 ! (init ! 8 refl (tt, tt)) $ pass1 ! (init ! 6 refl (tt, record { fits = gy })) $ pass1 ! (init ! 4 refl (tt, record { fits = gm })) $ pass0 ! $
         move ! (12 ∷ []) $ split ! $ move ! (14 ∷ []) $ fsplit ! $ move ! (0 ∷ 2 ∷ 3 ∷ 1 ∷ 4 ∷ 6 ∷ 12 ∷ 14 ∷ []) $
@@ -54,8 +54,8 @@ module _ {M : Type 1} {𝓤 : Ura M} (𝓛 : Logic 𝓤) (at_mem : Memory → SP
         suffices ! _ (ends_at 𝓛 it.ended stayed (it.clauses 𝓛 at_mem run) ghosts (verdict_val s) s.verdict (s.clock, (tt, (tt, tt))) (tt, (tt, (tt, tt)))) $ says ! p $
         move ! (2 ∷ 3 ∷ []) $ join ! $ frame ! $ nothing ! $ nothing ! $ fjoin ! $ nothing ! $ fjoin ! $ move ! (2 ∷ 0 ∷ []) $ fjoin ! $ frame ! $ done !))))))))
 
-  walks : Walks 𝓛 it.ended stayed (Wp_fn 𝓤 H 𝓒 Λ code.function) (it.clauses 𝓛 at_mem run)
-  walks = walked 𝓛 it.ended stayed (it.clauses 𝓛 at_mem run) (Wp_fn 𝓤 H 𝓒 Λ code.function)
+  walks : Walks 𝓛 it.ended stayed (WpFn 𝓤 H 𝓒 Λ code.function) (it.clauses 𝓛 at_mem run)
+  walks = walked 𝓛 it.ended stayed (it.clauses 𝓛 at_mem run) (WpFn 𝓤 H 𝓒 Λ code.function)
       (λ κs. (mut_vals, (uint_vals w32, (uint_vals w32, tt)))) (λ κs. (mut_Tells (named 0) κs.0 T.the_row, (uint_Tells w32, (uint_Tells w32, tt))))
       (λ κs qs bounds a g are. walk κs.0 qs.0 a.0 a.1.0 a.1.1.0 are.1.0.1 are.1.1.0.1)
 

@@ -1,14 +1,14 @@
 -- `cuvalimodo_set_station` meets its contract: a walk of its MIR. The records lent are taken apart by `rows_of`, and the rest is by `Stored`. Assumes nothing.
 use types.Logic.{Logic}
 use denote.Ref.{Bor, shr_vals, mut_vals}
-use Rattle.clock.proofs.Walking.{◌≡◌, refl, List, [], ◌∷◌, length, Ura, named, w32, w64, Val, vint, SProp, ent, emp, id⊢, Lft, Share, flft, Memory, Routine, Calls, Loops, Wp_fn, Fun, fact_i, tables_of, ‵, raw, ◌⊛◌, ◌$◌, ◌∵◌, !, qed, move, keep, use0, split, join, fsplit, fjoin, suffices, frame, done, whole, sub, look_in, look, init, forget, stop, fld, from, load, of_opd, and_then, no_more, assigns, land, enter, alloc1, alloc0, params1, pass1, pass0, free1, free0, Fm_c, yes, owns, Is, shows, uint_Makes, usize, Ref_t, ptr-vals, plain, owned, peeks, nothing, Vals, Contract, Triple, cited, says, needs, Stays, stay_dropped, Goes-dropped, walk_of, Walks, ends_at, walked, Met, asks, walks-meet}
-use lib.Int_n.{ℤ}
+use Rattle.clock.proofs.Walking.{◌≡◌, refl, List, [], ◌∷◌, length, Ura, named, w32, w64, Val, vint, SProp, ent, emp, id⊢, Lft, Share, flft, Memory, Routine, Calls, Loops, WpFn, Fun, fact_i, tables_of, ‵, raw, ◌⊛◌, ◌$◌, ◌∵◌, !, qed, move, keep, use0, split, join, fsplit, fjoin, suffices, frame, done, whole, sub, look_in, look, init, forget, stop, fld, from, load, of_opd, and_then, no_more, assigns, land, enter, alloc1, alloc0, params1, pass1, pass0, free1, free0, FmC, yes, owns, Is, shows, uint_Makes, usize, RefT, ptr-vals, plain, owned, peeks, nothing, Vals, Contract, Triple, cited, says, needs, Stays, stay_dropped, Goes-dropped, walk_of, Walks, ends_at, walked, Met, asks, walks-meet}
+use lib.IntN.{ℤ}
 use mir.Val.{of_z}
 use contract.Lifetimes.{toks}
 use denote.Builtin.{i32}
 use denote.Signed.{sint_vals, sint_Tells, sint_Lawful}
-use denote.Ref.{Mut_ref, mut_Tells}
-use denote.Slice.{slice_val, Shr_slice, Room, shr_slice_vals, shr_slice_Tells}
+use denote.Ref.{MutRef, mut_Tells}
+use denote.Slice.{slice_val, ShrSlice, Room, shr_slice_vals, shr_slice_Tells}
 use denote.Signature.{Slot, shr_slice_of}
 use denote.Struct.Laws as LL
 use denote.Triple.Walked.{stay_ref, Goes-ref}
@@ -19,17 +19,17 @@ use Rattle.station.specs.Records.{records_of}
 use Rattle.station.specs.declared.strides.Strides.{Strides}
 use Rattle.station.specs.Station.{station_lent}
 use Rattle.station.specs.contracts.strides.Strides as D
-use Rattle.station.proofs.strides.Strides.The_laws as D'
+use Rattle.station.proofs.strides.Strides.TheLaws as D'
 use Rattle.station.specs.contracts.records.Record as N
 use Rattle.station.specs.contracts.records.Rows as R
-use Rattle.station.proofs.records.Rows.The_laws as R'
+use Rattle.station.proofs.records.Rows.TheLaws as R'
 use Rattle.station.specs.contracts.records.rows_of as rows
 use Rattle.station.proofs.records.rows_of.Symbol as rows-def
 use Rattle.station.proofs.records.rows_of.Symbol.{name as #rows}
 use Rattle.station.proofs.records.rows_of.Met as rows-thm
 use Rattle.clock.specs.declared.Clock.{Clock}
 use Rattle.clock.specs.View.{Made}
-use Rattle.clock.specs.Posts.{Station_post}
+use Rattle.clock.specs.Posts.{StationPost}
 use Rattle.clock.proofs.Stations.{lent-post}
 use Rattle.clock.specs.contracts.Clock as T
 use Rattle.cuvalimodo_c.specs.declared.byvalue.Left.{Left}
@@ -50,7 +50,7 @@ records = shr_slice_of (1 ∷ []) tt (plain (λ _. N.the_row))
 abbrev stayed : Stays (it.ended).signature.params (it.ended).kept
 stayed = (stay_ref (0 ∷ []) tt (plain (λ _. T.the_row)), (stay_dropped (plain (λ _. i32)) yes, (stay_dropped (plain (λ _. D.the_row)) yes, (stay_dropped records yes, tt))))
 
-module _ {M : Type 1} {𝓤 : Ura M} (𝓛 : Logic 𝓤) (at_mem : Memory → SProp 𝓤) (run : Routine → Fun 𝓤) (𝓒 : Calls 𝓤 𝓛.H) (Λ : Loops 𝓤 𝓛.H) (fm : Fm_c 𝓤 𝓛.H 𝓛.laws 𝓒)
+module _ {M : Type 1} {𝓤 : Ura M} (𝓛 : Logic 𝓤) (at_mem : Memory → SProp 𝓤) (run : Routine → Fun 𝓤) (𝓒 : Calls 𝓤 𝓛.H) (Λ : Loops 𝓤 𝓛.H) (fm : FmC 𝓤 𝓛.H 𝓛.laws 𝓒)
     (known-rows : Triple 𝓤 (𝓒 #rows) (Met 𝓛 rows.ended (rows.clauses 𝓛 at_mem run))) (known : Triple 𝓤 (𝓒 #inner) (Met 𝓛 inner.ended (inner.clauses 𝓛 at_mem run))) where
   open 𝓛 use {H}
 
@@ -71,14 +71,14 @@ module _ {M : Type 1} {𝓤 : Ura M} (𝓛 : Logic 𝓤) (at_mem : Memory → SP
     at = (shr_vals x, (zv ∷ [], (tv ∷ [], (sv ∷ [], tt))))
 
     abbrev Said : Rows → Left → Type 0
-    Said r s = Station_post x.now (station_lent z t (records_of r (length ys.now))) (verdict_returned s.verdict) s.clock × Plain s.verdict
+    Said r s = StationPost x.now (station_lent z t (records_of r (length ys.now))) (verdict_returned s.verdict) s.clock × Plain s.verdict
 
     abbrev ghosts : Walk.Ghost
     ghosts = (((κ, (κ₁, tt)), (q, (q₁, tt)), tt, (x, (z, (t, (ys, tt)))), at), tt)
 
-    walk : Is i32 z (zv ∷ []) → Is D.the_row t (tv ∷ []) → Room N.the_row (length ys.now) → ent 𝓤 (Walk.pre ghosts) (Wp_fn 𝓤 H 𝓒 Λ code.function (Walk.args ghosts) (Walk.post ghosts))
+    walk : Is i32 z (zv ∷ []) → Is D.the_row t (tv ∷ []) → Room N.the_row (length ys.now) → ent 𝓤 (Walk.pre ghosts) (WpFn 𝓤 H 𝓒 Λ code.function (Walk.args ghosts) (Walk.post ghosts))
     walk gz gt gn = needs 𝓤 (Made x.now) _ (λ made.
-        qed 𝓛 ((‵ (flft κ q) ⊛ raw (toks 𝓛 1 (κ₁, tt) (q₁, tt))) ∷ ‵ (owns (Mut_ref (named 0) κ T.the_row ∷ i32 ∷ D.the_row ∷ Shr_slice (named 1) κ₁ N.the_row ∷ []) (x, (z, (t, (ys, tt)))) at) ∷ []) ∵ enter ! 𝓒 Λ code.function (Walk.args ghosts) _ $
+        qed 𝓛 ((‵ (flft κ q) ⊛ raw (toks 𝓛 1 (κ₁, tt) (q₁, tt))) ∷ ‵ (owns (MutRef (named 0) κ T.the_row ∷ i32 ∷ D.the_row ∷ ShrSlice (named 1) κ₁ N.the_row ∷ []) (x, (z, (t, (ys, tt)))) at) ∷ []) ∵ enter ! 𝓒 Λ code.function (Walk.args ghosts) _ $
         alloc1 ! (λ l₀. alloc1 ! (λ l₁. alloc1 ! (λ l₂. alloc1 ! (λ l₃. alloc1 ! (λ l₄. alloc1 ! (λ l₅. alloc1 ! (λ l₆. alloc1 ! (λ l₇. alloc1 ! (λ l₈. alloc0 ! $ params1 ! $
         pass1 ! (init ! 14 refl (tt, tt)) $ pass1 ! (init ! 12 refl ((sint_Lawful 𝓛 w32).typed z _ gz).0) $ pass1 ! (init ! 10 refl ((LL.lawful D.the_type D'.the_laws 𝓛).typed t _ gt).0) $ pass1 ! (init ! 8 refl (tt, (tt, (record { fits = gn.0 }, tt)))) $ pass0 ! $
         assigns ! (of_opd ! (load ! (from ! (fld ! refl (stop !))) (look_in ! 8 (sub ! 1 refl (whole !))))) (from ! (stop !)) (init ! 6 refl (tt, record { fits = gn.0 })) $
@@ -99,8 +99,8 @@ module _ {M : Type 1} {𝓤 : Ura M} (𝓛 : Logic 𝓤) (at_mem : Memory → SP
         suffices ! _ (ends_at 𝓛 it.ended stayed (it.clauses 𝓛 at_mem run) ghosts (verdict_val s) s.verdict (s.clock, (tt, (tt, (tt, tt)))) (tt, (tt, (tt, (tt, tt))))) $ says ! (lent-post x.now z t ys.now (verdict_returned s.verdict) s.clock r e p.0, p.1) $
         move ! (2 ∷ 4 ∷ []) $ join ! $ frame ! $ keep ! (0 ∷ 1 ∷ []) $ nothing ! $ nothing ! $ fjoin ! $ nothing ! $ fjoin ! $ nothing ! $ fjoin ! $ move ! (2 ∷ 0 ∷ []) $ fjoin ! $ frame ! $ done !)))))))))))))
 
-  walks : Walks 𝓛 it.ended stayed (Wp_fn 𝓤 H 𝓒 Λ code.function) (it.clauses 𝓛 at_mem run)
-  walks = walked 𝓛 it.ended stayed (it.clauses 𝓛 at_mem run) (Wp_fn 𝓤 H 𝓒 Λ code.function)
+  walks : Walks 𝓛 it.ended stayed (WpFn 𝓤 H 𝓒 Λ code.function) (it.clauses 𝓛 at_mem run)
+  walks = walked 𝓛 it.ended stayed (it.clauses 𝓛 at_mem run) (WpFn 𝓤 H 𝓒 Λ code.function)
       (λ κs. (mut_vals, (sint_vals w32, (LL.vals D.the_type D'.the_laws, (shr_slice_vals, tt))))) (λ κs. (mut_Tells (named 0) κs.0 T.the_row, (sint_Tells w32, (LL.tells D.the_type D'.the_laws, (shr_slice_Tells (named 1) κs.1.0 N.the_row, tt)))))
       (λ κs qs bounds a g are. walk κs.0 κs.1.0 qs.0 qs.1.0 a.0 a.1.0 a.1.1.0 a.1.1.1.0 are.1.0 are.1.1.0 are.1.1.1.0.0.1)
 

@@ -1,25 +1,25 @@
--- `cuvalimodo_year` meets its contract: a walk of its MIR. The clock is copied (`Copied`), the three slices are lent on, and all goes to `byvalue::year` (`Passed_on`). Assumes nothing.
+-- `cuvalimodo_year` meets its contract: a walk of its MIR. The clock is copied (`Copied`), the three slices are lent on, and all goes to `byvalue::year` (`PassedOn`). Assumes nothing.
 use types.Logic.{Logic}
 use denote.Ref.{Bor, shr_vals}
-use Rattle.clock.proofs.Walking.{refl, ℕ, ◌<◌, ◌^◌, List, [], ◌∷◌, length, Ura, named, w32, Val, vint, SProp, ent, emp, id⊢, Lft, Share, flft, Memory, Routine, Calls, Loops, Wp_fn, Fun, fact_i, tables_of, ‵, raw, ◌⊛◌, ◌$◌, ◌∵◌, !, qed, move, split, join, fsplit, suffices, frame, done, look, init, stop, from, load, and_then, no_more, land, returns, enter, alloc1, alloc0, params1, pass1, pass0, free0, Fm_c, owns, Is, shows, uint_vals, uint_Tells, u32, Ref_t, ptr-vals, peeks, Vals, Contract, Triple, cited, says, needs, Stays, walk_of, Walks, ends_at, walked, Met, asks, walks-meet}
-use lib.Int_n.{ℤ}
+use Rattle.clock.proofs.Walking.{refl, ℕ, ◌<◌, ◌^◌, List, [], ◌∷◌, length, Ura, named, w32, Val, vint, SProp, ent, emp, id⊢, Lft, Share, flft, Memory, Routine, Calls, Loops, WpFn, Fun, fact_i, tables_of, ‵, raw, ◌⊛◌, ◌$◌, ◌∵◌, !, qed, move, split, join, fsplit, suffices, frame, done, look, init, stop, from, load, and_then, no_more, land, returns, enter, alloc1, alloc0, params1, pass1, pass0, free0, FmC, owns, Is, shows, uint_vals, uint_Tells, u32, RefT, ptr-vals, peeks, Vals, Contract, Triple, cited, says, needs, Stays, walk_of, Walks, ends_at, walked, Met, asks, walks-meet}
+use lib.IntN.{ℤ}
 use contract.Lifetimes.{toks}
 use denote.Builtin.{i64}
-use denote.Ref.{Shr_ref, shr_Tells}
-use denote.Slice.{slice_val, Mut_slice, Room, shr_slice_vals, mut_slice_Tells}
+use denote.Ref.{ShrRef, shr_Tells}
+use denote.Slice.{slice_val, MutSlice, Room, shr_slice_vals, mut_slice_Tells}
 use denote.Struct.Laws as LL
 use Rattle.clock.specs.declared.Clock.{Clock}
 use Rattle.clock.specs.View.{Made}
-use Rattle.clock.specs.Posts.{Year_post}
+use Rattle.clock.specs.Posts.{YearPost}
 use Rattle.clock.specs.contracts.Clock as T
 use Rattle.cuvalimodo_c.specs.declared.answers.Turnings.{Turnings}
-use Rattle.cuvalimodo_c.specs.Answers.{turnings_returned, Plain_turnings}
+use Rattle.cuvalimodo_c.specs.Answers.{turnings_returned, PlainTurnings}
 use Rattle.cuvalimodo_c.proofs.Stored.{clock_val}
 use Rattle.cuvalimodo_c.proofs.Copied.{copied}
 use Rattle.cuvalimodo_c.proofs.Lending.{relent, freed}
-use Rattle.clock.proofs.Passed_on.{all-passed, all_go}
+use Rattle.clock.proofs.PassedOn.{all-passed, all_go}
 use Rattle.cuvalimodo_c.specs.contracts.answers.Turnings as R
-use Rattle.cuvalimodo_c.proofs.answers.Turnings.The_laws as R'
+use Rattle.cuvalimodo_c.proofs.answers.Turnings.TheLaws as R'
 use Rattle.cuvalimodo_c.specs.contracts.byvalue.year as inner
 use Rattle.cuvalimodo_c.proofs.byvalue.year.Symbol as inner-def
 use Rattle.cuvalimodo_c.proofs.byvalue.year.Symbol.{name as #inner}
@@ -32,7 +32,7 @@ use Rattle.cuvalimodo_c.proofs.cuvalimodo_year.Code as code
 abbrev stayed : Stays (it.ended).signature.params (it.ended).kept
 stayed = all-passed (it.ended).signature.params (it.ended).kept
 
-module _ {M : Type 1} {𝓤 : Ura M} (𝓛 : Logic 𝓤) (at_mem : Memory → SProp 𝓤) (run : Routine → Fun 𝓤) (𝓒 : Calls 𝓤 𝓛.H) (Λ : Loops 𝓤 𝓛.H) (fm : Fm_c 𝓤 𝓛.H 𝓛.laws 𝓒)
+module _ {M : Type 1} {𝓤 : Ura M} (𝓛 : Logic 𝓤) (at_mem : Memory → SProp 𝓤) (run : Routine → Fun 𝓤) (𝓒 : Calls 𝓤 𝓛.H) (Λ : Loops 𝓤 𝓛.H) (fm : FmC 𝓤 𝓛.H 𝓛.laws 𝓒)
     (known : Triple 𝓤 (𝓒 #inner) (Met 𝓛 inner.ended (inner.clauses 𝓛 at_mem run))) where
   open 𝓛 use {H}
 
@@ -53,15 +53,15 @@ module _ {M : Type 1} {𝓤 : Ura M} (𝓛 : Logic 𝓤) (at_mem : Memory → SP
     at = (shr_vals x, (vint w32 year ∷ [], (vint w32 start ∷ [], (vint w32 step ∷ [], (vint w32 first ∷ [], (vint w32 last ∷ [], (sv ∷ [], (mv ∷ [], (hv ∷ [], tt)))))))))
 
     abbrev Said : Turnings → List ℤ → List ℕ → List ℤ → Type 0
-    Said r series_left minutes_left heights_left = Year_post x.now (record { year = year; start = start; step = step; first = first; last = last }) series.now series_left minutes.now minutes_left heights.now heights_left (turnings_returned r) × Plain_turnings r
+    Said r series_left minutes_left heights_left = YearPost x.now (record { year = year; start = start; step = step; first = first; last = last }) series.now series_left minutes.now minutes_left heights.now heights_left (turnings_returned r) × PlainTurnings r
 
     abbrev ghosts : Walk.Ghost
     ghosts = (((κ, (κ₁, (κ₂, (κ₃, tt)))), (q, (q₁, (q₂, (q₃, tt)))), tt, (x, (year, (start, (step, (first, (last, (series, (minutes, (heights, tt))))))))), at), tt)
 
     walk : year < 2 ^ 32 → start < 2 ^ 32 → step < 2 ^ 32 → first < 2 ^ 32 → last < 2 ^ 32 → Room i64 (length series.now) → Room u32 (length minutes.now) → Room i64 (length heights.now)
-        → ent 𝓤 (Walk.pre ghosts) (Wp_fn 𝓤 H 𝓒 Λ code.function (Walk.args ghosts) (Walk.post ghosts))
+        → ent 𝓤 (Walk.pre ghosts) (WpFn 𝓤 H 𝓒 Λ code.function (Walk.args ghosts) (Walk.post ghosts))
     walk gy gs gt gf gl gk gm gn = needs 𝓤 (Made x.now) _ (λ made.
-        qed 𝓛 ((‵ (flft κ q) ⊛ raw (toks 𝓛 3 (κ₁, (κ₂, (κ₃, tt))) (q₁, (q₂, (q₃, tt))))) ∷ ‵ (owns (Shr_ref (named 0) κ T.the_row ∷ u32 ∷ u32 ∷ u32 ∷ u32 ∷ u32 ∷ Mut_slice (named 1) κ₁ i64 ∷ Mut_slice (named 2) κ₂ u32 ∷ Mut_slice (named 3) κ₃ i64 ∷ []) (x, (year, (start, (step, (first, (last, (series, (minutes, (heights, tt))))))))) at) ∷ []) ∵ enter ! 𝓒 Λ code.function (Walk.args ghosts) _ $
+        qed 𝓛 ((‵ (flft κ q) ⊛ raw (toks 𝓛 3 (κ₁, (κ₂, (κ₃, tt))) (q₁, (q₂, (q₃, tt))))) ∷ ‵ (owns (ShrRef (named 0) κ T.the_row ∷ u32 ∷ u32 ∷ u32 ∷ u32 ∷ u32 ∷ MutSlice (named 1) κ₁ i64 ∷ MutSlice (named 2) κ₂ u32 ∷ MutSlice (named 3) κ₃ i64 ∷ []) (x, (year, (start, (step, (first, (last, (series, (minutes, (heights, tt))))))))) at) ∷ []) ∵ enter ! 𝓒 Λ code.function (Walk.args ghosts) _ $
         alloc1 ! (λ l₀. alloc1 ! (λ l₁. alloc1 ! (λ l₂. alloc1 ! (λ l₃. alloc1 ! (λ l₄. alloc1 ! (λ l₅. alloc1 ! (λ l₆. alloc1 ! (λ l₇. alloc1 ! (λ l₈. alloc1 ! (λ l₉. alloc1 ! (λ l₁₀. alloc1 ! (λ l₁₁. alloc1 ! (λ l₁₂. alloc1 ! (λ l₁₃. alloc1 ! (λ l₁₄. alloc1 ! (λ l₁₅. alloc1 ! (λ l₁₆. alloc0 ! $ params1 ! $
         pass1 ! (init ! 30 refl (tt, tt)) $ pass1 ! (init ! 28 refl (tt, record { fits = gy })) $ pass1 ! (init ! 26 refl (tt, record { fits = gs })) $ pass1 ! (init ! 24 refl (tt, record { fits = gt })) $ pass1 ! (init ! 22 refl (tt, record { fits = gf })) $ pass1 ! (init ! 20 refl (tt, record { fits = gl })) $
         pass1 ! (init ! 18 refl (tt, (tt, (record { fits = gk.0 }, tt)))) $ pass1 ! (init ! 16 refl (tt, (tt, (record { fits = gm.0 }, tt)))) $ pass1 ! (init ! 14 refl (tt, (tt, (record { fits = gn.0 }, tt)))) $ pass0 ! $
@@ -80,8 +80,8 @@ module _ {M : Type 1} {𝓤 : Ura M} (𝓛 : Logic 𝓤) (at_mem : Memory → SP
         suffices ! _ (ends_at 𝓛 it.ended stayed (it.clauses 𝓛 at_mem run) ghosts v r ws (tt, (tt, (tt, (tt, (tt, (tt, (tt, (tt, (tt, tt)))))))))) $ says ! p $
         move ! (3 ∷ 1 ∷ []) $ join ! $ frame ! $ move ! (1 ∷ []) $ frame ! $ done !))))))))))))))))))))
 
-  walks : Walks 𝓛 it.ended stayed (Wp_fn 𝓤 H 𝓒 Λ code.function) (it.clauses 𝓛 at_mem run)
-  walks = walked 𝓛 it.ended stayed (it.clauses 𝓛 at_mem run) (Wp_fn 𝓤 H 𝓒 Λ code.function)
+  walks : Walks 𝓛 it.ended stayed (WpFn 𝓤 H 𝓒 Λ code.function) (it.clauses 𝓛 at_mem run)
+  walks = walked 𝓛 it.ended stayed (it.clauses 𝓛 at_mem run) (WpFn 𝓤 H 𝓒 Λ code.function)
       (λ κs. (shr_vals, (uint_vals w32, (uint_vals w32, (uint_vals w32, (uint_vals w32, (uint_vals w32, (shr_slice_vals, (shr_slice_vals, (shr_slice_vals, tt))))))))))
       (λ κs. (shr_Tells (named 0) κs.0 T.the_row, (uint_Tells w32, (uint_Tells w32, (uint_Tells w32, (uint_Tells w32, (uint_Tells w32, (mut_slice_Tells (named 1) κs.1.0 i64, (mut_slice_Tells (named 2) κs.1.1.0 u32, (mut_slice_Tells (named 3) κs.1.1.1.0 i64, tt))))))))))
       (λ κs qs bounds a g are. walk κs.0 κs.1.0 κs.1.1.0 κs.1.1.1.0 qs.0 qs.1.0 qs.1.1.0 qs.1.1.1.0 a.0 a.1.0 a.1.1.0 a.1.1.1.0 a.1.1.1.1.0 a.1.1.1.1.1.0 a.1.1.1.1.1.1.0 a.1.1.1.1.1.1.1.0 a.1.1.1.1.1.1.1.1.0

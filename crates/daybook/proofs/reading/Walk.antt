@@ -6,19 +6,19 @@ use mathlib.Core.List.{List}
 use native.Mathlib.Numerals.{add-one}
 use native.Mathlib.Omega.{arith}
 use lib.Dec.{eqb, leb}
-use lib.List_n.{length, take, drop, set, length-take, length-drop}
+use lib.ListN.{length, take, drop, set, length-take, length-drop}
 use lib.Seq.{length-take-le, take-suc-set}
 use borrow.Author.Tests.{leb-true, leb-false, ne_eqb}
 use Rattle.columns.specs.Columns.{column}
 use Rattle.columns.specs.Lines.{lines_of, first_line}
 use Rattle.columns.proofs.Lines.{lines_next}
-use Rattle.card.specs.inner.Lines.{Next_line}
+use Rattle.card.specs.inner.Lines.{NextLine}
 use Rattle.card.proofs.lines.Walk.{lines-here, lines_end, line-within}
 use Rattle.commandline.specs.Times.{time_of}
-use Rattle.commandline.specs.declared.times.Time.The_variants as time
+use Rattle.commandline.specs.declared.times.Time.TheVariants as time
 use Rattle.daybook.specs.Booking.{without_return, booking_of}
 use Rattle.daybook.specs.Bookings.{no_booking, minutes_from, longest_of}
-use Rattle.daybook.specs.declared.booking.Booking.The_variants.{At, No_booking}
+use Rattle.daybook.specs.declared.booking.Booking.TheVariants.{At, NoBooking}
 
 -- a line without its CR is no longer
 pub without-short : (line : List ℕ) → length (without_return line) ≤ length line
@@ -30,7 +30,7 @@ without-short line = go (eqb (column line (length line - 1)) 13)
     go false = omega arith
 
 -- a word of another length is no time
-no-time : (word : List ℕ) → (length word ≡ 5 → ⊥) → time_of word ≡ time.No_time
+no-time : (word : List ℕ) → (length word ≡ 5 → ⊥) → time_of word ≡ time.NoTime
 unfolding time_of
 no-time word h = rw (ne_eqb _ _ h)
 
@@ -39,7 +39,7 @@ pub booked-long : (line : List ℕ) (minute : ℕ) → booking_of line ≡ At mi
 unfolding booking_of
 booked-long line minute e = go (leb 8 (length line)) refl
   where
-    either : (t : Bool) → cond t No_booking No_booking ≡ No_booking
+    either : (t : Bool) → cond t NoBooking NoBooking ≡ NoBooking
     either true = refl
     either false = refl
 
@@ -47,7 +47,7 @@ booked-long line minute e = go (leb 8 (length line)) refl
     go true h = leb-true 8 (length line) h
     go false h =
         let short = no-time (take 5 (drop 3 line)) (λ five. omega (arith, leb-false 8 (length line) h, five, length-take 5 (drop 3 line), length-drop 3 line)) in
-        let none : No_booking ≡ At minute = rw (short, either) at e in
+        let none : NoBooking ≡ At minute = rw (short, either) at e in
         absurd (let z : ◌≡◌ {A = ℕ} 0 1 = cc in omega arith)
 
 module _ (file : List ℕ) (at : ℕ) (here : at < length file) where
@@ -59,12 +59,12 @@ module _ (file : List ℕ) (at : ℕ) (here : at < length file) where
       (omega (arith, without-short line), omega (arith, without-short line, line-within file at here))
 
   -- a line that is no booking ends the reading
-  pub stops : (minutes : List ℕ) (k : ℕ) → k ≤ length minutes → booking_of (without_return (first_line (drop at file))) ≡ No_booking
+  pub stops : (minutes : List ℕ) (k : ℕ) → k ≤ length minutes → booking_of (without_return (first_line (drop at file))) ≡ NoBooking
       → no_booking (k + 1) ≡ minutes_from (take k minutes) (lines_of (drop at file))
   unfolding minutes_from
   stops minutes k h e = rw (lines_next (drop at file) (omega (arith, length-drop at file)), e, length-take-le k minutes h)
 
-  module _ (next : ℕ) (there : Next_line file at next) where
+  module _ (next : ℕ) (there : NextLine file at next) where
     -- the next line starts behind a booking's eight bytes
     pub next-far : (minute : ℕ) → booking_of (without_return (first_line (drop at file))) ≡ At minute → at + 8 ≤ next
     next-far minute e =

@@ -3,20 +3,20 @@ use Rattle.std.specs.Prelude.{ℕ, ◌≤◌, List, ◌≡◌, length, take}
 use Rattle.columns.specs.Lines.{lines_of}
 use Rattle.daybook.specs.Bookings.{Read, bookings, no_booking, minutes_of}
 use Rattle.daybook.specs.declared.reading.Reading.{Reading}
-use Rattle.daybook.specs.declared.reading.Reading.The_variants.{Bookings, No_booking}
+use Rattle.daybook.specs.declared.reading.Reading.TheVariants.{Bookings, NoBooking}
 
 -- so many of the minutes are filled in
 abbrev pub reading_gives : Reading → List ℕ → Read
 reading_gives (Bookings count) minutes = bookings (take count minutes)
-reading_gives (No_booking line) minutes = no_booking line
+reading_gives (NoBooking line) minutes = no_booking line
 
 -- there is a place for each
 abbrev pub Within : Reading → ℕ → Type 0
 Within (Bookings count) places = count ≤ places
-Within (No_booking line) places = Unit
+Within (NoBooking line) places = Unit
 
 -- so many places were lent
-pub record Read_post (file : List ℕ) (places : ℕ) (left : List ℕ) (r : Reading) : Type 0 where
+pub record ReadPost (file : List ℕ) (places : ℕ) (left : List ℕ) (r : Reading) : Type 0 where
   pub gives : reading_gives r left ≡ minutes_of (lines_of file)
   pub kept : length left ≡ places
   pub within : Within r places

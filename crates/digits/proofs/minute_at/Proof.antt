@@ -1,6 +1,6 @@
 -- `digits::minute_at` meets its contract: past the end of the row `get_or` gives 0. Assumes nothing.
 use mathlib.Core.Path.{sym}
-use lib.List_n.{get_or-eq_default}
+use lib.ListN.{get_or-eq_default}
 use borrow.Author.Rules.{rules}
 use Rattle.digits.proofs.minute_at.Statement.{statement}
 use Rattle.digits.proofs.minute_at.Tie as tie

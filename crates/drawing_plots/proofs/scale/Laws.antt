@@ -9,8 +9,8 @@ use native.Mathlib.Numerals.{add-one}
 use native.Mathlib.Omega.{arith}
 use borrow.Author.Tests.{ltb-true, leb-true, leb-false}
 use lib.Dec.{leb, ltb, lit<}
-use lib.Int_n.{ℤ, pos, nat_abs}
-use lib.List_n.{get_or, length, drop}
+use lib.IntN.{ℤ, pos, nat_abs}
+use lib.ListN.{get_or, length, drop}
 use lib.Seq.{drop-cons}
 use lib.Signed.{lt_z}
 use Rattle.angles.proofs.Machine.{if-negative, if-not-negative}

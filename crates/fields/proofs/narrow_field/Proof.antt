@@ -5,7 +5,7 @@ use Rattle.fields.proofs.narrow_field.Statement.{statement}
 use Rattle.fields.proofs.narrow_field.Tie as tie
 use mathlib.Core.Path.{◌∙◌}
 use Prim.Native.Nat.{ℕ, ◌<◌, ◌^◌}
-use lib.Int_n.{pos}
+use lib.IntN.{pos}
 use mir.Syntax.{w64}
 use mir.Val.{SFits}
 use Rattle.columns.specs.Columns.{columns}

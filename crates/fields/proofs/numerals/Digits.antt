@@ -4,7 +4,7 @@ use mathlib.Core.Path.{◌≡◌, refl}
 use Prim.Native.Nat.{ℕ, zero, suc, ◌+◌, ◌-◌, ◌*◌, ◌≤◌, ◌<◌, min}
 use mathlib.Core.List.{List, [], ◌∷◌, ◌++◌}
 use mathlib.Core.Bool.{true, false}
-use lib.List_n.{get_or, replicate}
+use lib.ListN.{get_or, replicate}
 use lib.Dec.{eqb}
 use native.Mathlib.Omega.{arith}
 use Rattle.columns.specs.Columns.{columns, padded}

@@ -4,7 +4,7 @@ use mathlib.Core.Path.{◌≡◌, sym}
 use Prim.Native.Nat.{ℕ, ◌+◌, ◌-◌}
 use mathlib.Core.List.{List}
 use mathlib.Core.Bool.{◌&&◌}
-use lib.List_n.{length, take, drop, replicate, length-append}
+use lib.ListN.{length, take, drop, replicate, length-append}
 use lib.Dec.{leb, ltb}
 use native.Mathlib.Nat.{sub-zero}
 use Rattle.columns.specs.Bytes.{blank, every, leading, behind}

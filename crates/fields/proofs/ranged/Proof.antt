@@ -5,10 +5,10 @@ use Rattle.fields.proofs.ranged.Statement.{statement}
 use Rattle.fields.proofs.ranged.Tie as tie
 use mathlib.Core.Path.{◌≡◌, sym}
 use Prim.Native.Nat.{suc, ◌-◌, ◌<◌}
-use lib.Int_n.{negsuc, ◌-ℤ◌}
+use lib.IntN.{negsuc, ◌-ℤ◌}
 use mir.Syntax.{w64}
 use mir.Val.{to_z}
-use mir.Val_laws.{to_z-of_z}
+use mir.ValLaws.{to_z-of_z}
 use Rattle.fields.proofs.Ranges.{out_below, out-above, small_pos, minus_is, minus-fits}
 
 within-requires : tie.Need-within-requires

@@ -4,7 +4,7 @@ use Rattle.fields.proofs.ranged_field.Statement.{statement}
 use Rattle.fields.proofs.ranged_field.Tie as tie
 use mathlib.Core.Path.{◌∙◌}
 use mir.Syntax.{w64}
-use mir.Val_laws.{to_z-of_z}
+use mir.ValLaws.{to_z-of_z}
 use Rattle.columns.specs.Columns.{columns}
 use Rattle.fields.specs.Number.{ranged}
 use Rattle.fields.proofs.Ranges.{written-gives}

@@ -8,8 +8,8 @@ use Rattle.fields.proofs.Ranges.{le_z-lt_z}
 use lib.Signed.{lt_z, le_z}
 use mathlib.Core.Bool.{true, false}
 use mir.Syntax.{w64}
-use mir.Val_laws.{to_z-of_z}
-use Rattle.fields.specs.declared.Field.The_variants.{Value}
+use mir.ValLaws.{to_z-of_z}
+use Rattle.fields.specs.declared.Field.TheVariants.{Value}
 
 returns : tie.Need-returns
 unfolding ranged

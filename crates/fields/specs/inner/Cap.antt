@@ -2,7 +2,7 @@
 -- Only inner functions cite this; the contract of `fields::ranged_field` knows no cap (`cap-loses-nothing` of its proofs/Ranges.antt).
 use Rattle.std.specs.Prelude.{ℕ, min, Bool, cond}
 use Rattle.fields.specs.declared.numerals.Size.{Size}
-use Rattle.fields.specs.declared.numerals.Size.The_variants.{Of, Bad}
+use Rattle.fields.specs.declared.numerals.Size.TheVariants.{Of, Bad}
 
 -- 2^63 + 1
 abbrev pub cap : ℕ

@@ -4,10 +4,10 @@ use Rattle.fields.specs.Numerals.{begins, whole_good, whole_size, fixed_good, fi
 use Rattle.fields.specs.inner.Cap.{kept}
 use Rattle.fields.specs.Number.{Contents, numeric, malformed, signed}
 use Rattle.fields.specs.declared.numerals.Size.{Size}
-use Rattle.fields.specs.declared.numerals.Size.The_variants.{Of, Bad}
+use Rattle.fields.specs.declared.numerals.Size.TheVariants.{Of, Bad}
 use Rattle.fields.specs.declared.Written.{Written}
 use Rattle.fields.specs.declared.Format.{Format}
-use Rattle.fields.specs.declared.Format.The_variants.{Whole, Fixed}
+use Rattle.fields.specs.declared.Format.TheVariants.{Whole, Fixed}
 
 -- of a field behind its sign
 unfoldable pub kept_of : Format → List ℕ → Size

@@ -2,11 +2,11 @@
 use borrow.Author.Rules.{rules}
 use mathlib.Core.Path.{◌≡◌, refl}
 use mathlib.Core.Bool.{true, false}
-use lib.Int_n.{ℤ, pos, negsuc, neg_ℤ}
+use lib.IntN.{ℤ, pos, negsuc, neg_ℤ}
 use lib.Signed.{lt_z, le_z}
 use mir.Syntax.{w32}
 use mir.Val.{SFits}
-use mir.Val_laws.{to_z-of_z}
+use mir.ValLaws.{to_z-of_z}
 use Rattle.files.proofs.descriptor.Statement.{statement}
 use Rattle.files.proofs.descriptor.Tie as tie
 

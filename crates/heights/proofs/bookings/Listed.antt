@@ -3,8 +3,8 @@ use Prim.Native.Nat.{ℕ, zero, suc, ◌<◌}
 use native.Mathlib.Omega.{arith}
 use mathlib.Core.Path.{◌≡◌, refl, sym, ◌∙◌}
 use mathlib.Core.List.{List, [], ◌∷◌, map}
-use lib.Int_n.{ℤ, pos}
-use lib.List_n.{length, get_or, length-map}
+use lib.IntN.{ℤ, pos}
+use lib.ListN.{length, get_or, length-map}
 use lib.Seq.{ext_get_or}
 
 module _ (height : ℕ → ℤ) where

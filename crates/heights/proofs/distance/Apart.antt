@@ -3,7 +3,7 @@
 use Prim.Native.Nat.{ℕ, zero, suc, ◌+◌, ◌*◌, ◌≤◌, ◌<◌}
 use native.Mathlib.Omega.{arith}
 use mathlib.Core.Path.{◌≡◌, sym, ap, subst, ◌∙◌}
-use lib.Int_n.{ℤ, pos, neg_ℤ, nat_abs, ◌+ℤ◌, ◌-ℤ◌, ◌*ℤ◌, +ℤ_assoc, +ℤ_idl, +ℤ_idr, +ℤ_invr, -ℤ-+ℤ_cancel, *ℤ_comm}
+use lib.IntN.{ℤ, pos, neg_ℤ, nat_abs, ◌+ℤ◌, ◌-ℤ◌, ◌*ℤ◌, +ℤ_assoc, +ℤ_idl, +ℤ_idr, +ℤ_invr, -ℤ-+ℤ_cancel, *ℤ_comm}
 use Rattle.angles.specs.Floor.{floor_div}
 use Rattle.angles.proofs.Ints.{by_order, triangle, nat_abs_mul, distrib-sub}
 use Rattle.angles.proofs.Floors.{floor_rest, floor-split, rest_below}

@@ -7,8 +7,8 @@ use native.Mathlib.Nat.{mul-le-mul_left}
 use mathlib.Core.List.{List, [], ◌∷◌}
 use mathlib.Core.Path.{◌≡◌, sym, ap, ap₂, subst, ◌∙◌}
 use lib.Dec.{lit<}
-use lib.Int_n.{ℤ, pos, neg_ℤ, nat_abs, ◌+ℤ◌, ◌-ℤ◌, ◌*ℤ◌, *ℤ_comm}
-use lib.List_n.{length, get_or}
+use lib.IntN.{ℤ, pos, neg_ℤ, nat_abs, ◌+ℤ◌, ◌-ℤ◌, ◌*ℤ◌, *ℤ_comm}
+use lib.ListN.{length, get_or}
 use Rattle.angles.specs.Floor.{floor_div}
 use Rattle.angles.proofs.Ints.{nat_abs-neg, neg-mul, assoc, distrib, distrib-right}
 use Rattle.cosine.specs.Fraction.{quarter, whole, cosine, sine}
@@ -19,7 +19,7 @@ use Rattle.heights.specs.Angle.{angle_at}
 use Rattle.heights.specs.Share.{share}
 use Rattle.heights.specs.Height.{sum_of_shares, height_at}
 use Rattle.heights.specs.Series.{series_of}
-use Rattle.heights.specs.Exact.{exact_sum, sizes, scale, Near, Heights_near}
+use Rattle.heights.specs.Exact.{exact_sum, sizes, scale, Near, HeightsNear}
 use Rattle.heights.proofs.series.Written.{series-height}
 use Rattle.heights.proofs.distance.Apart.{apart-sums, apart-through, apart-times, apart-floor, apart-nearest}
 
@@ -80,7 +80,7 @@ module _ (e : ℕ) (claim : (t : ℕ) → Within e (fixed_cosine t) (cosine t)) 
 
 -- ---- at cosine's own bound: both sides are divided by it
 
-pub height-is-near : Heights_near
+pub height-is-near : HeightsNear
 height-is-near cs minute =
     let h = height_at cs minute in
     let a = pos (scale * whole) *ℤ h in

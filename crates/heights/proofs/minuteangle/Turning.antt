@@ -5,7 +5,7 @@ use Prim.Native.Nat.{ℕ, zero, suc, ◌+◌, ◌-◌, ◌*◌, ◌/◌, ◌%◌
 use native.Mathlib.Omega.{arith}
 use native.Mathlib.Nat.{div-add-mod}
 use mathlib.Core.Path.{◌≡◌, sym, ap, ◌∙◌}
-use lib.Int_n.{ℤ, pos, neg_ℤ, ◌+ℤ◌, ◌-ℤ◌, ◌*ℤ◌, +ℤ_assoc, neg_ℤ-+ℤ}
+use lib.IntN.{ℤ, pos, neg_ℤ, ◌+ℤ◌, ◌-ℤ◌, ◌*ℤ◌, +ℤ_assoc, neg_ℤ-+ℤ}
 use Rattle.angles.specs.Ticks.{turn, centidegree}
 use Rattle.angles.specs.Floor.{mod_turn}
 use Rattle.angles.proofs.Ints.{by_order, distrib, distrib-sub, four, swap}

@@ -6,14 +6,14 @@ use mathlib.Core.Bool.{Bool, true, false}
 use mathlib.Core.Path.{◌≡◌, refl, sym, ap, ◌∙◌}
 use mathlib.Core.List.{List, ◌++◌}
 use lib.Dec.{ltb}
-use lib.Int_n.{ℤ, pos}
-use lib.List_n.{length, get_or, take, get_or-append}
+use lib.IntN.{ℤ, pos}
+use lib.ListN.{length, get_or, take, get_or-append}
 use lib.Seq.{length-take-le, get_or-take, get_or-append-add, ext_get_or}
 use borrow.Author.Tests.{ltb-true, ltb-false}
 use borrow.Author.Count.{below_none}
-use borrow.Rule.Slice.Part_mut.{put_mid, post_of}
+use borrow.Rule.Slice.PartMut.{put_mid, post_of}
 use Rattle.heights.specs.Series.{series_of}
-use Rattle.heights.specs.inner.Places.{Series_within}
+use Rattle.heights.specs.inner.Places.{SeriesWithin}
 use Rattle.heights.proofs.series.Written.{series-height, series-length}
 
 -- before place n: the heights before it are the series'
@@ -23,7 +23,7 @@ pub record Joining (height : ℕ → ℤ) (start step : ℕ) (out₀ out : List 
   pub right : (i : ℕ) → i < n → get_or out i (pos 0) ≡ height (start + i * step)
 
 -- each place's minute is within the months
-pub minute-within : {last start step places : ℕ} → Series_within last start step places → (n : ℕ) → n < places → start + n * step ≤ last
+pub minute-within : {last start step places : ℕ} → SeriesWithin last start step places → (n : ℕ) → n < places → start + n * step ≤ last
 minute-within {last} {start} {step} {places} s n h = omega (arith, mul-le-mul_right {m = n} {n = places - 1} step (omega arith), s.ends)
 
 module _ (height : ℕ → ℤ) (start step : ℕ) where

@@ -4,10 +4,10 @@ use native.Mathlib.Omega.{arith}
 use native.Mathlib.Nat.{div-add-mod}
 use mathlib.Core.Path.{◌≡◌, sym, ap, ap₂, ◌∙◌}
 use mathlib.Core.List.{List}
-use lib.List_n.{get_or}
+use lib.ListN.{get_or}
 use Rattle.angles.specs.Ticks.{turn}
 use Rattle.heights.proofs.minuteangle.Turning.{lap, angle-below, angle-later}
-use Rattle.heights.specs.inner.Angles.{Angles, Advances, Below, Moved_on}
+use Rattle.heights.specs.inner.Angles.{Angles, Advances, Below, MovedOn}
 
 -- what a constituent advances, from the frequency less whole laps
 pub advance-is : (f s : ℕ) → f % lap * s % lap * 1_314 ≡ 1_314 * f * s % turn
@@ -24,7 +24,7 @@ angles-below arguments lags frequencies angles count minute here k h = rw (here 
 pub ticks-below : (frequencies ticks : List ℕ) (count step : ℕ) → Advances frequencies count step ticks → Below count ticks
 ticks-below frequencies ticks count step each k h = rw (each k h) (omega arith)
 
-pub angles-later : (arguments lags frequencies angles ticks : List ℕ) (count minute step : ℕ) → Angles arguments lags frequencies count minute angles → Advances frequencies count step ticks → (later : List ℕ) → Moved_on count ticks angles later → Angles arguments lags frequencies count (minute + step) later
+pub angles-later : (arguments lags frequencies angles ticks : List ℕ) (count minute step : ℕ) → Angles arguments lags frequencies count minute angles → Advances frequencies count step ticks → (later : List ℕ) → MovedOn count ticks angles later → Angles arguments lags frequencies count (minute + step) later
 angles-later arguments lags frequencies angles ticks count minute step here each later moved k h =
     moved k h
     ∙ (ap₂ (λ (a b : ℕ). (a + b) % turn) (here k h) (each k h) ∙ sym (angle-later (get_or arguments k 0) (get_or lags k 0) (get_or frequencies k 0) minute step))

@@ -4,8 +4,8 @@ use native.Mathlib.Omega.{arith}
 use native.Mathlib.Numerals.{add-one}
 use mathlib.Core.Path.{◌≡◌, refl, ap, ◌∙◌}
 use mathlib.Core.List.{List, [], ◌∷◌, ◌++◌, append-nil}
-use lib.Int_n.{ℤ, pos}
-use lib.List_n.{length, get_or, set, drop_of_length-le}
+use lib.IntN.{ℤ, pos}
+use lib.ListN.{length, get_or, set, drop_of_length-le}
 use lib.Seq.{sets, sets-eq}
 use Rattle.heights.specs.Series.{series_from, series_of}
 

@@ -21,12 +21,12 @@ abbrev pub Below : ℕ → List ℕ → Type 0
 Below count angles = (k : ℕ) → k < count → get_or angles k 0 < turn
 
 -- each of the first `count` is moved on by its own ticks
-abbrev pub Moved_on : ℕ → List ℕ → List ℕ → List ℕ → Type 0
-Moved_on count ticks angles later = (k : ℕ) → k < count → get_or later k 0 ≡ (get_or angles k 0 + get_or ticks k 0) % turn
+abbrev pub MovedOn : ℕ → List ℕ → List ℕ → List ℕ → Type 0
+MovedOn count ticks angles later = (k : ℕ) → k < count → get_or later k 0 ≡ (get_or angles k 0 + get_or ticks k 0) % turn
 
 -- the height of constituents with these weights, at whatever minute the angles are theirs
-abbrev pub Height_of : List ℕ → List ℤ → List ℤ → ℕ → ℤ → Type 0
-Height_of angles ps qs count height =
+abbrev pub HeightOf : List ℕ → List ℤ → List ℤ → ℕ → ℤ → Type 0
+HeightOf angles ps qs count height =
     (arguments lags frequencies : List ℕ) (minute : ℕ) →
     Angles arguments lags frequencies count minute angles →
     height ≡ height_at (constituents_from arguments lags frequencies ps qs count) minute

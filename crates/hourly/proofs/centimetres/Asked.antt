@@ -5,8 +5,8 @@ use mathlib.Core.Bool.{Bool, true, false, ◌||◌}
 use mathlib.Core.List.{List, [], ◌∷◌}
 use Prim.Native.Nat.{ℕ, zero, suc, ◌+◌, ◌-◌, ◌*◌, ◌/◌, ◌≤◌, ◌<◌}
 use native.Mathlib.Omega.{arith}
-use lib.Int_n.{ℤ, pos}
-use lib.List_n.{length, get_or, take, drop, length-map, length-drop, get_or-map}
+use lib.IntN.{ℤ, pos}
+use lib.ListN.{length, get_or, take, drop, length-map, length-drop, get_or-map}
 use lib.Seq.{length-take-le, get_or-take, get_or-drop}
 use Rattle.refusals.specs.Outcome.{accepted, refused}
 use Rattle.hourly.specs.Card.{Entry, value}
@@ -45,17 +45,17 @@ module _ (hours : List ℤ) (first : ℕ) (there : first + 12 ≤ length hours) 
       ∙ ap entry_of (get_or-take 12 (drop first hours) j (pos 0) h ∙ get_or-drop first hours j (pos 0))
 
 module _ (hours : List ℤ) (station year month : ℕ) where
-  abbrev Outside_at : ℕ → Bool
-  Outside_at k = outside (entry_of (get_or hours k (pos 0)))
+  abbrev OutsideAt : ℕ → Bool
+  OutsideAt k = outside (entry_of (get_or hours k (pos 0)))
 
-  card-inside : (i : ℕ) → 12 * i + 12 ≤ length hours → ((k : ℕ) → k < 12 * i + 12 → Outside_at k ≡ false) → any_outside (entries_at hours (12 * i)) ≡ false
+  card-inside : (i : ℕ) → 12 * i + 12 ≤ length hours → ((k : ℕ) → k < 12 * i + 12 → OutsideAt k ≡ false) → any_outside (entries_at hours (12 * i)) ≡ false
   card-inside i there h =
       any_false (entries_at hours (12 * i)) (entry_of (pos 0))
       (λ j l.
       let b : j < 12 = omega (arith, entries-length hours (12 * i) there) in
       ap outside (entry_at hours (12 * i) there j b) ∙ h (12 * i + j) (omega arith))
 
-  card-outside : (i k : ℕ) → 12 * i + 12 ≤ length hours → 12 * i ≤ k → k < 12 * i + 12 → Outside_at k ≡ true → any_outside (entries_at hours (12 * i)) ≡ true
+  card-outside : (i k : ℕ) → 12 * i + 12 ≤ length hours → 12 * i ≤ k → k < 12 * i + 12 → OutsideAt k ≡ true → any_outside (entries_at hours (12 * i)) ≡ true
   card-outside i k there low high e =
       let b : k - 12 * i < 12 = omega arith in
       let same : 12 * i + (k - 12 * i) ≡ k = omega arith in
@@ -63,14 +63,14 @@ module _ (hours : List ℤ) (station year month : ℕ) where
       (ap outside (entry_at hours (12 * i) there (k - 12 * i) b) ∙ rw same e)
 
   -- no hour is outside
-  pub all-accepted : ((k : ℕ) → k < length hours → Outside_at k ≡ false) → (i n place : ℕ) → 12 * (i + n) ≤ length hours → heights_asked place (cards_after hours station year month i n) ≡ accepted tt
+  pub all-accepted : ((k : ℕ) → k < length hours → OutsideAt k ≡ false) → (i n place : ℕ) → 12 * (i + n) ≤ length hours → heights_asked place (cards_after hours station year month i n) ≡ accepted tt
   unfolding heights_asked cards_after
   all-accepted inside i zero place h = refl
   all-accepted inside i (suc n) place h =
       rw (card-inside i (omega arith) (λ k l. inside k (omega arith))) (all-accepted inside (i + 1) n (place + 1) (omega arith))
 
   -- hour k is the first that is
-  pub first-refused : (k : ℕ) → ((j : ℕ) → j < k → Outside_at j ≡ false) → Outside_at k ≡ true → (i n : ℕ) → 12 * i ≤ k → k < 12 * (i + n) → 12 * (i + n) ≤ length hours → heights_asked (i + 1) (cards_after hours station year month i n) ≡ refused 33 (k / 12 + 1)
+  pub first-refused : (k : ℕ) → ((j : ℕ) → j < k → OutsideAt j ≡ false) → OutsideAt k ≡ true → (i n : ℕ) → 12 * i ≤ k → k < 12 * (i + n) → 12 * (i + n) ≤ length hours → heights_asked (i + 1) (cards_after hours station year month i n) ≡ refused 33 (k / 12 + 1)
   unfolding heights_asked cards_after
   first-refused k inside e i zero low high h = absurd (omega arith)
   first-refused k inside e i (suc n) low high h =

@@ -4,11 +4,11 @@ use mathlib.Core.Path.{◌≡◌, sym, ap, ◌∙◌, subst}
 use Prim.Native.Nat.{ℕ, ◌+◌, ◌*◌, ◌^◌, ◌≤◌, ◌<◌}
 use native.Mathlib.Nat.{div-div-eq-div-mul, le_trans}
 use lib.Dec.{lit<, lit≤}
-use lib.Int_n.{ℤ, pos, negsuc, nat_abs, ◌+ℤ◌}
+use lib.IntN.{ℤ, pos, negsuc, nat_abs, ◌+ℤ◌}
 use mir.Syntax.{w64}
 use lib.Signed.{mag}
 use mir.Val.{SFits}
-use mir.Val_laws.{to_z-of_z}
+use mir.ValLaws.{to_z-of_z}
 use Rattle.angles.specs.Floor.{floor_div}
 use Rattle.angles.proofs.Floors.{floor-shift, floor-size}
 use Rattle.angles.proofs.Known.{Known, read, read-narrow, plus, plainly}

@@ -3,17 +3,17 @@ use mathlib.Core.Path.{◌≡◌, sym, ap, ◌∙◌}
 use mathlib.Core.List.{List}
 use Prim.Native.Nat.{◌*◌, ◌/◌}
 use native.Mathlib.Omega.{arith}
-use lib.Int_n.{pos}
-use lib.List_n.{length, get_or}
+use lib.IntN.{pos}
+use lib.ListN.{length, get_or}
 use lib.Seq.{sets}
 use Rattle.calendar.specs.Calendar.{month_days}
 use Rattle.refusals.specs.Outcome.{accepted, outcome_of, number_of}
-use Rattle.hourly.specs.Card.{Hourly_card}
+use Rattle.hourly.specs.Card.{HourlyCard}
 use Rattle.hourly.specs.Format.{heights_a_card, narrow}
 use Rattle.hourly.specs.Month.{centimetres, heights_asked}
 use Rattle.hourly.specs.Writing.{cards_written}
 use Rattle.hourly.specs.inner.Hours.{cards_in}
-use Rattle.hourly.specs.inner.Fields.{All_fitting, card_length}
+use Rattle.hourly.specs.inner.Fields.{AllFitting, card_length}
 use Rattle.hourly.proofs.Given.{inside-fits, height-refused, room-refused, cards-given}
 use Rattle.hourly.proofs.writing.Cards.{cards-length}
 use borrow.Author.Rules.{rules}
@@ -21,7 +21,7 @@ use Rattle.hourly.proofs.write_cards.Statement.{statement}
 use Rattle.hourly.proofs.write_cards.Tie as tie
 
 -- the month's cards
-abbrev cards_at : tie.Start → List Hourly_card
+abbrev cards_at : tie.Start → List HourlyCard
 cards_at s = let a = s.args in cards_in a.hours.now a.station a.year a.month
 
 -- what is asked of their heights is what the call answered
@@ -39,7 +39,7 @@ module _ (c : tie.After-enum-told) where
   all-accepted : accepted tt ≡ heights_asked 1 (cards_at start)
   all-accepted = sym (ap outcome_of c.enum_told.given.1) ∙ asked c.before.before
 
-  all-fitting : All_fitting narrow start.args.hours.now
+  all-fitting : AllFitting narrow start.args.hours.now
   all-fitting k h = inside-fits (centimetres (get_or start.args.hours.now k (pos 0))) (c.before.before.heights-answer.ensures.inside (ap outcome_of c.enum_told.given.1) k h)
 
   bytes-length : length (cards_written narrow (cards_at start)) ≡ card_length narrow * (length start.args.hours.now / heights_a_card)

@@ -6,15 +6,15 @@ use Prim.Native.Nat.{ℕ, zero, suc, ◌+◌, ◌-◌, ◌*◌, ◌/◌, ◌%◌
 use native.Mathlib.Nat.{suc-mul, zero-mul, mul-le-mul_right}
 use native.Mathlib.Numerals.{add-one}
 use native.Mathlib.Omega.{arith}
-use lib.Int_n.{ℤ, pos}
-use lib.List_n.{length, get_or, set, drop, replicate, length-append}
+use lib.IntN.{ℤ, pos}
+use lib.ListN.{length, get_or, set, drop, replicate, length-append}
 use lib.Seq.{sets, drop-cons}
 use Rattle.hourly.specs.Card.{value}
 use Rattle.hourly.specs.Format.{A}
 use Rattle.hourly.specs.Month.{centimetres}
 use Rattle.hourly.specs.Writing.{entry_written, written_by, card_written, cards_written}
 use Rattle.hourly.specs.inner.Hours.{card_at, cards_after}
-use Rattle.hourly.specs.inner.Fields.{heading_written, heights_written, entries_at, All_fitting, card_length}
+use Rattle.hourly.specs.inner.Fields.{heading_written, heights_written, entries_at, AllFitting, card_length}
 use Rattle.hourly.proofs.centimetres.Asked.{entry_of, entries-length, entry_at}
 use Rattle.hourly.proofs.writing.Fields.{field-length, natural-length}
 use Rattle.hourly.proofs.writing.Stores.{Left, left-all, left-next, left-last, left-none}
@@ -56,7 +56,7 @@ module _ (width : ℕ) (hours : List ℤ) (first : ℕ) (there : first + 12 ≤ 
   unfolding written_by
   heights-end k h = let e : 12 - k ≡ 0 = omega arith in rw e
 
-  module _ (fitting : All_fitting width hours) where
+  module _ (fitting : AllFitting width hours) where
     one-length : (k : ℕ) → k < 12 → length (entry_written width (entry_of (get_or hours (first + k) (pos 0)))) ≡ width
     one-length k h = field-length width (centimetres (get_or hours (first + k) (pos 0))) (fitting (first + k) (omega arith))
 
@@ -87,7 +87,7 @@ module _ (width : ℕ) (hours : List ℤ) (station year month i : ℕ) where
   unfolding written_by
   heading-length = simp (length-append, natural-length)
 
-  module _ (there : 12 * i + 12 ≤ length hours) (fitting : All_fitting width hours) where
+  module _ (there : 12 * i + 12 ≤ length hours) (fitting : AllFitting width hours) where
     pub card-length : length (card_written width (card_at hours station year month i)) ≡ card_length width
     card-length =
         ap length card-parts
@@ -103,7 +103,7 @@ module _ (width : ℕ) (hours : List ℤ) (station year month i : ℕ) where
         rw card-parts (left-last (10 ∷ []) s₂ refl)
 
 -- the cards from card i on
-module _ (width : ℕ) (hours : List ℤ) (station year month : ℕ) (fitting : All_fitting width hours) where
+module _ (width : ℕ) (hours : List ℤ) (station year month : ℕ) (fitting : AllFitting width hours) where
   cards-more : (i n : ℕ) → i < n → cards_written width (cards_after hours station year month i (n - i)) ≡ card_written width (card_at hours station year month i) ++ cards_written width (cards_after hours station year month (i + 1) (n - (i + 1)))
   unfolding cards_written cards_after
   cards-more i n h = let e : n - i ≡ suc (n - (i + 1)) = omega arith in rw e

@@ -5,7 +5,7 @@ use mathlib.Core.List.{List, [], ◌∷◌, ◌++◌}
 use Prim.Native.Nat.{ℕ, suc, ◌+◌}
 use native.Mathlib.Omega.{arith}
 use native.Mathlib.Nat.{add-zero}
-use lib.List_n.{length, set}
+use lib.ListN.{length, set}
 use lib.Seq.{sets, length-sets}
 
 module _ {A : Type 0} where

@@ -14,8 +14,8 @@ abbrev pub Fitting : ℕ → ℤ → Type 0
 Fitting width z = length (text_of width z) ≤ width
 
 -- so is that of every hour, in centimetres
-abbrev pub All_fitting : ℕ → List ℤ → Type 0
-All_fitting width hours = (k : ℕ) → k < length hours → Fitting width (centimetres (get_or hours k (pos 0)))
+abbrev pub AllFitting : ℕ → List ℤ → Type 0
+AllFitting width hours = (k : ℕ) → k < length hours → Fitting width (centimetres (get_or hours k (pos 0)))
 
 -- the heights of a card, from an hour on, as its entries and as its bytes
 abbrev pub entries_at : List ℤ → ℕ → List Entry
@@ -43,6 +43,6 @@ abbrev pub card_length : ℕ → ℕ
 card_length width = heading_length + heights_a_card * width + 1
 
 -- what is said of all hours of any month that has them: what is asked of its cards, and that none is outside where it is accepted
-pub record Heights_answered (hours : List ℤ) (outcome : Outcome Unit) : Type 0 where
+pub record HeightsAnswered (hours : List ℤ) (outcome : Outcome Unit) : Type 0 where
   pub asked : (station year month n : ℕ) → length hours ≡ heights_a_card * n → outcome ≡ heights_asked 1 (cards_after hours station year month 0 n)
   pub inside : outcome ≡ accepted tt → (k : ℕ) → k < length hours → outside (value (centimetres (get_or hours k (pos 0)))) ≡ false

@@ -2,12 +2,12 @@
 -- Assumes nothing.
 use Rattle.std.specs.Prelude.{ℕ, zero, suc, ◌+◌, ◌*◌, ◌/◌, ◌%◌, List, [], ◌∷◌, map, ℤ, take, drop}
 use Rattle.calendar.specs.Calendar.{month_days}
-use Rattle.hourly.specs.Card.{value, Hourly_card}
+use Rattle.hourly.specs.Card.{value, HourlyCard}
 use Rattle.hourly.specs.Format.{heights_a_card}
 use Rattle.hourly.specs.Month.{centimetres}
 
 -- card i, from 0
-abbrev pub card_at : List ℤ → ℕ → ℕ → ℕ → ℕ → Hourly_card
+abbrev pub card_at : List ℤ → ℕ → ℕ → ℕ → ℕ → HourlyCard
 card_at hours station year month i =
     record {
       number = i % 2 + 1;
@@ -19,10 +19,10 @@ card_at hours station year month i =
     }
 
 -- the n cards from card i on
-unfoldable pub cards_after : List ℤ → ℕ → ℕ → ℕ → ℕ → ℕ → List Hourly_card
+unfoldable pub cards_after : List ℤ → ℕ → ℕ → ℕ → ℕ → ℕ → List HourlyCard
 cards_after hours station year month i zero = []
 cards_after hours station year month i (suc n) = card_at hours station year month i ∷ cards_after hours station year month (i + 1) n
 
 -- all of them, two a day
-abbrev pub cards_in : List ℤ → ℕ → ℕ → ℕ → List Hourly_card
+abbrev pub cards_in : List ℤ → ℕ → ℕ → ℕ → List HourlyCard
 cards_in hours station year month = cards_after hours station year month 0 (2 * month_days year month)

@@ -3,7 +3,7 @@ use Prim.Native.Nat.{ℕ, zero, suc, ◌-◌, ◌<◌}
 use mathlib.Core.Path.{◌≡◌}
 use mathlib.Core.List.{List, [], ◌∷◌}
 use native.Mathlib.Omega.{arith}
-use lib.List_n.{length}
+use lib.ListN.{length}
 use Rattle.columns.specs.Lines.{lines_of, first_line, rest_lines}
 use Rattle.columns.proofs.Lines.{lines_next, lines_none}
 use Rattle.messages.specs.Lines.{line_at}

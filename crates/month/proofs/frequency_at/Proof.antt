@@ -5,7 +5,7 @@ use Rattle.month.proofs.frequency_at.Tie as tie
 use mathlib.Core.Path.{sym, ◌∙◌}
 use native.Mathlib.Nat.{zero-add}
 use native.Mathlib.Omega.{arith}
-use lib.List_n.{get_or, get_or-eq_default}
+use lib.ListN.{get_or, get_or-eq_default}
 use Rattle.table.proofs.Rows.{listed_at, listed-length}
 use Rattle.month.specs.inner.View.{frequencies_of}
 

@@ -7,7 +7,7 @@ use native.Mathlib.Omega.{arith}
 use lib.Dec.{lit≤}
 use mir.Syntax.{w32, w64}
 use mir.Val.{SFits}
-use mir.Val_laws.{to_z-of_z}
+use mir.ValLaws.{to_z-of_z}
 use Rattle.angles.proofs.Machine.{fits_below}
 use Rattle.calendar.proofs.Days.{count_small}
 use Rattle.month_arguments.specs.Longitudes.{longitudes_on}

@@ -3,18 +3,18 @@
 use mathlib.Core.Path.{◌≡◌, sym, ap, subst, ◌∙◌}
 use Prim.Native.Nat.{ℕ, ◌-◌, ◌≤◌, ◌^◌, ◌<◌, min}
 use native.Mathlib.Omega.{arith}
-use lib.Int_n.{ℤ, nat_abs}
-use lib.List_n.{length, get_or}
+use lib.IntN.{ℤ, nat_abs}
+use lib.ListN.{length, get_or}
 use mir.Syntax.{w32, w64}
 use mir.Val.{SFits, to_z, of_z}
-use mir.Val_laws.{to_z-of_z}
+use mir.ValLaws.{to_z-of_z}
 use Rattle.limits.specs.Limits.{most_records}
-use Rattle.table.proofs.definitions.Of_rows.{by-first-rows}
+use Rattle.table.proofs.definitions.OfRows.{by-first-rows}
 use Rattle.angles.proofs.Machine.{held, fits_below}
 use Rattle.month_satellites.specs.inner.Ranges.{Sized}
 use Rattle.month_pairs.specs.inner.Ranges.{Small}
 use Rattle.month_prepared.specs.inner.View.{constituents_after}
-use Rattle.month_workings.specs.inner.Given.{Kept_by}
+use Rattle.month_workings.specs.inner.Given.{KeptBy}
 use Rattle.refusals.specs.Outcome as outcome
 use Rattle.month.specs.Month.{weight}
 use Rattle.month.specs.inner.View.{held_upto}
@@ -35,7 +35,7 @@ weighed amplitude x r f h e = to_z-of_z w32 r f ∙ e ∙ ap (weight amplitude) 
 abbrev invariant-loop : tie.invariant-loop
 invariant-loop cosines given table station n mains shallows kept₀ month₀ k₀ kept month k =
     (with_rest table station given (held_upto month k) n k ≡ all table station given) × (k ≤ n) × (n ≤ most_records) × Room month
-    × Kept_by given table.maincards table.mainangles table.satelliteangles table.satelliteratios kept
+    × KeptBy given table.maincards table.mainangles table.satelliteangles table.satelliteratios kept
 
 abbrev decreases-loop : tie.decreases-loop
 decreases-loop cosines given table station n mains shallows kept₀ month₀ k₀ kept month k = n - k
@@ -73,7 +73,7 @@ loop-holds c =
       omega arith,
       omega (arith, n.ensures),
       record { arguments = r₁; lags = r₂; frequencies = r₃; ps = r₄; qs = r₅ },
-      subst (Kept_by a.given a.t2.maincards a.t2.mainangles a.t2.satelliteangles a.t2.satelliteratios) (sym c.before.none_kept.ensures) (none_yet a.t2 a.t3 a.given angles cards),
+      subst (KeptBy a.given a.t2.maincards a.t2.mainangles a.t2.satelliteangles a.t2.satelliteratios) (sym c.before.none_kept.ensures) (none_yet a.t2 a.t3 a.given angles cards),
     )
 
 element-copy-out-place : tie.Need-element-copy-out-place invariant-loop decreases-loop

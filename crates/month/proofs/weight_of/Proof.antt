@@ -5,10 +5,10 @@ use Prim.Native.Nat.{ℕ, ◌*◌, ◌^◌, ◌≤◌}
 use native.Mathlib.Nat.{lt_of_le_of_lt, le_trans}
 use native.Mathlib.Omega.{arith}
 use lib.Dec.{lit<, lit≤}
-use lib.Int_n.{ℤ, nat_abs, pos, ◌*ℤ◌}
+use lib.IntN.{ℤ, nat_abs, pos, ◌*ℤ◌}
 use mir.Syntax.{w64, w32}
 use mir.Val.{SFits, to_z, of_z}
-use mir.Val_laws.{to_z-of_z}
+use mir.ValLaws.{to_z-of_z}
 use Rattle.angles.specs.Floor.{floor_div}
 use Rattle.angles.proofs.Floors.{floor-size}
 use Rattle.angles.proofs.Ints.{mag-nat_abs}

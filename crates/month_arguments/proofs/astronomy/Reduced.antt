@@ -3,14 +3,14 @@ use mathlib.Core.Path.{◌≡◌, refl, sym, ap, subst, ◌∙◌}
 use Prim.Native.Nat.{ℕ, suc, ◌*◌, ◌/◌, ◌%◌, ◌≤◌, ◌<◌}
 use native.Mathlib.Nat.{mod-lt, mod-add-div', div-le_self}
 use native.Mathlib.Omega.{arith}
-use lib.Int_n.{ℤ, pos, negsuc, neg_ℤ, nat_abs, ◌+ℤ◌, ◌*ℤ◌, +ℤ_assoc, *ℤ_comm, neg_ℤ-+ℤ}
+use lib.IntN.{ℤ, pos, negsuc, neg_ℤ, nat_abs, ◌+ℤ◌, ◌*ℤ◌, +ℤ_assoc, *ℤ_comm, neg_ℤ-+ℤ}
 use lib.Signed.{rem_z, quot_z}
 use Rattle.angles.specs.Ticks.{turn, ten_billionth}
 use Rattle.angles.specs.Floor.{mod_turn}
 use Rattle.angles.proofs.Ints.{nat_abs-neg, neg-mul, distrib, assoc}
 use Rattle.angles.proofs.Angles.{below-turn, periodic, of-sum}
 use mathlib.Core.List.{List}
-use lib.List_n.{get_or}
+use lib.ListN.{get_or}
 use Rattle.month_arguments.specs.Longitudes.{longitude, longitudes_on}
 use Rattle.month_arguments.specs.inner.Longitudes.{longitudes_of, Reduced}
 use Rattle.month_arguments.specs.declared.astronomy.Longitudes as code

@@ -2,7 +2,7 @@
 use mathlib.Core.Path.{◌≡◌, refl}
 use mathlib.Core.List.{List, map}
 use Prim.Native.Nat.{ℕ}
-use lib.Int_n.{ℤ}
+use lib.IntN.{ℤ}
 use Rattle.table.specs.inner.View.{listed, main_of}
 use Rattle.table.proofs.entries.Beyond.{listed-map}
 use Rattle.month_satellites.specs.Latitude.{Factors}

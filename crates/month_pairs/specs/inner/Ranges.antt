@@ -2,7 +2,7 @@
 use Rattle.std.specs.Prelude.{ℕ, ◌^◌}
 use Rattle.month_satellites.specs.inner.Ranges.{Sized}
 use Rattle.month_pairs.specs.declared.pairs.Corrected.{Corrected}
-use Rattle.month_pairs.specs.declared.pairs.Corrected.The_variants.{Too_large, Within}
+use Rattle.month_pairs.specs.declared.pairs.Corrected.TheVariants.{TooLarge, Within}
 
 -- refusal 11: X and Y of a pair
 abbrev pub pair_most : ℕ
@@ -10,5 +10,5 @@ pair_most = 2 ^ 22
 
 -- A pair that refusal 11 leaves.
 abbrev pub Small : Corrected → Type 0
-Small Too_large = Unit
+Small TooLarge = Unit
 Small (Within p) = Sized pair_most p

@@ -5,18 +5,18 @@ use Rattle.limits.specs.Limits.{most_records, most_minutes, most_frequency}
 use Rattle.month_prepared.specs.Prepared.{Month}
 use Rattle.month_prepared.specs.Months.{owner_of}
 use Rattle.month_prepared.specs.declared.months.Months.{Months}
-use Rattle.month_prepared.specs.declared.months.In_month.{In_month}
+use Rattle.month_prepared.specs.declared.months.InMonth.{InMonth}
 use Rattle.month_prepared.specs.inner.View.{constituents_from}
 
 -- a month's arguments, ps and qs have a place for each record
-pub record Is_row (vs : List ℕ) (ps qs : List ℤ) : Type 0 where
+pub record IsRow (vs : List ℕ) (ps qs : List ℤ) : Type 0 where
   pub arguments : length vs ≡ most_records
   pub cosines : length ps ≡ most_records
   pub sines : length qs ≡ most_records
 
 -- "cycles an hour, 0 to 0.4999999999": the first `count` frequencies are in the range of the cards
-abbrev pub In_range : ℕ → List ℕ → Type 0
-In_range count frequencies = (k : ℕ) → k < count → get_or frequencies k 0 ≤ most_frequency
+abbrev pub InRange : ℕ → List ℕ → Type 0
+InRange count frequencies = (k : ℕ) → k < count → get_or frequencies k 0 ≤ most_frequency
 
 -- row m, from 0
 abbrev pub row_at : {A : Type 0} → ℕ → List A → List A
@@ -57,14 +57,14 @@ pub record Following (months : Months) : Type 0 where
   pub lasts : (m : ℕ) → m < months.many → get_or months.lasts m 0 ≤ most_minutes
 
 -- the arrays have a row for each month
-pub record Has_rows (months : Months) (vs : List ℕ) (ps qs : List ℤ) : Type 0 where
+pub record HasRows (months : Months) (vs : List ℕ) (ps qs : List ℤ) : Type 0 where
   pub arguments : months.many * most_records ≤ length vs
   pub cosines : months.many * most_records ≤ length ps
   pub sines : months.many * most_records ≤ length qs
 
 -- the owner of a minute: the minutes of the months before it, and its own, which is before its last unless it is the last month. So it is,
 -- whatever stands in the rows.
-pub record Owner_post (months : Months) (minute : ℕ) (r : In_month) : Type 0 where
+pub record OwnerPost (months : Months) (minute : ℕ) (r : InMonth) : Type 0 where
   pub there : r.month < months.many
   pub within : r.minute ≤ most_minutes
   pub lies : minutes_after months.lasts 0 r.month + r.minute ≡ minute

@@ -2,7 +2,7 @@
 use mathlib.Core.Path.{◌≡◌}
 use Prim.Native.Nat.{ℕ, ◌≤◌, ◌<◌}
 use native.Mathlib.Omega.{arith}
-use lib.Int_n.{ℤ, pos, negsuc, nat_abs}
+use lib.IntN.{ℤ, pos, negsuc, nat_abs}
 use Rattle.month_satellites.specs.Latitude.{latitude_size, s20, by_side, diurnal_factor, semidiurnal_factor, factors_at}
 
 small_size : (l : ℤ) → nat_abs l ≤ 300 → latitude_size l ≡ 300

@@ -7,7 +7,7 @@ use Prim.Native.Nat.{ℕ, zero, suc, ◌+◌, ◌-◌, ◌*◌, ◌/◌, ◌%◌
 use native.Mathlib.Nat.{le_refl, le_trans, le_of_lt, eq-or-lt_of_le, add-zero, div-lt_iff_lt-mul, mod-lt}
 use native.Mathlib.Omega.{arith}
 use lib.Dec.{lit≤}
-use lib.Int_n.{pos}
+use lib.IntN.{pos}
 use Rattle.angles.specs.Ticks.{arc_minute}
 use Rattle.cosine.specs.Fraction.{quarter, factorial, arc, unit, term, added, taken, whole, base}
 use Rattle.cosine.specs.Fixed.{entries, step, bound, fixed_base, fixed_cosine, fixed_sine}

@@ -4,7 +4,7 @@ use mathlib.Core.Path.{◌≡◌, refl, sym, ◌∙◌}
 use Prim.Native.Nat.{ℕ, ◌+◌, ◌-◌, ◌*◌, ◌^◌, ◌≤◌, ◌<◌}
 use native.Mathlib.Omega.{arith}
 use native.Mathlib.Nat.{le_trans}
-use lib.Int_n.{ℤ, nat_abs, ◌+ℤ◌, +ℤ_assoc, +ℤ_idr}
+use lib.IntN.{ℤ, nat_abs, ◌+ℤ◌, +ℤ_assoc, +ℤ_idr}
 use lib.Dec.{lit<}
 use mir.Syntax.{w64}
 use mir.Val.{SFits, to_z}

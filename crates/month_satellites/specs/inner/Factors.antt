@@ -8,12 +8,12 @@ abbrev pub factor_most : ℕ
 factor_most = 2 ^ 23
 
 -- S20 of a latitude, from 5 to 90 degrees.
-pub record Is_s20 (s : ℕ) : Type 0 where
+pub record IsS20 (s : ℕ) : Type 0 where
   pub low : 2 ^ 16 ≤ s
   pub high : s ≤ 2 ^ 20
 
 -- Both latitude factors.
-pub record Are_factors (g : Factors) : Type 0 where
+pub record AreFactors (g : Factors) : Type 0 where
   pub diurnal : nat_abs g.diurnal ≤ factor_most
   pub semidiurnal : nat_abs g.semidiurnal ≤ factor_most
 

@@ -17,7 +17,7 @@ abbrev pub sum_most : ℕ
 sum_most = 2 ^ 60
 
 -- Longitudes modulo T.
-pub record Are_angles (l : Nodal) : Type 0 where
+pub record AreAngles (l : Nodal) : Type 0 where
   pub perigee : l.perigee < turn
   pub node : l.node < turn
   pub solar : l.solar < turn

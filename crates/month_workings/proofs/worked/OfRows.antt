@@ -3,13 +3,13 @@
 use mathlib.Core.Path.{◌≡◌, refl, sym, ap, subst, ◌∙◌}
 use mathlib.Core.List.{List}
 use Prim.Native.Nat.{ℕ}
-use lib.Int_n.{ℤ}
+use lib.IntN.{ℤ}
 use Rattle.table.specs.inner.View.{listed, naturals, main_of, shallow_of}
 use Rattle.table.proofs.entries.Beyond.{entry_at}
 use Rattle.table.specs.Definitions.{Definition, main, shallow}
-use Rattle.table.proofs.definitions.Of_rows.{definition_of, Is_row, found_at, found-row, found-is}
+use Rattle.table.proofs.definitions.OfRows.{definition_of, IsRow, found_at, found-row, found-is}
 use Rattle.table.specs.declared.definitions.Found.{Found}
-use Rattle.table.specs.declared.definitions.Found.The_variants as found
+use Rattle.table.specs.declared.definitions.Found.TheVariants as found
 use Rattle.month_arguments.specs.Longitudes.{Longitudes, nodal}
 use Rattle.month_arguments.specs.Arguments as arguments
 use Rattle.month_arguments.specs.inner.Rows.{row_argument, arguments_in}
@@ -19,11 +19,11 @@ use Rattle.refusals.specs.Checked.{good}
 use Rattle.month_pairs.specs.Pairs.{Corrected, start_pair}
 use Rattle.month_pairs.specs.Shallow as pairs
 use Rattle.month_pairs.specs.inner.Rows.{row_corrected, pairs_of}
-use Rattle.month_pairs.proofs.nodal.Of_table.{main-of-row, mains-of-rows}
-use Rattle.month_workings.specs.inner.Kept.{argument_at, corrected_at, Kept, With_main, With_parts}
+use Rattle.month_pairs.proofs.nodal.OfTable.{main-of-row, mains-of-rows}
+use Rattle.month_workings.specs.inner.Kept.{argument_at, corrected_at, Kept, WithMain, WithParts}
 use Rattle.month_workings.proofs.workings.Agree.{shallow-argument-is, shallow-pair-is}
 use Rattle.month_workings.specs.Worked.{argument_of, correction_of}
-use Rattle.month_workings.specs.inner.View.{mains_of, shallows_of, Ready, argument_from, pair_from, From_mains, Is_worked}
+use Rattle.month_workings.specs.inner.View.{mains_of, shallows_of, Ready, argument_from, pair_from, FromMains, IsWorked}
 use Rattle.month_workings.specs.declared.worked.Worked.{Worked}
 
 module _ (g : Factors) (l : Longitudes) (maincards : List ℕ) (mainangles satelliteangles : List ℤ) (satelliteratios : List ℕ) (mains : ℕ) (shallowcards : List ℕ) (coefficients : List ℤ) (kept : List ℤ) where
@@ -31,10 +31,10 @@ module _ (g : Factors) (l : Longitudes) (maincards : List ℕ) (mainangles satel
   abbrev meant : Found → Definition
   meant = definition_of (main_of maincards mainangles satelliteangles satelliteratios) (shallow_of shallowcards coefficients)
 
-  abbrev Is_ready : Found → Type 0
-  Is_ready r = Ready (argument_at l mainangles mains) (corrected_at g (nodal l) maincards satelliteangles satelliteratios mains) shallowcards r kept
+  abbrev IsReady : Found → Type 0
+  IsReady r = Ready (argument_at l mainangles mains) (corrected_at g (nodal l) maincards satelliteangles satelliteratios mains) shallowcards r kept
 
-  argument_is : (r : Found) → Is_row mains r → Is_ready r → argument_from (arguments_in kept) shallowcards coefficients r ≡ argument_of l (mains_of maincards mainangles satelliteangles satelliteratios mains) (meant r)
+  argument_is : (r : Found) → IsRow mains r → IsReady r → argument_from (arguments_in kept) shallowcards coefficients r ≡ argument_of l (mains_of maincards mainangles satelliteangles satelliteratios mains) (meant r)
   unfolding argument_of
   argument_is (found.Main k) h w =
       w.kept.arguments k w.has ∙ sym (entry_at 0 (row_argument l mainangles) mains k h) ∙ main-row l maincards mainangles satelliteangles satelliteratios k
@@ -43,7 +43,7 @@ module _ (g : Factors) (l : Longitudes) (maincards : List ℕ) (mainangles satel
       ∙ ap (λ all. arguments.argument_from_parts all (shallow_of shallowcards coefficients k)) (sym (mains-rows l maincards mainangles satelliteangles satelliteratios mains))
   argument_is found.Nothing h w = refl
 
-  correction-is : (r : Found) → Is_row mains r → Is_ready r → pair_from (pairs_of kept) shallowcards coefficients r ≡ correction_of g l (mains_of maincards mainangles satelliteangles satelliteratios mains) (meant r)
+  correction-is : (r : Found) → IsRow mains r → IsReady r → pair_from (pairs_of kept) shallowcards coefficients r ≡ correction_of g l (mains_of maincards mainangles satelliteangles satelliteratios mains) (meant r)
   unfolding correction_of
   correction-is (found.Main k) h w =
       w.kept.pairs k w.has ∙ sym (entry_at (good start_pair) (row_corrected g (nodal l) maincards satelliteangles satelliteratios) mains k h)
@@ -54,11 +54,11 @@ module _ (g : Factors) (l : Longitudes) (maincards : List ℕ) (mainangles satel
   correction-is found.Nothing h w = refl
 
   -- and so of what is found at a place
-  pub worked-out : (shallows place : ℕ) (r : Found) (w : Worked) → r ≡ found_at maincards mains shallowcards shallows place → Is_ready r → From_mains kept shallowcards coefficients r w
-      → Is_worked g l (mains_of maincards mainangles satelliteangles satelliteratios mains) (shallows_of shallowcards coefficients shallows) place w
+  pub worked-out : (shallows place : ℕ) (r : Found) (w : Worked) → r ≡ found_at maincards mains shallowcards shallows place → IsReady r → FromMains kept shallowcards coefficients r w
+      → IsWorked g l (mains_of maincards mainangles satelliteangles satelliteratios mains) (shallows_of shallowcards coefficients shallows) place w
   worked-out shallows place r w f ready is =
       let d = ap meant f ∙ found-is maincards mains shallowcards shallows place mainangles satelliteangles satelliteratios coefficients in
-      let row : Is_row mains r = subst (Is_row mains) (sym f) (found-row maincards mains shallowcards shallows place) in
+      let row : IsRow mains r = subst (IsRow mains) (sym f) (found-row maincards mains shallowcards shallows place) in
       record {
         argument = is.argument ∙ argument_is r row ready ∙ ap (argument_of l (mains_of maincards mainangles satelliteangles satelliteratios mains)) d;
         correction = is.correction ∙ correction-is r row ready ∙ ap (correction_of g l (mains_of maincards mainangles satelliteangles satelliteratios mains)) d;
@@ -67,10 +67,10 @@ module _ (g : Factors) (l : Longitudes) (maincards : List ℕ) (mainangles satel
 
 -- the mains of what is found are worked out, in each case
 module _ (argument : ℕ → ℕ) (corrected : ℕ → Corrected) (shallowcards : List ℕ) (r : Found) (before kept : List ℤ) where
-  pub ready-main : (k : ℕ) → r ≡ found.Main k → With_main argument corrected k before kept → Ready argument corrected shallowcards r kept
+  pub ready-main : (k : ℕ) → r ≡ found.Main k → WithMain argument corrected k before kept → Ready argument corrected shallowcards r kept
   ready-main k e w = subst (λ f. Ready argument corrected shallowcards f kept) (sym e) (record { kept = w.kept; has = w.has })
 
-  pub ready-shallow : (k : ℕ) → r ≡ found.Shallow k → With_parts argument corrected (naturals 6 shallowcards k) kept → Ready argument corrected shallowcards r kept
+  pub ready-shallow : (k : ℕ) → r ≡ found.Shallow k → WithParts argument corrected (naturals 6 shallowcards k) kept → Ready argument corrected shallowcards r kept
   ready-shallow k e w = subst (λ f. Ready argument corrected shallowcards f kept) (sym e) (record { kept = w.kept; has = w.has })
 
   pub ready-nothing : r ≡ found.Nothing → Kept argument corrected kept → Ready argument corrected shallowcards r kept

@@ -3,8 +3,8 @@ use mathlib.Core.Path.{◌≡◌, refl, ap, ◌∙◌}
 use mathlib.Core.List.{List}
 use Prim.Native.Nat.{ℕ, zero, suc, ◌+◌, ◌≤◌, ◌<◌}
 use native.Mathlib.Omega.{arith}
-use lib.Int_n.{ℤ}
-use lib.List_n.{get_or}
+use lib.IntN.{ℤ}
+use lib.ListN.{get_or}
 use Rattle.angles.specs.Floor.{mod_turn}
 use Rattle.table.specs.inner.View.{listed, part_of, naturals, integers, shallow_of}
 use Rattle.month_arguments.specs.Arguments as arguments
@@ -16,7 +16,7 @@ use Rattle.month_pairs.specs.Pairs.{Corrected, start_pair}
 use Rattle.month_pairs.specs.Shallow as nodal
 use Rattle.month_pairs.specs.Shallow.{times_part, times_parts}
 use Rattle.month_pairs.specs.inner.Rows.{pairs_of}
-use Rattle.month_workings.specs.inner.Kept.{With_parts}
+use Rattle.month_workings.specs.inner.Kept.{WithParts}
 
 -- ---- parts whose mains stand alike in two lists
 
@@ -46,7 +46,7 @@ module _ (card : List ℕ) (coefficients : List ℤ) where
 -- ---- a shallow constituent
 
 module _ (all : List ℕ) (pairs : List Corrected) (cards : List ℕ) (coefficients : List ℤ) (row : ℕ) (kept : List ℤ)
-    (w : With_parts (λ k. get_or all k 0) (λ k. get_or pairs k (good start_pair)) (naturals 6 cards row) kept) where
+    (w : WithParts (λ k. get_or all k 0) (λ k. get_or pairs k (good start_pair)) (naturals 6 cards row) kept) where
   pub shallow-argument-is : arguments.argument_from_parts (arguments_in kept) (shallow_of cards coefficients row) ≡ arguments.argument_from_parts all (shallow_of cards coefficients row)
   unfolding arguments.argument_from_parts shallow_of
   shallow-argument-is =

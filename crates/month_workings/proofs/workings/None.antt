@@ -7,8 +7,8 @@ use native.Mathlib.Omega.{arith}
 use native.Mathlib.Nat.{lt_irrefl, zero-mul}
 use borrow.Author.Tests.{ltb-true, ltb-false}
 use lib.Dec.{ltb}
-use lib.Int_n.{ℤ, pos, nat_abs, zero-*ℤ}
-use lib.List_n.{length, get_or, replicate, get_or-replicate, length-replicate, get_or-eq_default}
+use lib.IntN.{ℤ, pos, nat_abs, zero-*ℤ}
+use lib.ListN.{length, get_or, replicate, get_or-replicate, length-replicate, get_or-eq_default}
 use Rattle.limits.specs.Limits.{most_mains}
 use Rattle.angles.specs.Ticks.{turn}
 use Rattle.table.specs.inner.View.{listed, row_of, naturals}

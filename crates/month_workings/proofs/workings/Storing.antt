@@ -6,8 +6,8 @@ use Prim.Native.Nat.{ℕ, ◌+◌, ◌*◌, ◌≤◌, ◌<◌}
 use native.Mathlib.Omega.{arith}
 use borrow.Author.Tests.{eqb-true, eqb-false, ltb-true, ltb-false}
 use lib.Dec.{eqb, ltb, lit<}
-use lib.Int_n.{ℤ, pos, nat_abs}
-use lib.List_n.{length, get_or, set, length-set}
+use lib.IntN.{ℤ, pos, nat_abs}
+use lib.ListN.{length, get_or, set, length-set}
 use lib.Seq.{get_or-set_same, get_or-set_other}
 use Rattle.limits.specs.Limits.{most_mains}
 use Rattle.angles.specs.Ticks.{turn}
@@ -16,7 +16,7 @@ use Rattle.month_arguments.specs.inner.Rows.{arguments_in}
 use Rattle.refusals.specs.Checked.{good}
 use Rattle.month_pairs.specs.Pairs.{Corrected, checked, start_pair}
 use Rattle.month_pairs.specs.inner.Rows.{sum_at, pairs_of}
-use Rattle.month_workings.specs.inner.Kept.{Has, Kept, With_main}
+use Rattle.month_workings.specs.inner.Kept.{Has, Kept, WithMain}
 
 -- V and pair k of 64, and those past the last
 argument_is : (kept : List ℤ) (k : ℕ) → k < most_mains → get_or (arguments_in kept) k 0 ≡ nat_abs (get_or kept (3 * k) (pos 0))
@@ -33,11 +33,11 @@ pair-past kept k h = sym (past-entries (good start_pair) (λ j. checked (sum_at 
 
 module _ (argument : ℕ → ℕ) (corrected : ℕ → Corrected) (k : ℕ) (kept : List ℤ) (old : Kept argument corrected kept) where
   -- nothing is to be done
-  pub as-it-is : Has kept k → With_main argument corrected k kept kept
+  pub as-it-is : Has kept k → WithMain argument corrected k kept kept
   as-it-is h = record { kept = old; has = h; still = λ j g. g }
 
   -- past the array 0 stands, below a turn
-  pub past_all : most_mains ≤ k → With_main argument corrected k kept kept
+  pub past_all : most_mains ≤ k → WithMain argument corrected k kept kept
   past_all h = as-it-is (subst (λ (n : ℕ). n < turn) (sym (argument-past kept k h)) (lit< tt))
 
   module _ (v : ℕ) (x y : ℤ) (inside : k < most_mains) (low : v < turn) (av : v ≡ argument k) (ap' : checked (record { x = x; y = y }) ≡ corrected k) where
@@ -108,7 +108,7 @@ module _ (argument : ℕ → ℕ) (corrected : ℕ → Corrected) (k : ℕ) (kep
         by true e = subst P (sym (eqb-true j k e)) same
         by false e = other j (eqb-false j k e)
 
-    pub stored : With_main argument corrected k kept after
+    pub stored : WithMain argument corrected k kept after
     stored =
         record {
           kept =
@@ -129,7 +129,7 @@ module _ (argument : ℕ → ℕ) (corrected : ℕ → Corrected) (k : ℕ) (kep
 
 -- one part more: its main is worked out, and those of the parts before still are
 module _ (argument : ℕ → ℕ) (corrected : ℕ → Corrected) (k : ℕ) (kept after : List ℤ) (card : List ℕ) (j : ℕ) where
-  pub one-part-more : k ≡ get_or card (2 + j) 0 → ((i : ℕ) → i < j → Has kept (get_or card (2 + i) 0)) → With_main argument corrected k kept after → (i : ℕ) → i < j + 1 → Has after (get_or card (2 + i) 0)
+  pub one-part-more : k ≡ get_or card (2 + j) 0 → ((i : ℕ) → i < j → Has kept (get_or card (2 + i) 0)) → WithMain argument corrected k kept after → (i : ℕ) → i < j + 1 → Has after (get_or card (2 + i) 0)
   one-part-more e old w i h = by (ltb i j) refl
     where
       by : (t : Bool) → ltb i j ≡ t → Has after (get_or card (2 + i) 0)

@@ -2,14 +2,14 @@
 use Rattle.std.specs.Prelude.{ℕ, List, ℤ}
 use Rattle.month_arguments.specs.Longitudes.{nodal}
 use Rattle.month_arguments.specs.inner.Longitudes.{longitudes_of, Reduced}
-use Rattle.month_satellites.specs.inner.Factors.{Are_factors, factors_of}
+use Rattle.month_satellites.specs.inner.Factors.{AreFactors, factors_of}
 use Rattle.month_pairs.specs.Pairs.{Corrected}
 use Rattle.month_workings.specs.inner.Kept.{argument_at, corrected_at, Kept}
 use Rattle.month_workings.specs.declared.workings.Given.{Given}
 
 -- the latitude factors and the longitudes are in their ranges
-pub record Is_given (given : Given) : Type 0 where
-  pub factors : Are_factors given.factors
+pub record IsGiven (given : Given) : Type 0 where
+  pub factors : AreFactors given.factors
   pub longitudes : Reduced given.longitudes
 
 -- V of main k
@@ -21,5 +21,5 @@ abbrev pub corrected_by : Given → List ℕ → List ℤ → List ℕ → ℕ �
 corrected_by given cards angles ratios = corrected_at (factors_of given.factors) (nodal (longitudes_of given.longitudes)) cards angles ratios given.mains
 
 -- what is kept of the mains is theirs
-abbrev pub Kept_by : Given → List ℕ → List ℤ → List ℤ → List ℕ → List ℤ → Type 0
-Kept_by given cards angles satelliteangles ratios kept = Kept (argument_by given angles) (corrected_by given cards satelliteangles ratios) kept
+abbrev pub KeptBy : Given → List ℕ → List ℤ → List ℤ → List ℕ → List ℤ → Type 0
+KeptBy given cards angles satelliteangles ratios kept = Kept (argument_by given angles) (corrected_by given cards satelliteangles ratios) kept

@@ -33,12 +33,12 @@ pub record Kept (argument : ℕ → ℕ) (corrected : ℕ → Corrected) (kept :
   pub pairs : (k : ℕ) → Has kept k → get_or (pairs_of kept) k (good start_pair) ≡ corrected k
 
 -- main k is worked out too, and those before still are
-pub record With_main (argument : ℕ → ℕ) (corrected : ℕ → Corrected) (k : ℕ) (before after : List ℤ) : Type 0 where
+pub record WithMain (argument : ℕ → ℕ) (corrected : ℕ → Corrected) (k : ℕ) (before after : List ℤ) : Type 0 where
   pub kept : Kept argument corrected after
   pub has : Has after k
   pub still : (j : ℕ) → Has before j → Has after j
 
 -- the mains of a shallow constituent's parts are worked out, from its row of cards
-pub record With_parts (argument : ℕ → ℕ) (corrected : ℕ → Corrected) (card : List ℕ) (after : List ℤ) : Type 0 where
+pub record WithParts (argument : ℕ → ℕ) (corrected : ℕ → Corrected) (card : List ℕ) (after : List ℤ) : Type 0 where
   pub kept : Kept argument corrected after
   pub has : (j : ℕ) → j < get_or card 1 0 → Has after (get_or card (2 + j) 0)

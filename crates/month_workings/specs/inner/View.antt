@@ -4,7 +4,7 @@ use Rattle.table.specs.Table.{Main, Shallow}
 use Rattle.table.specs.inner.View.{listed, naturals, main_of, shallow_of}
 use Rattle.table.specs.Definitions.{definition_at}
 use Rattle.table.specs.declared.definitions.Found.{Found}
-use Rattle.table.specs.declared.definitions.Found.The_variants as found
+use Rattle.table.specs.declared.definitions.Found.TheVariants as found
 use Rattle.month_arguments.specs.Longitudes.{Longitudes}
 use Rattle.month_arguments.specs.Arguments as arguments
 use Rattle.month_arguments.specs.inner.Rows.{arguments_in}
@@ -26,14 +26,14 @@ abbrev pub shallows_of : List ℕ → List ℤ → ℕ → List Shallow
 shallows_of cards coefficients n = listed (shallow_of cards coefficients) 0 n
 
 -- the mains that a constituent needs are worked out
-abbrev pub Has_mains : List ℕ → Found → List ℤ → Type 0
-Has_mains shallowcards (found.Main k) kept = Has kept k
-Has_mains shallowcards (found.Shallow k) kept = (j : ℕ) → j < get_or (naturals 6 shallowcards k) 1 0 → Has kept (get_or (naturals 6 shallowcards k) (2 + j) 0)
-Has_mains shallowcards found.Nothing kept = Unit
+abbrev pub HasMains : List ℕ → Found → List ℤ → Type 0
+HasMains shallowcards (found.Main k) kept = Has kept k
+HasMains shallowcards (found.Shallow k) kept = (j : ℕ) → j < get_or (naturals 6 shallowcards k) 1 0 → Has kept (get_or (naturals 6 shallowcards k) (2 + j) 0)
+HasMains shallowcards found.Nothing kept = Unit
 
 pub record Ready (argument : ℕ → ℕ) (corrected : ℕ → Corrected) (shallowcards : List ℕ) (r : Found) (all : List ℤ) : Type 0 where
   pub kept : Kept argument corrected all
-  pub has : Has_mains shallowcards r all
+  pub has : HasMains shallowcards r all
 
 -- V of a constituent, from the mains' V
 abbrev pub argument_from : List ℕ → List ℕ → List ℤ → Found → ℕ
@@ -47,13 +47,13 @@ pair_from pairs shallowcards coefficients (found.Main k) = get_or pairs k (good 
 pair_from pairs shallowcards coefficients (found.Shallow k) = shallow.pair_from_parts pairs (shallow_of shallowcards coefficients k)
 pair_from pairs shallowcards coefficients found.Nothing = good (record { x = pos 0; y = pos 0 })
 
-pub record From_mains (kept : List ℤ) (shallowcards : List ℕ) (coefficients : List ℤ) (r : Found) (w : Worked) : Type 0 where
+pub record FromMains (kept : List ℤ) (shallowcards : List ℕ) (coefficients : List ℤ) (r : Found) (w : Worked) : Type 0 where
   pub argument : w.argument ≡ argument_from (arguments_in kept) shallowcards coefficients r
   pub correction : corrected_of w.corrected ≡ pair_from (pairs_of kept) shallowcards coefficients r
   pub small : Small w.corrected
 
 -- what a record's constituent needs of the table: V, and the pair or refusal 11, of what stands at its place
-pub record Is_worked (g : Factors) (l : Longitudes) (mains : List Main) (shallows : List Shallow) (place : ℕ) (r : Worked) : Type 0 where
+pub record IsWorked (g : Factors) (l : Longitudes) (mains : List Main) (shallows : List Shallow) (place : ℕ) (r : Worked) : Type 0 where
   pub argument : r.argument ≡ argument_of l mains (definition_at mains shallows place)
   pub correction : corrected_of r.corrected ≡ correction_of g l mains (definition_at mains shallows place)
   pub small : Small r.corrected

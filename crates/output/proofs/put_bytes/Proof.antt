@@ -1,7 +1,7 @@
 -- `output::put_bytes` meets its contract: the page keeps its length, and the next place stays on it. Assumes nothing.
 use mathlib.Core.Path.{◌≡◌}
 use Prim.Native.Nat.{◌-◌, ◌≤◌}
-use lib.List_n.{length}
+use lib.ListN.{length}
 use borrow.Author.Rules.{rules}
 use Rattle.output.proofs.put_bytes.Statement.{statement}
 use Rattle.output.proofs.put_bytes.Tie as tie

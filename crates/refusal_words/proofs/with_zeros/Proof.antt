@@ -6,7 +6,7 @@ use Prim.Native.Nat.{ℕ, zero, suc, ◌+◌, ◌-◌, ◌≤◌, ◌<◌}
 use mathlib.Core.List.{List, [], ◌∷◌, ◌++◌}
 use native.Mathlib.Omega.{arith}
 use native.Mathlib.Numerals.{add-one}
-use lib.List_n.{length, get_or, set, replicate, drop, length-replicate}
+use lib.ListN.{length, get_or, set, replicate, drop, length-replicate}
 use lib.Seq.{paste, paste-suc, take-length}
 use Rattle.refusal_words.specs.Words.{zeros_behind}
 use Rattle.refusal_words.proofs.with_zeros.Tie as tie

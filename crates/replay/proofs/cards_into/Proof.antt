@@ -3,9 +3,9 @@ use mathlib.Core.Path.{◌≡◌, ap}
 use mathlib.Core.List.{List, ◌++◌}
 use Prim.Native.Nat.{ℕ, ◌≤◌}
 use native.Mathlib.Omega.{arith}
-use lib.List_n.{length, drop, length-append}
+use lib.ListN.{length, drop, length-append}
 use Rattle.refusals.specs.Outcome.{Outcome, accepted, refused, on_accepted}
-use Rattle.hourly.specs.Month.{Cards_given, into_buffer}
+use Rattle.hourly.specs.Month.{CardsGiven, into_buffer}
 use Rattle.calls.specs.State.{State}
 use Rattle.calls.specs.Hourly.{hourly_bytes, hourly_gives}
 use borrow.Author.Rules.{rules}
@@ -15,11 +15,11 @@ use Rattle.replay.proofs.cards_into.Tie as tie
 -- what is written stands in the buffer
 written-within : (new : Outcome (List ℕ)) (buffer left : List ℕ) (returned : Outcome ℕ) → record { returned = returned; buffer = left } ≡ into_buffer new buffer → on_accepted returned (λ count. count) 0 ≤ length left
 written-within (accepted bytes) buffer left returned e =
-    let r : returned ≡ accepted (length bytes) = ap (λ (g : Cards_given). g.returned) e in
-    let b : left ≡ bytes ++ drop (length bytes) buffer = ap (λ (g : Cards_given). g.buffer) e in
+    let r : returned ≡ accepted (length bytes) = ap (λ (g : CardsGiven). g.returned) e in
+    let b : left ≡ bytes ++ drop (length bytes) buffer = ap (λ (g : CardsGiven). g.buffer) e in
     rw (r, b) (omega (arith, length-append bytes (drop (length bytes) buffer)))
 written-within (refused number place) buffer left returned e =
-    let r : returned ≡ refused number place = ap (λ (g : Cards_given). g.returned) e in
+    let r : returned ≡ refused number place = ap (λ (g : CardsGiven). g.returned) e in
     rw r (omega arith)
 
 given-within : (k : State) (number : ℕ) (buffer left : List ℕ) (returned : Outcome ℕ) → record { returned = returned; buffer = left } ≡ hourly_gives k number buffer → on_accepted returned (λ count. count) 0 ≤ length left

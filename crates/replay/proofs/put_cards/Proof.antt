@@ -1,10 +1,10 @@
 -- `replay::put_cards` meets its contract: as many bytes are there as are put. Assumes nothing.
 use mathlib.Core.Path.{sym, subst}
 use Prim.Native.Nat.{◌≤◌}
-use lib.List_n.{length}
+use lib.ListN.{length}
 use lib.Seq.{length-take-le}
 use Rattle.refusals.specs.Outcome.{on_accepted}
-use Rattle.hourly.specs.declared.Cards_answer.{Cards_answer}
+use Rattle.hourly.specs.declared.CardsAnswer.{CardsAnswer}
 use Rattle.hourly.specs.Answers.{cards_returned}
 use borrow.Author.Rules.{rules}
 use Rattle.replay.proofs.put_cards.Statement.{statement}
@@ -17,7 +17,7 @@ slice-aggregate-put-hourly : tie.Need-slice-aggregate-put-hourly
 slice-aggregate-put-hourly c =
     let s = c.before.before.before in
     let start = s.before.before.before.before in
-    sym (length-take-le _ _ (subst (λ (a : Cards_answer). on_accepted (cards_returned a) (λ count. count) 0 ≤ length start.args.cards.now) s.answer.given.1 start.requires))
+    sym (length-take-le _ _ (subst (λ (a : CardsAnswer). on_accepted (cards_returned a) (λ count. count) 0 ≤ length start.args.cards.now) s.answer.given.1 start.requires))
 
 put-hourly-requires : tie.Need-put-hourly-requires
 put-hourly-requires c κs = search rules

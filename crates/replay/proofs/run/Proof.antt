@@ -2,7 +2,7 @@
 use mathlib.Core.Path.{◌≡◌, refl, sym, subst, ◌∙◌}
 use Prim.Native.Nat.{ℕ}
 use native.Mathlib.Omega.{arith}
-use lib.List_n.{length}
+use lib.ListN.{length}
 use Rattle.clock.specs.View.{Made}
 use Rattle.transcript.specs.inner.Window.{Within}
 use Rattle.transcript.specs.inner.Posts.{Lent}

@@ -3,7 +3,7 @@ use mathlib.Core.Path.{◌≡◌, sym, ◌∙◌}
 use Prim.Native.Nat.{◌+◌, ◌-◌, ◌^◌}
 use mir.Syntax.{w32}
 use mir.Val.{SFits}
-use mir.Val_laws.{to_z-of_z}
+use mir.ValLaws.{to_z-of_z}
 use borrow.Author.Rules.{rules}
 use Rattle.script.specs.Script.{station_of}
 use Rattle.script.specs.Words.{reading}

@@ -1,7 +1,7 @@
 -- `script::north` meets its contract: a size below 2^31 is itself in 32 bits. Assumes nothing.
 use native.Mathlib.Omega.{arith}
 use mir.Syntax.{w32}
-use mir.Val_laws.{to_z_pos}
+use mir.ValLaws.{to_z_pos}
 use borrow.Author.Rules.{rules}
 use Rattle.script.proofs.north.Statement.{statement}
 use Rattle.script.proofs.north.Tie as tie

@@ -2,18 +2,18 @@
 use mathlib.Core.Path.{◌≡◌, refl}
 use mathlib.Core.List.{[], ◌∷◌}
 use Prim.Native.Nat.{ℕ}
-use types.Run.{One_of, miss}
+use types.Run.{OneOf, miss}
 use denote.Enum.Declared.{tag_of}
 use Rattle.script.specs.declared.Call.{Call}
 use Rattle.script.specs.contracts.Call.{the_type}
-use Rattle.script.specs.declared.Call.The_variants.{Cards, Station, Date, Height, Series, Turns, Year, Bookings, Hourly, Bad}
+use Rattle.script.specs.declared.Call.TheVariants.{Cards, Station, Date, Height, Series, Turns, Year, Bookings, Hourly, Bad}
 use Rattle.script.specs.inner.Left.{with_search}
 use borrow.Author.Rules.{rules}
 use Rattle.script.proofs.with_search.Statement.{statement}
 use Rattle.script.proofs.with_search.Tie as tie
 
 -- every variant but `Turns`, the sixth
-no-search : (year start step count : ℕ) (call : Call) → One_of (0 ∷ 1 ∷ 2 ∷ 3 ∷ 4 ∷ 6 ∷ 7 ∷ 8 ∷ 9 ∷ []) (tag_of the_type call) → Bad ≡ with_search call year start step count
+no-search : (year start step count : ℕ) (call : Call) → OneOf (0 ∷ 1 ∷ 2 ∷ 3 ∷ 4 ∷ 6 ∷ 7 ∷ 8 ∷ 9 ∷ []) (tag_of the_type call) → Bad ≡ with_search call year start step count
 no-search year start step count (Cards bytes) h = refl
 no-search year start step count (Station latitude records strides) h = refl
 no-search year start step count (Date y month) h = refl

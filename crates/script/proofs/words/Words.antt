@@ -9,14 +9,14 @@ use native.Mathlib.Numerals.{add-one}
 use native.Mathlib.Omega.{arith}
 use lib.Dec.{eqb, leb}
 use borrow.Author.Tests.{leb-true}
-use lib.List_n.{length, get_or, take, drop}
+use lib.ListN.{length, get_or, take, drop}
 use lib.Seq.{drop-cons}
 use Rattle.columns.specs.Lines.{in_front}
 use Rattle.script.specs.declared.Number.{Number}
-use Rattle.script.specs.declared.Number.The_variants.{Value, No_number}
+use Rattle.script.specs.declared.Number.TheVariants.{Value, NoNumber}
 use Rattle.script.specs.Words.{words, number, is_digit, with_digit, number_after, read, reading_of, reading, ended}
 use Rattle.script.specs.declared.words.Field.{Field}
-use Rattle.script.specs.declared.words.Field.The_variants.{Read}
+use Rattle.script.specs.declared.words.Field.TheVariants.{Read}
 use Rattle.script.specs.inner.Left.{words_from, word_length, reading_at}
 
 -- ---- what is left of a list
@@ -95,7 +95,7 @@ reading-is l i e most n h he hn =
     rw (hn, w, he, from_next l i h)
 
 -- a number is the last where the next word begins past the line's end
-pub not-ended : (l : List ℕ) (i n : ℕ) → i ≤ length l → ended (words_from l i) n ≡ No_number
+pub not-ended : (l : List ℕ) (i n : ℕ) → i ≤ length l → ended (words_from l i) n ≡ NoNumber
 not-ended l i n h = rw (from_next l i h)
 
 -- the line's words: the first, and those behind it
@@ -109,7 +109,7 @@ after-most most n m [] h e = let k : n ≡ m = cc in omega arith
 after-most most n m (b ∷ bs) h e = go (is_digit b) (leb (with_digit n b) most) refl (after-most most (with_digit n b) m bs) e
   where
     go : (t u : Bool) → leb (with_digit n b) most ≡ u → (with_digit n b ≤ most → number_after most (with_digit n b) bs ≡ Value m → m ≤ most)
-        → cond t (cond u (number_after most (with_digit n b) bs) No_number) No_number ≡ Value m → m ≤ most
+        → cond t (cond u (number_after most (with_digit n b) bs) NoNumber) NoNumber ≡ Value m → m ≤ most
     go true true k more f = more (leb-true _ _ k) f
     go true false k more f = let z : ◌≡◌ {A = ℕ} 0 1 = cc in omega arith
     go false u k more f = let z : ◌≡◌ {A = ℕ} 0 1 = cc in omega arith
@@ -122,7 +122,7 @@ reading-most most m ((b ∷ bs) ∷ ws) vs e = go (number_after most 0 (b ∷ bs
   where
     go : (x : Number) → number_after most 0 (b ∷ bs) ≡ x → reading_of x ws ≡ read m vs → m ≤ most
     go (Value k) f g = let q : k ≡ m = cc in after-most most 0 m (b ∷ bs) (omega arith) (f ∙ ap Value q)
-    go No_number f g = let z : ◌≡◌ {A = ℕ} 0 1 = cc in omega arith
+    go NoNumber f g = let z : ◌≡◌ {A = ℕ} 0 1 = cc in omega arith
 
 pub field-most : (l : List ℕ) (i most : ℕ) (f : Field) (n next : ℕ) → reading_at l f ≡ reading most (words_from l i) → f ≡ Read n next → n ≤ most
 field-most l i most f n next e h = reading-most most n (words_from l i) (words_from l next) (sym e ∙ ap (reading_at l) h)

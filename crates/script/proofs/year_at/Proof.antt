@@ -4,9 +4,9 @@ use mathlib.Core.List.{List}
 use Prim.Native.Nat.{ℕ}
 use Rattle.script.specs.Words.{Reading, read, unread, largest, reading, last_number, onward, given}
 use Rattle.script.specs.declared.Number.{Number}
-use Rattle.script.specs.declared.Number.The_variants.{Value, No_number}
+use Rattle.script.specs.declared.Number.TheVariants.{Value, NoNumber}
 use Rattle.script.specs.declared.Call.{Call}
-use Rattle.script.specs.declared.Call.The_variants.{Bad}
+use Rattle.script.specs.declared.Call.TheVariants.{Bad}
 use Rattle.script.specs.Script.{turns_of, year_search_of, year_of}
 use Rattle.script.specs.inner.Left.{with_search}
 use borrow.Author.Rules.{rules}
@@ -22,7 +22,7 @@ onward-through g e unread f k h = e
 
 given-through : (g : Call → Call) → g Bad ≡ Bad → (n : Number) (f k : ℕ → Call) → ((n : ℕ) → g (f n) ≡ k n) → g (given Bad n f) ≡ given Bad n k
 given-through g e (Value n) f k h = h n
-given-through g e No_number f k h = e
+given-through g e NoNumber f k h = e
 
 same-search : (year start step count : ℕ) (ws : List (List ℕ)) → with_search (turns_of ws) year start step count ≡ year_search_of year start step count ws
 unfolding turns_of year_search_of

@@ -1,9 +1,9 @@
 -- Only inner contracts cite this: what is left of a line, for the functions that read it word by word. Assumes nothing.
 use Rattle.std.specs.Prelude.{ℕ, zero, suc, List, [], ◌∷◌, cond, eqb}
 use Rattle.script.specs.declared.words.Field.{Field}
-use Rattle.script.specs.declared.words.Field.The_variants.{Read, No_field}
+use Rattle.script.specs.declared.words.Field.TheVariants.{Read, NoField}
 use Rattle.script.specs.declared.Call.{Call}
-use Rattle.script.specs.declared.Call.The_variants.{Cards, Station, Date, Height, Series, Turns, Year, Bookings, Hourly, Bad}
+use Rattle.script.specs.declared.Call.TheVariants.{Cards, Station, Date, Height, Series, Turns, Year, Bookings, Hourly, Bad}
 use Rattle.script.specs.Words.{words, Reading, read, unread}
 
 -- the words from byte k on; none past the line's end
@@ -20,7 +20,7 @@ word_length (b ∷ bs) = cond (eqb b 32) 0 (suc (word_length bs))
 -- a field of the code: a number and where the next word begins
 abbrev pub reading_at : List ℕ → Field → Reading
 reading_at line (Read n next) = read n (words_from line next)
-reading_at line No_field = unread
+reading_at line NoField = unread
 
 -- a year's call, of its series and of a search read as `turns` has it
 abbrev pub with_search : Call → ℕ → ℕ → ℕ → ℕ → Call

@@ -1,6 +1,6 @@
 -- `station::no_station` meets its contract: the latitude and the lengths that are lent, and no record. Assumes nothing.
 use mir.Syntax.{w32}
-use mir.Val_laws.{to_z-of_z}
+use mir.ValLaws.{to_z-of_z}
 use Rattle.station.proofs.no_station.Statement.{statement}
 use Rattle.station.proofs.no_station.Tie as tie
 

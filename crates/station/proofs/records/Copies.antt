@@ -9,7 +9,7 @@ use native.Mathlib.Numerals.{add-one}
 use native.Mathlib.Omega.{arith}
 use borrow.Author.Tests.{ltb-true, ltb-false}
 use lib.Dec.{ltb}
-use lib.List_n.{length, get_or, set, replicate, drop, length-set, length-append, drop_of_length-le, get_or-map, get_or-eq_default}
+use lib.ListN.{length, get_or, set, replicate, drop, length-set, length-append, drop_of_length-le, get_or-map, get_or-eq_default}
 use lib.Seq.{get_or-set_same, get_or-set_other, get_or-take, length-take-le, ext_get_or, drop-cons}
 use Rattle.limits.specs.Limits.{most_records}
 use Rattle.station.specs.declared.records.Record.{Record}

@@ -6,7 +6,7 @@ use Rattle.station.proofs.take_records.Lts as lts
 use Rattle.station.proofs.narrow.Reads as narrow-reads
 use Rattle.station.proofs.record_answer.Reads as record-answer-reads
 use Rattle.station.proofs.with_record.Reads as with-record-reads
-use lib.List_n.{get_or}
+use lib.ListN.{get_or}
 use borrow.Author.Rules.{rules}
 use native.Mathlib.Omega.{arith}
 use native.Mathlib.Nat.{sub-zero}

@@ -9,11 +9,11 @@ use Rattle.station.specs.declared.Taken.{Taken}
 use Rattle.station.specs.Station.{Station, records_outcome, station_outcome}
 use Rattle.station.specs.inner.Station.{station_of, station_upto}
 
-pub record Records_post (frequencies : ℕ) (empty : code.Station) (n : ℕ) (rows : Rows) (r : Taken) : Type 0 where
+pub record RecordsPost (frequencies : ℕ) (empty : code.Station) (n : ℕ) (rows : Rows) (r : Taken) : Type 0 where
   pub says : outcome_of r.answer ≡ records_outcome frequencies [] 1 (records_of rows n)
   pub keeps : outcome_of r.answer ≡ accepted tt → r.station ≡ station_upto empty rows n
 
 -- a station is checked, and kept where it is accepted
-pub record Station_post (frequencies : ℕ) (station : Station) (r : Taken) : Type 0 where
+pub record StationPost (frequencies : ℕ) (station : Station) (r : Taken) : Type 0 where
   pub says : outcome_of r.answer ≡ station_outcome frequencies station
   pub keeps : outcome_of r.answer ≡ accepted tt → station_of r.station ≡ station

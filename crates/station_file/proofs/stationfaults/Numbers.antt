@@ -7,21 +7,21 @@ use mathlib.Core.List.{List, [], ◌∷◌}
 use mathlib.Core.Bool.{Bool, true, false, cond}
 use native.Mathlib.Omega.{arith}
 use lib.Dec.{eqb, leb, ltb}
-use lib.List_n.{length, get_or}
-use lib.Int_n.{ℤ, pos, neg_ℤ}
+use lib.ListN.{length, get_or}
+use lib.IntN.{ℤ, pos, neg_ℤ}
 use lib.Signed.{lt_z}
 use borrow.Author.Tests.{ne_eqb, le-ltb, ltb-false}
 use Rattle.limits.specs.Limits.{most_records, most_latitude}
 use Rattle.refusals.specs.Outcome.{Outcome, accepted, refused, refuse_if, ◌>>◌}
 use Rattle.refusals.specs.Places.{is_among}
 use Rattle.refusals.proofs.Laws.{not-both}
-use Rattle.card.specs.declared.faults.What.The_variants.{Amplitude, Phase_lag}
-use Rattle.card.specs.declared.faults.Trouble.The_variants.{Out_of_range}
+use Rattle.card.specs.declared.faults.What.TheVariants.{Amplitude, PhaseLag}
+use Rattle.card.specs.declared.faults.Trouble.TheVariants.{OutOfRange}
 use Rattle.card.specs.Faults.{only, fault_number}
 use Rattle.station.specs.declared.records.Record.{Record}
 use Rattle.station.specs.declared.records.Rows.{Rows}
 use Rattle.station.specs.Station.{amplitude_outside, phase_outside, record_outcome, records_outcome, station_outcome}
-use Rattle.station_file.specs.Faults.{record_fault, station_fault, Faults_fit}
+use Rattle.station_file.specs.Faults.{record_fault, station_fault, FaultsFit}
 
 -- the words of a record's refusal by this number fall under it
 abbrev Fits : ℕ → Type 0
@@ -30,7 +30,7 @@ Fits number = (amplitude : ℕ) → fault_number (record_fault number amplitude)
 range-fits : Fits 3
 range-fits amplitude = by (amplitude_outside amplitude)
   where
-    by : (b : Bool) → fault_number (cond b (only Amplitude Out_of_range) (only Phase_lag Out_of_range)) ≡ 3
+    by : (b : Bool) → fault_number (cond b (only Amplitude OutOfRange) (only PhaseLag OutOfRange)) ≡ 3
     by true = refl
     by false = refl
 
@@ -69,7 +69,7 @@ records-number frequencies earlier k (r ∷ rs) number place e =
         (omega (arith, one.0), omega (arith, one.0), subst Fits m one.1)
 
 -- the whole station
-pub faults-fit : Faults_fit
+pub faults-fit : FaultsFit
 unfolding station_outcome station_fault
 faults-fit frequencies station rows number place inside =
     rw inside (tests (lt_z station.latitude (neg_ℤ (pos most_latitude))) (lt_z (pos most_latitude) station.latitude) (ltb most_records (length station.records)) refl)

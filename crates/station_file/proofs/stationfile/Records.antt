@@ -6,16 +6,16 @@ use mathlib.Core.List.{List, [], ◌∷◌, ◌++◌}
 use native.Mathlib.Omega.{arith}
 use native.Mathlib.Nat.{zero-add}
 use native.Mathlib.Numerals.{add-one}
-use lib.Int_n.{ℤ}
-use lib.List_n.{length, get_or, set, drop, length-drop}
+use lib.IntN.{ℤ}
+use lib.ListN.{length, get_or, set, drop, length-drop}
 use lib.Seq.{get_or-set_same, get_or-set_other}
 use Rattle.limits.specs.Limits.{most_records}
 use Rattle.columns.specs.Lines.{lines_of, first_line, rest_lines}
 use Rattle.columns.proofs.Lines.{lines_next, lines_none}
 use Rattle.table.specs.inner.View.{listed}
 use Rattle.table.proofs.Rows.{listed_same, listed-one-more}
-use Rattle.card.specs.declared.faults.What.The_variants.{File}
-use Rattle.card.specs.declared.faults.Trouble.The_variants.{Too_many_records, No_station_card}
+use Rattle.card.specs.declared.faults.What.TheVariants.{File}
+use Rattle.card.specs.declared.faults.Trouble.TheVariants.{TooManyRecords, NoStationCard}
 use Rattle.card.specs.Faults.{only}
 use Rattle.card.specs.Card.{gives}
 use Rattle.card.proofs.lines.Openings.{had-room}
@@ -28,17 +28,17 @@ use Rattle.station.specs.Records.{records_of}
 use Rattle.station.proofs.records.Copies.{records-length}
 use Rattle.station_file.specs.Cards.{station_card, record_fields, next_record}
 use Rattle.station_file.specs.inner.Cards.{record_gives}
-use Rattle.station_file.specs.declared.stationfields.Record_step.{Record_step}
+use Rattle.station_file.specs.declared.stationfields.RecordStep.{RecordStep}
 use Rattle.station_file.specs.Station.{given, refused, onward, records_on, behind_card, station_lines, station_file}
 
 -- a card that gives a record had room
 pub record-room : (names : List (List ℕ)) (count : ℕ) (line : List ℕ) (r : Record) → gives r ≡ next_record names count line → count < most_records
 unfolding next_record
-record-room names count line r e = had-room most_records Too_many_records count line (record_fields names line) r (rw e)
+record-room names count line r e = had-room most_records TooManyRecords count line (record_fields names line) r (rw e)
 
 -- the cards from byte `at` on, after the first `count` records of the rows: the card there, or none left
 module _ (latitude : ℤ) (names : List (List ℕ)) (file : List ℕ) (at : ℕ) (rows : Rows) (count : ℕ) where
-  pub records-here : (line : List ℕ) (r : Record_step) → at < length file → line ≡ first_line (drop at file) → record_gives r ≡ next_record names count line
+  pub records-here : (line : List ℕ) (r : RecordStep) → at < length file → line ≡ first_line (drop at file) → record_gives r ≡ next_record names count line
       → records_on latitude names (lines_of (drop at file)) (count + 2) (records_of rows count)
       ≡ onward (record_gives r) (count + 2) (given latitude (records_of rows count))
       (λ r. records_on latitude names (lines_of (rest_lines (drop at file))) (count + 1 + 2) (records_of rows count ++ (r ∷ [])))
@@ -57,7 +57,7 @@ module _ (names : List (List ℕ)) (file : List ℕ) where
   unfolding station_file station_lines
   file-here h = rw (lines_next file h)
 
-  pub file-empty : length file ≡ 0 → station_file names file ≡ refused (only File No_station_card) 1
+  pub file-empty : length file ≡ 0 → station_file names file ≡ refused (only File NoStationCard) 1
   unfolding station_file station_lines
   file-empty h = rw (lines_none file h)
 

@@ -5,11 +5,11 @@ use Rattle.refusals.specs.Checked.{good, bad}
 use Rattle.card.specs.Card.{Card, Next, ends, gives, fails}
 use Rattle.station.specs.declared.records.Record.{Record}
 use Rattle.station_file.specs.declared.stationfields.Side.{Side}
-use Rattle.station_file.specs.declared.stationfields.Side.The_variants as side
+use Rattle.station_file.specs.declared.stationfields.Side.TheVariants as side
 use Rattle.station_file.specs.declared.stationfields.Latitude.{Latitude}
-use Rattle.station_file.specs.declared.stationfields.Latitude.The_variants as latitude
-use Rattle.station_file.specs.declared.stationfields.Record_step.{Record_step}
-use Rattle.station_file.specs.declared.stationfields.Record_step.The_variants.{Ends, Gives, Fails}
+use Rattle.station_file.specs.declared.stationfields.Latitude.TheVariants as latitude
+use Rattle.station_file.specs.declared.stationfields.RecordStep.{RecordStep}
+use Rattle.station_file.specs.declared.stationfields.RecordStep.TheVariants.{Ends, Gives, Fails}
 
 -- whether a latitude is south
 abbrev pub side_gives : Side → Card Bool
@@ -22,7 +22,7 @@ latitude_gives (latitude.At z) = good z
 latitude_gives (latitude.Bad fault) = bad fault
 
 -- a constituent card
-abbrev pub record_gives : Record_step → Next Record
+abbrev pub record_gives : RecordStep → Next Record
 record_gives Ends = ends
 record_gives (Gives place amplitude phase) = gives (record { place = place; amplitude = amplitude; phase = phase })
 record_gives (Fails fault) = fails fault

@@ -2,7 +2,7 @@
 use native.Mathlib.Omega.{arith}
 use Rattle.swings.specs.Swings.{apart}
 use mir.Syntax.{w64}
-use mir.Val_laws.{to_z-of_z}
+use mir.ValLaws.{to_z-of_z}
 use borrow.Author.Rules.{rules}
 use Rattle.swings.proofs.apart.Statement.{statement}
 use Rattle.swings.proofs.apart.Tie as tie

@@ -3,7 +3,7 @@ use native.Mathlib.Omega.{arith}
 use borrow.Author.Tests.{lt-ltb, le-ltb}
 use Rattle.swings.specs.Swings.{swing}
 use mir.Syntax.{w64}
-use mir.Val_laws.{to_z-of_z}
+use mir.ValLaws.{to_z-of_z}
 use borrow.Author.Rules.{rules}
 use Rattle.swings.proofs.swing.Statement.{statement}
 use Rattle.swings.proofs.swing.Tie as tie

@@ -1,7 +1,7 @@
 -- `table::at_u32` meets its contract: past the row's end `get_or` gives 0.
 use borrow.Author.Rules.{rules}
 use mathlib.Core.Path.{sym}
-use lib.List_n.{get_or-eq_default}
+use lib.ListN.{get_or-eq_default}
 use Rattle.table.proofs.at_u32.Statement.{statement}
 use Rattle.table.proofs.at_u32.Tie as tie
 

@@ -5,15 +5,15 @@ use mathlib.Core.List.{List}
 use Prim.Native.Nat.{ℕ, ◌<◌}
 use borrow.Author.Tests.{ltb-true}
 use lib.Dec.{ltb}
-use lib.Int_n.{ℤ}
-use lib.List_n.{get_or}
+use lib.IntN.{ℤ}
+use lib.ListN.{get_or}
 use Rattle.limits.specs.Limits.{places_in_a_byte}
 use Rattle.table.specs.Table.{Main, Shallow}
 use Rattle.table.specs.inner.View.{listed, main_of, shallow_of}
 use Rattle.table.specs.Definitions.{Definition, main, shallow, undefined, definition_at}
-use Rattle.table.specs.inner.Found.{place_in, first_row, First_rows, found_by}
+use Rattle.table.specs.inner.Found.{place_in, first_row, FirstRows, found_by}
 use Rattle.table.specs.declared.definitions.Found.{Found}
-use Rattle.table.specs.declared.definitions.Found.The_variants as found
+use Rattle.table.specs.declared.definitions.Found.TheVariants as found
 use Rattle.table.proofs.definitions.Search.{first_found}
 
 -- the definition that a row stands for
@@ -23,10 +23,10 @@ definition_of main_row shallow_row (found.Shallow k) = shallow (shallow_row k)
 definition_of main_row shallow_row found.Nothing = undefined
 
 -- a main's row is one of so many
-abbrev pub Is_row : ℕ → Found → Type 0
-Is_row mains (found.Main k) = k < mains
-Is_row mains (found.Shallow k) = Unit
-Is_row mains found.Nothing = Unit
+abbrev pub IsRow : ℕ → Found → Type 0
+IsRow mains (found.Main k) = k < mains
+IsRow mains (found.Shallow k) = Unit
+IsRow mains found.Nothing = Unit
 
 module _ (maincards : List ℕ) (mains : ℕ) (shallowcards : List ℕ) (shallows place : ℕ) where
   abbrev first_main : ℕ
@@ -39,14 +39,14 @@ module _ (maincards : List ℕ) (mains : ℕ) (shallowcards : List ℕ) (shallow
   abbrev pub found_at : Found
   found_at = found_by first_main mains first_shallow shallows
 
-  pub by-first-rows : {mainrows shallowrows : List ℕ} → First_rows (place_in 3 maincards) mains mainrows → First_rows (place_in 6 shallowcards) shallows shallowrows → place < places_in_a_byte
+  pub by-first-rows : {mainrows shallowrows : List ℕ} → FirstRows (place_in 3 maincards) mains mainrows → FirstRows (place_in 6 shallowcards) shallows shallowrows → place < places_in_a_byte
       → found_by (get_or mainrows place 0) mains (get_or shallowrows place 0) shallows ≡ found_at
   by-first-rows m s h = ap₂ (λ (a b : ℕ). found_by a mains b shallows) (m.each place h) (s.each place h)
 
-  pub found-row : Is_row mains found_at
+  pub found-row : IsRow mains found_at
   found-row = by (ltb first_main mains) (ltb first_shallow shallows) refl
     where
-      by : (t u : Bool) → ltb first_main mains ≡ t → Is_row mains (cond t (found.Main first_main) (cond u (found.Shallow first_shallow) found.Nothing))
+      by : (t u : Bool) → ltb first_main mains ≡ t → IsRow mains (cond t (found.Main first_main) (cond u (found.Shallow first_shallow) found.Nothing))
       by true u e = ltb-true first_main mains e
       by false true e = tt
       by false false e = tt

@@ -4,7 +4,7 @@ use mathlib.Core.List.{List, ◌∷◌, map}
 use Prim.Native.Nat.{ℕ, zero, suc, ◌+◌, ◌*◌, ◌≤◌, ◌<◌}
 use native.Mathlib.Nat.{le_trans, le_of_eq, le_of_lt, mul-le-mul, zero-add}
 use native.Mathlib.Omega.{arith}
-use lib.List_n.{length, get_or, get_or-eq_default}
+use lib.ListN.{length, get_or, get_or-eq_default}
 use Rattle.table.specs.inner.View.{listed, row_of}
 use Rattle.table.proofs.Rows.{row_at, row-length, listed_at, listed-length}
 

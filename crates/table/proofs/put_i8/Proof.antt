@@ -1,11 +1,11 @@
 -- `table::put_i8` meets its contract: the loop copies the row number by number (`Copied`), each read back from its byte.
 use Prim.Native.Nat.{◌-◌}
 use borrow.Author.Rules.{rules}
-use lib.Int_n.{pos}
-use lib.List_n.{length, get_or}
+use lib.IntN.{pos}
+use lib.ListN.{length, get_or}
 use mir.Syntax.{w8}
 use mir.Val.{SFits}
-use mir.Val_laws.{to_z-of_z}
+use mir.ValLaws.{to_z-of_z}
 use Rattle.table.proofs.Rows.{Copied, copied_none, copied_next, copied_all}
 use Rattle.table.proofs.put_i8.Statement.{statement}
 use Rattle.table.proofs.put_i8.Tie as tie

@@ -1,7 +1,7 @@
 -- `table::put_u32` meets its contract: the loop copies the row number by number (`Copied`).
 use Prim.Native.Nat.{◌-◌}
 use borrow.Author.Rules.{rules}
-use lib.List_n.{length}
+use lib.ListN.{length}
 use Rattle.table.proofs.Rows.{Copied, copied_none, copied_next, copied_all}
 use Rattle.table.proofs.put_u32.Statement.{statement}
 use Rattle.table.proofs.put_u32.Tie as tie

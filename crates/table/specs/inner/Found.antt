@@ -3,7 +3,7 @@ use Rattle.std.specs.Prelude.{ℕ, zero, suc, ◌<◌, ◌≡◌, cond, List, eq
 use Rattle.limits.specs.Limits.{places_in_a_byte}
 use Rattle.table.specs.inner.View.{naturals}
 use Rattle.table.specs.declared.definitions.Found.{Found}
-use Rattle.table.specs.declared.definitions.Found.The_variants.{Main, Shallow, Nothing}
+use Rattle.table.specs.declared.definitions.Found.TheVariants.{Main, Shallow, Nothing}
 
 -- the place in a row of cards of some width
 abbrev pub place_in : ℕ → List ℕ → ℕ → ℕ
@@ -15,7 +15,7 @@ first_row place_of place k zero = k
 first_row place_of place k (suc n) = cond (eqb (place_of k) place) k (first_row place_of place (suc k) n)
 
 -- for each place the first of so many rows that has it, or their number
-pub record First_rows (place_of : ℕ → ℕ) (rows : ℕ) (first : List ℕ) : Type 0 where
+pub record FirstRows (place_of : ℕ → ℕ) (rows : ℕ) (first : List ℕ) : Type 0 where
   pub each : (place : ℕ) → place < places_in_a_byte → get_or first place 0 ≡ first_row place_of place 0 rows
 
 -- the first main's row, if it is one of so many, or else the first shallow constituent's, or nothing

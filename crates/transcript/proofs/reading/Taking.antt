@@ -1,7 +1,7 @@
 -- The input lines that minutes' lines take: one each, none where the line is bad. Assumes nothing.
 use Rattle.std.proofs.Common.{◌≡◌, ℕ, suc, ◌+◌, ◌%◌, ◌^◌, ◌≤◌, refl, ap, ◌∙◌, subst, arith}
 use Rattle.script.specs.declared.Number.{Number}
-use Rattle.script.specs.declared.Number.The_variants.{Value, No_number}
+use Rattle.script.specs.declared.Number.TheVariants.{Value, NoNumber}
 use Rattle.transcript.specs.inner.Window.{lines_below}
 use Rattle.transcript.specs.inner.Posts.{lines_taken}
 
@@ -18,7 +18,7 @@ pub taken-one : (number : Number) (minute line held next : ℕ) → number ≡ V
 unfolding lines_below
 taken-one number minute line held next e h n = rw (e, n, h) (below_more line 0)
 
-pub taken_none : (number : Number) (line held : ℕ) → number ≡ No_number → held ≡ line → held ≡ lines_taken number line
+pub taken_none : (number : Number) (line held : ℕ) → number ≡ NoNumber → held ≡ line → held ≡ lines_taken number line
 taken_none number line held e h = rw e h
 
 -- a minute's line behind k of them

@@ -5,17 +5,17 @@ use Rattle.transcript.specs.inner.Window.{Within, lines_below}
 use Rattle.station.specs.declared.records.Rows.{Rows}
 use Rattle.station.specs.inner.Rows.{put_row}
 use Rattle.transcript.specs.declared.input.Window.{Window}
-use Rattle.transcript.specs.declared.reading.Card_file.{Card_file}
-use Rattle.transcript.specs.declared.reading.Minute_line.{Minute_line}
+use Rattle.transcript.specs.declared.reading.CardFile.{CardFile}
+use Rattle.transcript.specs.declared.reading.MinuteLine.{MinuteLine}
 use Rattle.transcript.specs.declared.reading.Minutes.{Minutes}
 use Rattle.script.specs.declared.Number.{Number}
-use Rattle.script.specs.declared.Number.The_variants.{Value, No_number}
+use Rattle.script.specs.declared.Number.TheVariants.{Value, NoNumber}
 use Rattle.transcript.specs.declared.reading.Asked.{Asked}
-use Rattle.transcript.specs.declared.reading.Asked.The_variants.{Cards, Station, Date, Height, Series, Turns, Year, Bookings, Hourly, End, Stop}
+use Rattle.transcript.specs.declared.reading.Asked.TheVariants.{Cards, Station, Date, Height, Series, Turns, Year, Bookings, Hourly, End, Stop}
 use Rattle.transcript.specs.declared.reading.Heard.{Heard}
 
 -- the card file stands in the buffer of n bytes; one that came whole has the bytes asked for, and LF (10) behind them
-pub record File_post (n bytes : ℕ) (left : List ℕ) (f : Card_file) : Type 0 where
+pub record FilePost (n bytes : ℕ) (left : List ℕ) (f : CardFile) : Type 0 where
   pub within : Within n f.window
   pub ordered : f.from ≤ f.end
   pub inside : f.end ≤ n
@@ -28,15 +28,15 @@ kept_row rows k place amplitude phase = cond (nat_lt k most_records) (put_row ro
 -- the input line behind a minute's line, or that of a line that is bad
 abbrev pub lines_taken : Number → ℕ → ℕ
 lines_taken (Value minute) line = lines_below line 1
-lines_taken No_number line = line
+lines_taken NoNumber line = line
 
 -- a minute's line was taken; where there is none, none was
-pub record Minute_post (n : ℕ) (w : Window) (r : Minute_line) : Type 0 where
+pub record MinutePost (n : ℕ) (w : Window) (r : MinuteLine) : Type 0 where
   pub within : Within n r.window
   pub line : r.window.line ≡ lines_taken r.number w.line
 
 -- where the lines behind a window were all minutes, so many of them were taken
-pub record Minutes_post (n lines : ℕ) (w : Window) (r : Minutes) : Type 0 where
+pub record MinutesPost (n lines : ℕ) (w : Window) (r : Minutes) : Type 0 where
   pub within : Within n r.window
   pub whole : r.good ≡ true → r.window.line ≡ lines_below w.line lines
 
@@ -57,6 +57,6 @@ Fits n m h Stop = Unit {0}
 pub record Lent (n m h : ℕ) (a : Asked) : Type 0 where
   pub fits : Fits n m h a
 
-pub record Heard_post (n m h : ℕ) (r : Heard) : Type 0 where
+pub record HeardPost (n m h : ℕ) (r : Heard) : Type 0 where
   pub within : Within n r.window
   pub lent : Lent n m h r.asked

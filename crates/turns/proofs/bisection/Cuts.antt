@@ -7,7 +7,7 @@ use native.Mathlib.Nat.{le_refl}
 use native.Mathlib.Omega.{arith}
 use borrow.Author.Tests.{leb-true, leb-false, le-leb, lt-leb}
 use lib.Dec.{leb}
-use lib.Int_n.{ℤ}
+use lib.IntN.{ℤ}
 use Rattle.turns.specs.Sense.{rising, differ}
 use Rattle.turns.specs.Cuts.{cut_from, earlier_end, later_end}
 

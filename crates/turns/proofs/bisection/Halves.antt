@@ -5,14 +5,14 @@ use mathlib.Core.Bool.{Bool, true, false, cond}
 use Prim.Native.Nat.{ℕ, ◌+◌, ◌-◌, ◌/◌, ◌^◌, ◌≤◌, ◌<◌}
 use native.Mathlib.Omega.{arith}
 use lib.Dec.{ltb}
-use lib.Int_n.{ℤ, nat_abs}
+use lib.IntN.{ℤ, nat_abs}
 use lib.Signed.{mag}
 use mir.Syntax.{w64}
 use mir.Val.{SFits, to_z, of_z}
-use mir.Val_laws.{to_z-of_z}
+use mir.ValLaws.{to_z-of_z}
 use Rattle.turns.specs.Sense.{differ}
 use Rattle.turns.specs.Cuts.{earlier_end}
-use Rattle.turns.specs.inner.Bisection.{Turned_post}
+use Rattle.turns.specs.inner.Bisection.{TurnedPost}
 use Rattle.turns.specs.declared.bisection.Turned.{Turned}
 use Rattle.turns.proofs.bisection.Cuts.{cut-done, cut-early, cut-late}
 
@@ -29,7 +29,7 @@ pub sense-of : {x y u v : ℤ} {r t : Bool} → x ≡ u → y ≡ v → r ≡ di
 sense-of e f d s = ap₂ differ (sym e) (sym f) ∙ (sym d ∙ s)
 
 module _ (slope : ℕ → ℤ) (start length : ℕ) where
-  pub one-minute : {early late : ℤ} {r : Turned} → 0 < length → length ≤ 1 → early ≡ slope start → late ≡ slope (start + length) → r.turn ≡ cond (ltb (nat_abs late) (nat_abs early)) (start + 1) start → (r.later ≡ start + 1) × (r.slope ≡ late) → Turned_post slope start length r
+  pub one-minute : {early late : ℤ} {r : Turned} → 0 < length → length ≤ 1 → early ≡ slope start → late ≡ slope (start + length) → r.turn ≡ cond (ltb (nat_abs late) (nat_abs early)) (start + 1) start → (r.later ≡ start + 1) × (r.slope ≡ late) → TurnedPost slope start length r
   one-minute {late} s h e l t n =
       let last : late ≡ slope (start + 1) = l ∙ ap (λ (k : ℕ). slope (start + k)) (omega arith) in
       record {
@@ -39,11 +39,11 @@ module _ (slope : ℕ → ℤ) (start length : ℕ) where
       }
 
   -- a half that ends where the whole does
-  same_end : {r : Turned} {s n : ℕ} → earlier_end slope start length ≡ earlier_end slope s n → Turned_post slope s n r → Turned_post slope start length r
+  same_end : {r : Turned} {s n : ℕ} → earlier_end slope start length ≡ earlier_end slope s n → TurnedPost slope s n r → TurnedPost slope start length r
   same_end e p = record { turn = rw e p.turn; later = rw e p.later; there = p.there }
 
-  pub early-half : {r : Turned} → 1 < length → differ (slope start) (slope (start + length / 2)) ≡ true → Turned_post slope start (length / 2) r → Turned_post slope start length r
+  pub early-half : {r : Turned} → 1 < length → differ (slope start) (slope (start + length / 2)) ≡ true → TurnedPost slope start (length / 2) r → TurnedPost slope start length r
   early-half h d = same_end (cut-early slope start length h d)
 
-  pub late-half : {r : Turned} → 1 < length → differ (slope start) (slope (start + length / 2)) ≡ false → Turned_post slope (start + length / 2) (length - length / 2) r → Turned_post slope start length r
+  pub late-half : {r : Turned} → 1 < length → differ (slope start) (slope (start + length / 2)) ≡ false → TurnedPost slope (start + length / 2) (length - length / 2) r → TurnedPost slope start length r
   late-half h d = same_end (cut-late slope start length h d)

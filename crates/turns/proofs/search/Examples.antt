@@ -3,7 +3,7 @@ use mathlib.Core.Path.{◌≡◌, refl}
 use mathlib.Core.Bool.{true}
 use mathlib.Core.List.{[], ◌∷◌}
 use Prim.Native.Nat.{ℕ, ◌*◌}
-use lib.Int_n.{sub_ℕ}
+use lib.IntN.{sub_ℕ}
 use Rattle.turns.specs.Sense.{rising, differ}
 use Rattle.turns.specs.Cuts.{cut_from}
 use Rattle.turns.specs.Search.{turns_from, turns_of}

@@ -1,6 +1,6 @@
 -- The minutes of turns as they are kept while more are found: each is in the search's range, and when none are left all are kept for which
 -- there are places.
--- By induction on the strides, and by what `Next_post` says of the turns that are left. Assumes nothing.
+-- By induction on the strides, and by what `NextPost` says of the turns that are left. Assumes nothing.
 use mathlib.Core.Path.{◌≡◌, refl, sym, ap, ◌∙◌}
 use mathlib.Core.Bool.{Bool, true, false}
 use mathlib.Core.List.{List, [], ◌∷◌}
@@ -9,9 +9,9 @@ use native.Mathlib.Nat.{le_trans}
 use native.Mathlib.Numerals.{add-one}
 use native.Mathlib.Omega.{arith}
 use lib.Dec.{ltb}
-use lib.Int_n.{ℤ}
+use lib.IntN.{ℤ}
 use borrow.Author.Rules.{zero≤}
-use lib.List_n.{length, get_or, set, length-set}
+use lib.ListN.{length, get_or, set, length-set}
 use lib.Seq.{sets}
 use borrow.Author.Tests.{ltb-false}
 use Rattle.turns.specs.Sense.{differ}
@@ -19,7 +19,7 @@ use Rattle.turns.specs.Cuts.{earlier_end, later_end}
 use Rattle.turns.proofs.bisection.Cuts.{by-test, end-within}
 use Rattle.turns.specs.Search.{Turn, turn_in, turns_from, turns_of}
 use Rattle.turns.specs.Search.{first_high, minutes_of}
-use Rattle.turns.specs.inner.Search.{Next_post, Found_post, Upto, onwards}
+use Rattle.turns.specs.inner.Search.{NextPost, FoundPost, Upto, onwards}
 use Rattle.turns.specs.declared.search.Next.{Next}
 use Rattle.turns.proofs.search.Strides.{smaller-within, turns-few}
 use Rattle.turns.proofs.search.Stored.{stored-in-front}
@@ -55,7 +55,7 @@ pub record Left (slope : ℕ → ℤ) (stride first last : ℕ) (kept₀ kept : 
   pub minutes : sets kept n (minutes_of (onwards slope stride last next)) ≡ sets kept₀ 0 (minutes_of (turns_of slope stride first last))
 
 module _ {slope : ℕ → ℤ} {stride first last : ℕ} where
-  pub left-first : {kept : List ℕ} {next : Next} → Next_post slope stride last first next → Left slope stride first last kept kept next 0
+  pub left-first : {kept : List ℕ} {next : Next} → NextPost slope stride last first next → Left slope stride first last kept kept next 0
   left-first {kept} p =
       let all = ap length p.turns in
       record {
@@ -79,7 +79,7 @@ module _ {slope : ℕ → ℤ} {stride first last : ℕ} where
         let all = l.count in
         omega arith
 
-    module _ (e : next.found ≡ true) {s : Next} (p : Next_post slope stride last next.later s) where
+    module _ (e : next.found ≡ true) {s : Next} (p : NextPost slope stride last next.later s) where
       one_more : onwards slope stride last next ≡ record { minute = next.turn; high = next.high } ∷ onwards slope stride last s
       one_more = found-one e ∙ ap (λ (ts : List Turn). record { minute = next.turn; high = next.high } ∷ ts) p.turns
 
@@ -99,7 +99,7 @@ module _ {slope : ℕ → ℤ} {stride first last : ℕ} where
             minutes = rw (is, add-one) (rw one_more at l.minutes);
           }
 
-    pub left-none : {high : Bool} → next.found ≡ false → high ≡ first_high (turns_of slope stride first last) → Found_post (turns_of slope stride first last) kept₀ kept (record { count = n; high = high })
+    pub left-none : {high : Bool} → next.found ≡ false → high ≡ first_high (turns_of slope stride first last) → FoundPost (turns_of slope stride first last) kept₀ kept (record { count = n; high = high })
     left-none e s =
         let none : onwards slope stride last next ≡ [] = rw e in
         let m = ap length none in

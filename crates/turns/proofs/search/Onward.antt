@@ -4,26 +4,26 @@ use mathlib.Core.Bool.{Bool, true, false}
 use Prim.Native.Nat.{ℕ, ◌+◌, ◌≤◌, ◌<◌}
 use native.Mathlib.Omega.{arith}
 use native.Mathlib.Nat.{le_refl}
-use lib.Int_n.{ℤ}
+use lib.IntN.{ℤ}
 use Rattle.turns.specs.Sense.{rising, differ}
 use Rattle.turns.specs.Cuts.{earlier_end}
-use Rattle.turns.specs.inner.Bisection.{Turned_post}
+use Rattle.turns.specs.inner.Bisection.{TurnedPost}
 use Rattle.turns.specs.declared.bisection.Turned.{Turned}
 use Rattle.turns.proofs.bisection.Cuts.{end-within}
 use Rattle.turns.specs.Search.{turns_of, first_high}
-use Rattle.turns.specs.inner.Search.{Next_post}
+use Rattle.turns.specs.inner.Search.{NextPost}
 use Rattle.turns.proofs.search.Strides.{smaller-within, turns-none, turns_same, turns-one}
 
 module _ (slope : ℕ → ℤ) (stride : ℕ) (some : 0 < stride) (last minute from : ℕ) (same : turns_of slope stride minute last ≡ turns_of slope stride from last) where
   pub stride-passed : from + stride ≤ last → differ (slope from) (slope (from + stride)) ≡ false → turns_of slope stride minute last ≡ turns_of slope stride (from + stride) last
   stride-passed h d = same ∙ turns_same slope stride some last from h d
 
-  pub end-reached : {there : ℤ} → from ≤ last → last < from + stride → there ≡ slope from → Next_post slope stride last minute (record { found = false; turn = last; high = false; later = from; slope = there })
+  pub end-reached : {there : ℤ} → from ≤ last → last < from + stride → there ≡ slope from → NextPost slope stride last minute (record { found = false; turn = last; high = false; later = from; slope = there })
   end-reached l h e =
       let none = same ∙ turns-none slope stride some last from h in
       record { turns = none; high = sym (ap first_high none); turn = le_refl last; later = l; there = e }
 
-  pub turn-found : from + stride ≤ last → differ (slope from) (slope (from + stride)) ≡ true → {t : Turned} → Turned_post slope from stride t → {high : Bool} {there : ℤ} → high ≡ rising (slope from) → there ≡ t.slope → Next_post slope stride last minute (record { found = true; turn = t.turn; high = high; later = t.later; slope = there })
+  pub turn-found : from + stride ≤ last → differ (slope from) (slope (from + stride)) ≡ true → {t : Turned} → TurnedPost slope from stride t → {high : Bool} {there : ℤ} → high ≡ rising (slope from) → there ≡ t.slope → NextPost slope stride last minute (record { found = true; turn = t.turn; high = high; later = t.later; slope = there })
   turn-found h d p s e =
       let w = end-within slope from stride some in
       let l = p.later in

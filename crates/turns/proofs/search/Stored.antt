@@ -5,7 +5,7 @@ use mathlib.Core.List.{List, [], ◌∷◌}
 use Prim.Native.Nat.{ℕ, zero, suc, ◌+◌, ◌≤◌}
 use native.Mathlib.Nat.{zero-add}
 use native.Mathlib.Omega.{arith}
-use lib.List_n.{length, set, take, length-set, length-take}
+use lib.ListN.{length, set, take, length-set, length-take}
 use lib.Seq.{sets, sets-eq, set_out, take_all, take_at}
 use Rattle.turns.specs.Written.{from_front}
 

@@ -8,8 +8,8 @@ use native.Mathlib.Nat.{le_refl}
 use native.Mathlib.Omega.{arith}
 use borrow.Author.Tests.{ltb-false, lt-ltb, le-ltb}
 use lib.Dec.{ltb}
-use lib.Int_n.{ℤ, nat_abs}
-use lib.List_n.{length}
+use lib.IntN.{ℤ, nat_abs}
+use lib.ListN.{length}
 use Rattle.turns.specs.Sense.{differ}
 use Rattle.turns.specs.Cuts.{later_end, smaller}
 use Rattle.turns.proofs.bisection.Cuts.{by-test, same-else, end-within}

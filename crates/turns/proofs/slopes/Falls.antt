@@ -5,8 +5,8 @@ use mathlib.Core.List.{List}
 use Prim.Native.Nat.{ℕ, ◌+◌, ◌-◌, ◌*◌, ◌/◌, ◌^◌, ◌≤◌, ◌<◌}
 use native.Mathlib.Omega.{arith}
 use lib.Dec.{lit<, lit≤}
-use lib.Int_n.{ℤ, pos, nat_abs, ◌+ℤ◌, ◌*ℤ◌}
-use lib.List_n.{get_or}
+use lib.IntN.{ℤ, pos, nat_abs, ◌+ℤ◌, ◌*ℤ◌}
+use lib.ListN.{get_or}
 use lib.Signed.{shr_z}
 use mir.Syntax.{w64}
 use mir.Val.{to_z}

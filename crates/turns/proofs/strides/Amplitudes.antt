@@ -4,7 +4,7 @@ use Prim.Native.Nat.{ℕ, suc, ◌+◌, ◌-◌, ◌≤◌, ◌<◌}
 use mathlib.Core.Bool.{cond}
 use mathlib.Core.List.{List}
 use native.Mathlib.Omega.{arith}
-use lib.List_n.{get_or}
+use lib.ListN.{get_or}
 use lib.Dec.{eqb}
 use Rattle.station.specs.Records.{records_from}
 use Rattle.turns.specs.Strides.{amplitude_at}

@@ -5,7 +5,7 @@ use mathlib.Core.Bool.{Bool, true, false, cond}
 use lib.Dec.{leb, ltb}
 use Rattle.station.specs.Strides.{usual_strides}
 use Rattle.turns.specs.Stride.{Tides, semidiurnal, mixed, diurnal, stride_of, tides_of, fixed_stride}
-use Rattle.turns.specs.Strides.{station_stride, station_stride01, Usual_stride}
+use Rattle.turns.specs.Strides.{station_stride, station_stride01, UsualStride}
 
 by_tests : (a b : Bool) → stride_of usual_strides (cond a semidiurnal (cond b diurnal mixed)) ≡ cond a 180 (cond b 360 30)
 by_tests true b = refl
@@ -16,6 +16,6 @@ usual-is : (k1 o1 m2 s2 : ℕ) → stride_of usual_strides (tides_of k1 o1 m2 s2
 unfolding tides_of fixed_stride
 usual-is k1 o1 m2 s2 = by_tests (leb (4 * (k1 + o1)) (m2 + s2)) (ltb (3 * (m2 + s2)) (k1 + o1))
 
-pub usual-stride : Usual_stride
+pub usual-stride : UsualStride
 unfolding station_stride station_stride01
 usual-stride table station e = rw e (usual-is _ _ _ _)

@@ -12,7 +12,7 @@ use native.Mathlib.Omega.{arith}
 use mathlib.Core.Path.{◌≡◌, sym, ap, ◌∙◌}
 use mathlib.Core.Logic.{⊎_elim}
 use mathlib.Core.List.{List}
-use lib.Int_n.{ℤ}
+use lib.IntN.{ℤ}
 use Rattle.turns.specs.Search.{Turn, turns_of, minutes_of}
 use Rattle.turns.specs.Written.{from_front}
 use Rattle.turns.specs.inner.Lists.{slopes_in, heights_in}

@@ -1,9 +1,9 @@
 -- Only inner contracts cite this: the constituents and the months that lists hold.
 use Rattle.std.specs.Prelude.{ℕ, ℤ, List}
-use Rattle.cosine.specs.Fixed.{Is_table}
+use Rattle.cosine.specs.Fixed.{IsTable}
 use Rattle.heights.specs.Height.{height_over}
 use Rattle.month_prepared.specs.inner.View.{constituents_from}
-use Rattle.month_prepared.specs.inner.Rows.{In_range, Following, Has_rows, months_in}
+use Rattle.month_prepared.specs.inner.Rows.{InRange, Following, HasRows, months_in}
 use Rattle.month_prepared.specs.declared.months.Months.{Months}
 use Rattle.turns.specs.Slope.{slope_at, slope_over}
 
@@ -20,7 +20,7 @@ heights_in arguments lags frequencies ps qs months = height_over (months_in argu
 
 -- what is asked of all that is lent to a search
 pub record Rows (table : List ℕ) (months : Months) (vs fs : List ℕ) (ps qs : List ℤ) : Type 0 where
-  pub cosines : Is_table table
+  pub cosines : IsTable table
   pub following : Following months
-  pub rows : Has_rows months vs ps qs
-  pub frequencies : In_range months.count fs
+  pub rows : HasRows months vs ps qs
+  pub frequencies : InRange months.count fs

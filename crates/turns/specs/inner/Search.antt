@@ -21,7 +21,7 @@ onwards slope stride last r =
     cond r.found (record { minute = r.turn; high = r.high } ∷ turns_of slope stride r.later last) []
 
 -- the next turn from a minute on
-pub record Next_post (slope : ℕ → ℤ) (stride last minute : ℕ) (r : Next) : Type 0 where
+pub record NextPost (slope : ℕ → ℤ) (stride last minute : ℕ) (r : Next) : Type 0 where
   pub turns : turns_of slope stride minute last ≡ onwards slope stride last r
   pub high : r.high ≡ first_high (turns_of slope stride minute last)
   pub turn : r.turn ≤ last
@@ -33,7 +33,7 @@ abbrev pub Upto : ℕ → List ℕ → Type 0
 Upto last minutes = (k : ℕ) → k < length minutes → get_or minutes k 0 ≤ last
 
 -- all turns: how many, whether the first is high, and their minutes kept, as many as there are places
-pub record Found_post (turns : List Turn) (before after : List ℕ) (r : Summary) : Type 0 where
+pub record FoundPost (turns : List Turn) (before after : List ℕ) (r : Summary) : Type 0 where
   pub count : r.count ≡ length turns
   pub high : r.high ≡ first_high turns
   pub kept : after ≡ from_front (take (length before) (minutes_of turns)) before

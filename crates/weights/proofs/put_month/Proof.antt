@@ -1,7 +1,7 @@
 -- `weights::put_month` is safe and ends: the page keeps its length. The measure is the places left. Assumes nothing.
 use mathlib.Core.Path.{◌≡◌}
 use Prim.Native.Nat.{◌-◌}
-use lib.List_n.{length}
+use lib.ListN.{length}
 use borrow.Author.Rules.{rules}
 use Rattle.limits.specs.Limits.{most_records}
 use Rattle.weights.proofs.put_month.Statement.{statement}

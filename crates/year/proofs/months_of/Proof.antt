@@ -3,7 +3,7 @@ use borrow.Author.Rules.{rules}
 use mathlib.Core.Path.{◌≡◌, refl, ◌∙◌}
 use Prim.Native.Nat.{ℕ, ◌+◌, ◌-◌, ◌≤◌, ◌<◌}
 use native.Mathlib.Omega.{arith}
-use lib.List_n.{length, get_or, length-set}
+use lib.ListN.{length, get_or, length-set}
 use Rattle.calendar.specs.Calendar.{month_minutes, months_a_year}
 use Rattle.calendar.proofs.Months.{minutes-short}
 use Rattle.year.proofs.Minutes.{put_last, year-minutes}

@@ -3,7 +3,7 @@ use borrow.Author.Rules.{rules}
 use mathlib.Core.Path.{◌≡◌}
 use Prim.Native.Nat.{◌-◌}
 use native.Mathlib.Omega.{arith}
-use lib.List_n.{length}
+use lib.ListN.{length}
 use Rattle.limits.specs.Limits.{most_records}
 use Rattle.calendar.specs.Calendar.{months_a_year}
 use Rattle.year.proofs.Prepared.{Done, month-in-range, one_more, refused-at, all_done}

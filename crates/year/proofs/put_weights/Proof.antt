@@ -3,12 +3,12 @@ use borrow.Author.Rules.{rules}
 use mathlib.Core.Path.{◌≡◌, refl}
 use Prim.Native.Nat.{◌*◌, ◌-◌, ◌≤◌}
 use native.Mathlib.Omega.{arith}
-use lib.Int_n.{pos}
-use lib.List_n.{get_or}
+use lib.IntN.{pos}
+use lib.ListN.{get_or}
 use lib.Seq.{paste, paste-zero}
 use mir.Syntax.{w32}
 use mir.Val.{SFits}
-use mir.Val_laws.{to_z-of_z}
+use mir.ValLaws.{to_z-of_z}
 use Rattle.limits.specs.Limits.{most_records}
 use Rattle.year.proofs.Put.{put-more}
 use Rattle.year.proofs.put_weights.Statement.{statement}

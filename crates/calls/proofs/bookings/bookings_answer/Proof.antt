@@ -1,7 +1,7 @@
 -- `calls::bookings::bookings_answer` meets its contract: the state first, then 31, and then the minutes. Assumes nothing.
 use borrow.Author.Rules.{rules}
 use borrow.Author.Tests.{eq-eqb, ne_eqb}
-use lib.List_n.{length}
+use lib.ListN.{length}
 use Rattle.calls.proofs.bookings.Minutes.{bookings-by}
 use Rattle.calls.proofs.bookings.bookings_answer.Statement.{statement}
 use Rattle.calls.proofs.bookings.bookings_answer.Tie as tie

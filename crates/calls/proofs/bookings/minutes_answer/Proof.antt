@@ -3,7 +3,7 @@ use borrow.Author.Rules.{rules}
 use Prim.Native.Nat.{◌+◌, ◌-◌, ◌^◌, ◌≤◌, ◌<◌}
 use native.Mathlib.Omega.{arith}
 use mathlib.Core.Path.{◌≡◌, refl, sym, ◌∙◌}
-use lib.List_n.{length, drop}
+use lib.ListN.{length, drop}
 use Rattle.calls.specs.Bookings.{minutes_from}
 use Rattle.calls.proofs.bookings.Minutes.{minutes-out, minutes-in, minutes-none}
 use Rattle.calls.proofs.bookings.minutes_answer.Statement.{statement}

@@ -4,7 +4,7 @@ use Rattle.calls.proofs.settings.station_answer.Statement.{statement}
 use Rattle.calls.proofs.settings.station_answer.Tie as tie
 use mathlib.Core.Path.{refl, sym, ap, ◌∙◌}
 use mir.Syntax.{w32}
-use mir.Val_laws.{to_z-of_z}
+use mir.ValLaws.{to_z-of_z}
 use Rattle.refusals.specs.Outcome.{outcome_of}
 use Rattle.station.proofs.Laws.{not-accepted}
 use Rattle.calls.specs.Calls.{station_returns}

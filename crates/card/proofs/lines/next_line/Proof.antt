@@ -4,7 +4,7 @@ use Rattle.card.proofs.lines.next_line.Statement.{statement}
 use Rattle.card.proofs.lines.next_line.Tie as tie
 use mathlib.Core.Path.{◌≡◌, ap}
 use native.Mathlib.Omega.{arith}
-use lib.List_n.{length, drop}
+use lib.ListN.{length, drop}
 use Rattle.columns.specs.Lines.{rest_lines}
 use Rattle.card.proofs.lines.Walk.{tail-is, rest-shorter, rest-again}
 

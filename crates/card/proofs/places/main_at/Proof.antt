@@ -5,7 +5,7 @@ use Rattle.card.proofs.places.main_at.Tie as tie
 use native.Mathlib.Nat.{sub-zero}
 use mathlib.Core.Path.{◌≡◌}
 use Prim.Native.Nat.{◌-◌, ◌*◌}
-use lib.List_n.{get_or}
+use lib.ListN.{get_or}
 use borrow.Author.Tests.{eq-eqb, ne_eqb}
 use Rattle.table.specs.inner.View.{listed}
 use Rattle.card.specs.Places.{main_at}

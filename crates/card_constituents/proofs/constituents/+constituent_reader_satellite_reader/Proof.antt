@@ -3,7 +3,7 @@
 use borrow.Author.Rules.{rules}
 use Prim.Native.Nat.{ℕ, ◌+◌, ◌-◌, ◌<◌}
 use borrow.Fn.Kinds.{In}
-use borrow.Fn.Plain_cycle.{Measures, is, falls, and}
+use borrow.Fn.PlainCycle.{Measures, is, falls, and}
 use Rattle.card_constituents.proofs.constituents.constituent_reader.Reads as constituent-reader
 use Rattle.card_constituents.proofs.constituents.constituent_reader.Kinds as constituent-reader-kinds
 use Rattle.card_constituents.proofs.constituents.+constituent_reader_satellite_reader.Lts-constituent_reader as constituent-reader-lts
@@ -24,15 +24,15 @@ use mathlib.Core.Path.{sym, ap, subst, ◌∙◌}
 use native.Mathlib.Omega.{arith}
 use native.Mathlib.Nat.{add-zero}
 use native.Mathlib.Numerals.{add-one-le}
-use lib.List_n.{length}
+use lib.ListN.{length}
 use borrow.Author.Tests.{eq-eqb, ne_eqb, le-leb, lt-leb}
 use Rattle.columns.specs.Names.{names_from}
 use Rattle.table.specs.inner.View.{main_of}
 use Rattle.limits.specs.Limits.{satellites_a_card}
 use Rattle.card.specs.declared.Check.{Check}
-use Rattle.card_mains.specs.declared.mains.Main_step.{Main_step}
+use Rattle.card_mains.specs.declared.mains.MainStep.{MainStep}
 use Rattle.card_constituents.specs.inner.Rows.{mains_in, Begun, Grown}
-use Rattle.card_constituents.proofs.constituents.Of_mains.{stored-one-more, one_more, counted-begun, counted-grown, mains-end, mains-step, satellites-end, satellites-step}
+use Rattle.card_constituents.proofs.constituents.OfMains.{stored-one-more, one_more, counted-begun, counted-grown, mains-end, mains-step, satellites-end, satellites-step}
 
 abbrev μ-constituent-reader : Measures 6 constituent-reader-kinds.ps ℕ
 μ-constituent-reader κs a = length a.0.now - a.1.0.at
@@ -117,7 +117,7 @@ constituent-reader-with-more-requires t c κs =
     let read = c.before.before.before.before.read-main in
     let cards = read.new.1.1.1.1.0 in
     let angles = read.new.1.1.1.1.1.0 in
-    let begun = subst (λ (step : Main_step). Begun step cards a.here.mains a.here.satellites) c.before.before.count.given.1 read.ensures.1.1.0 in
+    let begun = subst (λ (step : MainStep). Begun step cards a.here.mains a.here.satellites) c.before.before.count.given.1 read.ensures.1.1.0 in
     (omega (arith, begun.0, next.ensures.1.1), omega (arith, p.4, next.ensures.1.2))
 
 constituent-reader-constituent-reader-requires : (t : ℕ) → constituent-reader-lts.Need-constituent-reader-requires (constituent-reader-claims t) (constituent-reader-at t) constituent-reader.Post
@@ -129,7 +129,7 @@ constituent-reader-constituent-reader-requires t c κs =
     let read = c.before.before.before.before.before.before.before.before.before.read-main in
     let cards = read.new.1.1.1.1.0 in
     let angles = read.new.1.1.1.1.1.0 in
-    let begun = subst (λ (step : Main_step). Begun step cards a.here.mains a.here.satellites) c.before.before.before.before.before.before.before.count.given.1 read.ensures.1.1.0 in
+    let begun = subst (λ (step : MainStep). Begun step cards a.here.mains a.here.satellites) c.before.before.before.before.before.before.before.count.given.1 read.ensures.1.1.0 in
     rw (c.before.before.before.before.with-more.ensures, next.ensures.1.0, next.ensures.1.1, next.ensures.1.2, add-zero a.here.satellites) (
       omega (arith, s.requires.0, next.ensures.0.0, next.ensures.0.1),
       (next.ensures.0.1, omega (arith, p.1, next.ensures.0.0), p.2, add-one-le begun.0, p.4, stored-one-more cards a.here.mains a.here.satellites a.here.satellites (omega arith) begun.3 (omega (arith, begun.2)), read.ensures.1.1.1, p.7, counted-begun cards a.cards.now a.ratios.now angles a.angles.now a.sat.now a.here.mains a.here.satellites read.ensures.1.0 begun.4 p.8),
@@ -143,7 +143,7 @@ constituent-reader-cast-due t c =
     let read = c.before.before.before.before.read-main in
     let cards = read.new.1.1.1.1.0 in
     let angles = read.new.1.1.1.1.1.0 in
-    let begun = subst (λ (step : Main_step). Begun step cards a.here.mains a.here.satellites) c.before.before.count.given.1 read.ensures.1.1.0 in
+    let begun = subst (λ (step : MainStep). Begun step cards a.here.mains a.here.satellites) c.before.before.count.given.1 read.ensures.1.1.0 in
     omega (arith, begun.1)
 
 constituent-reader-satellite-reader-requires : (t : ℕ) → constituent-reader-lts.Need-satellite-reader-requires (constituent-reader-claims t) (constituent-reader-at t) constituent-reader.Post
@@ -155,7 +155,7 @@ constituent-reader-satellite-reader-requires t c κs =
     let read = c.before.before.before.before.before.before.before.before.read-main in
     let cards = read.new.1.1.1.1.0 in
     let angles = read.new.1.1.1.1.1.0 in
-    let begun = subst (λ (step : Main_step). Begun step cards a.here.mains a.here.satellites) c.before.before.before.before.before.before.count.given.1 read.ensures.1.1.0 in
+    let begun = subst (λ (step : MainStep). Begun step cards a.here.mains a.here.satellites) c.before.before.before.before.before.before.count.given.1 read.ensures.1.1.0 in
     rw (next.ensures.1.0, next.ensures.1.1, next.ensures.1.2) (
       omega (arith, s.requires.0, next.ensures.0.0, next.ensures.0.1),
       (next.ensures.0.1, omega (arith, p.1, next.ensures.0.0), p.2, begun.0, begun.1, begun.2, begun.3, read.ensures.1.1.1, p.7, counted-begun cards a.cards.now a.ratios.now angles a.angles.now a.sat.now a.here.mains a.here.satellites read.ensures.1.0 begun.4 p.8),

@@ -3,7 +3,7 @@ use borrow.Author.Rules.{rules}
 use Rattle.card_constituents.proofs.rows.put_main.Statement.{statement}
 use Rattle.card_constituents.proofs.rows.put_main.Tie as tie
 use mir.Syntax.{w8}
-use mir.Val_laws.{to_z-of_z}
+use mir.ValLaws.{to_z-of_z}
 
 cast-t10 : tie.Need-overflow-cast-t10
 cast-t10 c = search rules

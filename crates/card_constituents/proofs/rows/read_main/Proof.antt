@@ -3,13 +3,13 @@ use borrow.Author.Rules.{rules}
 use Rattle.card_constituents.proofs.rows.read_main.Statement.{statement}
 use Rattle.card_constituents.proofs.rows.read_main.Tie as tie
 use mathlib.Core.Path.{◌≡◌, refl, sym, ap, ◌∙◌}
-use lib.List_n.{length}
+use lib.ListN.{length}
 use mir.Syntax.{w8}
 use mir.Val.{SFits}
-use mir.Val_laws.{to_z-of_z}
+use mir.ValLaws.{to_z-of_z}
 use Rattle.columns.specs.Names.{names_from}
 use Rattle.card_mains.specs.inner.Mains.{main_step_gives}
-use Rattle.card_constituents.proofs.rows.Of_mains.{step_room, stored-begun}
+use Rattle.card_constituents.proofs.rows.OfMains.{step_room, stored-begun}
 
 next-main-requires : tie.Need-next-main-requires
 next-main-requires c κs = search rules

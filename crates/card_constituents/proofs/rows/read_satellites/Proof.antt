@@ -5,14 +5,14 @@ use Rattle.card_constituents.proofs.rows.read_satellites.Tie as tie
 use Prim.Native.Nat.{◌+◌, ◌*◌, ◌≤◌, min}
 use mathlib.Core.Path.{◌≡◌, refl, sym, ap, ◌∙◌}
 use native.Mathlib.Omega.{arith}
-use lib.List_n.{length, get_or, length-set}
+use lib.ListN.{length, get_or, length-set}
 use Rattle.table.specs.inner.View.{listed, satellite_of}
 use Rattle.table.proofs.Rows.{row_at}
 use Rattle.limits.specs.Limits.{satellites_a_card}
 use Rattle.refusals.specs.Checked.{good}
 use Rattle.card.specs.inner.Answers.{check_gives}
 use Rattle.card_mains.specs.Satellites.{satellite_card}
-use Rattle.card_constituents.proofs.rows.Of_mains.{mains-kept, main-grown, mains-kept-grown, grown-end, grown-stored, grown-count}
+use Rattle.card_constituents.proofs.rows.OfMains.{mains-kept, main-grown, mains-kept-grown, grown-end, grown-stored, grown-count}
 
 satellite-card-requires : tie.Need-satellite-card-requires
 satellite-card-requires c κs = search rules

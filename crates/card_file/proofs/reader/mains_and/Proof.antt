@@ -3,7 +3,7 @@ use borrow.Author.Rules.{rules}
 use Rattle.card_file.proofs.reader.mains_and.Statement.{statement}
 use Rattle.card_file.proofs.reader.mains_and.Tie as tie
 use mathlib.Core.Path.{sym, ◌∙◌}
-use lib.List_n.{drop}
+use lib.ListN.{drop}
 use Rattle.columns.specs.Lines.{lines_of}
 use Rattle.table.specs.inner.View.{table_of, listed}
 use Rattle.card_mains.specs.Mains.{satellites_in}

@@ -5,7 +5,7 @@ use Rattle.card_file.proofs.reader.shallows_and.Tie as tie
 use mathlib.Core.Path.{sym, ap, ◌∙◌}
 use Prim.Native.Nat.{◌<◌}
 use native.Mathlib.Omega.{arith}
-use lib.List_n.{drop}
+use lib.ListN.{drop}
 use Rattle.columns.specs.Lines.{lines_of}
 use Rattle.columns.specs.declared.names.Found.{Found}
 use Rattle.table.specs.inner.View.{table_of, listed, shallow_of}

@@ -6,9 +6,9 @@ use native.Mathlib.Omega.{arith}
 use mathlib.Core.Path.{◌≡◌, refl}
 use mathlib.Core.List.{map}
 use Prim.Native.Nat.{◌-◌, ◌≤◌, ◌<◌}
-use lib.List_n.{length, take}
+use lib.ListN.{length, take}
 use lib.Seq.{take_all}
-use lib.Int_n.{pos}
+use lib.IntN.{pos}
 use Rattle.card.specs.Formats.{five_field}
 use Rattle.card.specs.Card.{numbers_from, numbers}
 use Rattle.card_frequencies.specs.Longitudes.{five_card}

@@ -4,7 +4,7 @@ use Rattle.card_frequencies.proofs.longitudes.read_five.Statement.{statement}
 use Rattle.card_frequencies.proofs.longitudes.read_five.Tie as tie
 use mathlib.Core.Path.{ap}
 use native.Mathlib.Omega.{arith}
-use lib.List_n.{length}
+use lib.ListN.{length}
 use Rattle.card.specs.Formats.{five_field}
 use Rattle.card.specs.Card.{due_card}
 use Rattle.card_frequencies.proofs.longitudes.Fives.{five-here, five-end}

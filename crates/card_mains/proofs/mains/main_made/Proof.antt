@@ -4,7 +4,7 @@ use Rattle.card_mains.proofs.mains.main_made.Statement.{statement}
 use Rattle.card_mains.proofs.mains.main_made.Tie as tie
 use borrow.Author.Tests.{lt-ltb, le-ltb}
 use mir.Syntax.{w8}
-use mir.Val_laws.{to_z-of_z}
+use mir.ValLaws.{to_z-of_z}
 use Rattle.card_mains.specs.Mains.{main_made}
 
 add-if1 : tie.Need-overflow-add-if1

@@ -5,11 +5,11 @@ use Rattle.card_mains.proofs.mains.main_numbers.Tie as tie
 use mathlib.Core.Path.{◌≡◌, refl}
 use native.Mathlib.Omega.{arith}
 use Rattle.card_mains.specs.Mains.{main_numbers}
-use lib.List_n.{length}
+use lib.ListN.{length}
 use lib.Seq.{take_all}
 use mir.Syntax.{w8}
 use mir.Val.{SFits}
-use mir.Val_laws.{to_z-of_z}
+use mir.ValLaws.{to_z-of_z}
 
 small-row-requires : tie.Need-small-row-requires
 small-row-requires c κs = search rules

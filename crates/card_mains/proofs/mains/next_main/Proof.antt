@@ -2,7 +2,7 @@
 use borrow.Author.Rules.{rules}
 use Rattle.card_mains.proofs.mains.next_main.Statement.{statement}
 use Rattle.card_mains.proofs.mains.next_main.Tie as tie
-use lib.List_n.{get_or}
+use lib.ListN.{get_or}
 use Prim.Native.Nat.{◌*◌}
 use Rattle.table.proofs.Rows.{listed-length}
 use Rattle.card_mains.specs.Mains.{next_main, main_card}

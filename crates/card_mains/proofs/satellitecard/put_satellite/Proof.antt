@@ -5,12 +5,12 @@ use Rattle.card_mains.proofs.satellitecard.put_satellite.Tie as tie
 use mathlib.Core.Path.{◌≡◌, sym}
 use Prim.Native.Nat.{◌*◌}
 use native.Mathlib.Omega.{arith}
-use lib.List_n.{length}
+use lib.ListN.{length}
 use lib.Seq.{length-take-le}
 use Rattle.limits.specs.Limits.{most_satellites}
 use mir.Syntax.{w8}
 use mir.Val.{SFits}
-use mir.Val_laws.{to_z-of_z}
+use mir.ValLaws.{to_z-of_z}
 
 mul-put-i8 : tie.Need-overflow-mul-put-i8
 mul-put-i8 c = search rules

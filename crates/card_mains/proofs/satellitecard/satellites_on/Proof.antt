@@ -8,17 +8,17 @@ use mathlib.Core.List.{[], ◌∷◌}
 use native.Mathlib.Omega.{arith}
 use native.Mathlib.Nat.{sub-zero}
 use Prim.Native.Nat.{◌+◌, ◌-◌, ◌*◌, ◌≤◌}
-use lib.List_n.{length, length-set, take, set}
+use lib.ListN.{length, length-set, take, set}
 use lib.Seq.{length-sets, length-take-le, sets}
 use Rattle.table.specs.inner.View.{listed, satellite_of}
 use Rattle.card_mains.specs.Satellites.{satellites_on}
-use Rattle.card_mains.proofs.satellitecard.Of_satellites.{satellite-put, satellite-kept, satellites-grow, satellites-more, satellites-none}
-use Rattle.card_mains.specs.inner.Satellites.{As_before, Satellite_room}
+use Rattle.card_mains.proofs.satellitecard.OfSatellites.{satellite-put, satellite-kept, satellites-grow, satellites-more, satellites-none}
+use Rattle.card_mains.specs.inner.Satellites.{AsBefore, SatelliteRoom}
 
 abbrev invariant-loop : tie.invariant-loop
 invariant-loop line first count angles₀ ratios₀ j₀ angles ratios j =
     (j ≤ count) × (satellites_on line (listed (satellite_of angles ratios) first j) j (count - j) ≡ satellites_on line [] 0 count)
-    × As_before (satellite_of angles ratios) (satellite_of angles₀ ratios₀) first × Satellite_room angles ratios
+    × AsBefore (satellite_of angles ratios) (satellite_of angles₀ ratios₀) first × SatelliteRoom angles ratios
 
 abbrev decreases-loop : tie.decreases-loop
 decreases-loop line first count angles₀ ratios₀ j₀ angles ratios j = count - j

@@ -5,7 +5,7 @@ use Rattle.card_mains.proofs.satellitefields.satellite_fields.Tie as tie
 use mathlib.Core.Path.{refl}
 use mir.Syntax.{w8}
 use mir.Val.{SFits}
-use mir.Val_laws.{to_z-of_z}
+use mir.ValLaws.{to_z-of_z}
 use Rattle.card_mains.specs.Satellite.{satellite}
 
 small-row-requires : tie.Need-small-row-requires

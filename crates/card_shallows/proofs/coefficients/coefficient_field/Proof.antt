@@ -3,11 +3,11 @@ use borrow.Author.Rules.{rules}
 use Rattle.card_shallows.proofs.coefficients.coefficient_field.Statement.{statement}
 use Rattle.card_shallows.proofs.coefficients.coefficient_field.Tie as tie
 use mathlib.Core.Path.{◌≡◌, sym, ◌∙◌}
-use lib.Int_n.{pos, neg_ℤ}
+use lib.IntN.{pos, neg_ℤ}
 use mir.Syntax.{w64}
 use mir.Val.{SFits}
-use mir.Val_laws.{to_z-of_z}
-use Rattle.fields.specs.declared.Field.The_variants.{Value, Malformed, Out_of_range}
+use mir.ValLaws.{to_z-of_z}
+use Rattle.fields.specs.declared.Field.TheVariants.{Value, Malformed, OutOfRange}
 use Rattle.card.specs.Formats.{coefficient_field}
 use Rattle.card.specs.Card.{field_on}
 use Rattle.card.proofs.Ranges.{ranged-within, number_is}
@@ -59,8 +59,8 @@ returns-2 c =
 returns-3 : tie.Need-returns-3
 returns-3 c =
     let a = c.before.before.before.before.before.before.args in
-    let e : Out_of_range ≡ field_on a.line.now (coefficient_field a.j) = sym c.before.enum-told2.given.1 ∙ (rw c.before.before.before.before.coefficient.ensures at c.before.before.before.field-on.ensures) in
-    rw (c.fault-in2.ensures, c.before.before.before.before.coefficient.ensures, ← number_is a.line.now (coefficient_field a.j) Out_of_range e)
+    let e : OutOfRange ≡ field_on a.line.now (coefficient_field a.j) = sym c.before.enum-told2.given.1 ∙ (rw c.before.before.before.before.coefficient.ensures at c.before.before.before.field-on.ensures) in
+    rw (c.fault-in2.ensures, c.before.before.before.before.coefficient.ensures, ← number_is a.line.now (coefficient_field a.j) OutOfRange e)
 
 pub coefficient-field-spec : {M : Type 1} → statement M
 coefficient-field-spec =

@@ -5,11 +5,11 @@ use Rattle.card_shallows.proofs.coefficients.whole_coefficient.Statement.{statem
 use Rattle.card_shallows.proofs.coefficients.whole_coefficient.Tie as tie
 use mathlib.Core.Path.{◌≡◌, sym, ap, ◌∙◌}
 use Prim.Native.Nat.{◌/◌, ◌%◌, ◌≤◌}
-use lib.Int_n.{pos, nat_abs}
+use lib.IntN.{pos, nat_abs}
 use lib.Signed.{quot_z}
 use mir.Syntax.{w8, w64}
 use mir.Val.{SFits}
-use mir.Val_laws.{to_z-of_z}
+use mir.ValLaws.{to_z-of_z}
 use native.Mathlib.Omega.{arith}
 use Rattle.card_shallows.proofs.coefficients.Coefficients.{quot-size, fits-64, fits_8, coefficient-zero, coefficient-broken, coefficient-large, coefficient-good}
 

@@ -4,8 +4,8 @@ use Rattle.card_shallows.proofs.parts.part.Statement.{statement}
 use Rattle.card_shallows.proofs.parts.part.Tie as tie
 use mir.Syntax.{w8}
 use mir.Val.{SFits}
-use mir.Val_laws.{to_z-of_z}
-use Rattle.card_shallows.proofs.parts.Part_laws.{part-is}
+use mir.ValLaws.{to_z-of_z}
+use Rattle.card_shallows.proofs.parts.PartLaws.{part-is}
 
 coefficient-field-requires : tie.Need-coefficient-field-requires
 coefficient-field-requires c κs = search rules

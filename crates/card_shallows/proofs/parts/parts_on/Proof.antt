@@ -8,19 +8,19 @@ use mathlib.Core.List.{[]}
 use Prim.Native.Nat.{◌+◌, ◌-◌, ◌≤◌, ◌<◌}
 use native.Mathlib.Omega.{arith}
 use native.Mathlib.Nat.{sub-zero}
-use lib.Int_n.{nat_abs}
-use lib.List_n.{length, get_or}
+use lib.IntN.{nat_abs}
+use lib.ListN.{length, get_or}
 use lib.Seq.{get_or-set_other}
 use mir.Syntax.{w8, w64}
 use mir.Val.{SFits}
-use mir.Val_laws.{to_z-of_z}
+use mir.ValLaws.{to_z-of_z}
 use mir.Facts.{sfits_widen}
 use Rattle.columns.specs.Names.{names_from}
 use Rattle.table.specs.inner.View.{listed, part_of}
 use Rattle.limits.specs.Limits.{most_sizes}
 use Rattle.card_shallows.specs.Parts.{parts_on}
 use Rattle.card.specs.inner.Places.{places_in}
-use Rattle.card_shallows.proofs.parts.Part_laws.{parts_more, parts_none, read-sizes, part-put}
+use Rattle.card_shallows.proofs.parts.PartLaws.{parts_more, parts_none, read-sizes, part-put}
 
 abbrev invariant-loop : tie.invariant-loop
 invariant-loop line place count names frequencies maincards mains card₀ coefficients₀ sizes₀ j₀ end card coefficients sizes j =

@@ -3,12 +3,12 @@ use borrow.Author.Rules.{rules}
 use Rattle.card_shallows.proofs.shallowcard.next_shallow.Statement.{statement}
 use Rattle.card_shallows.proofs.shallowcard.next_shallow.Tie as tie
 use Prim.Native.Nat.{◌*◌}
-use lib.List_n.{get_or}
+use lib.ListN.{get_or}
 use Rattle.table.proofs.Rows.{listed-length}
 use Rattle.card_shallows.specs.Shallow.{next_shallow}
 use mathlib.Core.Path.{◌≡◌}
 use Rattle.limits.specs.Limits.{most_shallows}
-use Rattle.card.specs.declared.faults.Trouble.The_variants.{Too_many_shallows}
+use Rattle.card.specs.declared.faults.Trouble.TheVariants.{TooManyShallows}
 use Rattle.card.specs.Card.{opening}
 use Rattle.card.specs.inner.Lines.{opening_gives}
 
@@ -34,7 +34,7 @@ returns : tie.Need-returns
 unfolding next_shallow
 returns c =
     let a = c.before.before.before.before.before.before.before.args in
-    let begun : opening_gives c.before.before.begins.result ≡ opening most_shallows Too_many_shallows a.count a.line.now = c.before.before.begins.ensures in
+    let begun : opening_gives c.before.before.begins.result ≡ opening most_shallows TooManyShallows a.count a.line.now = c.before.before.begins.ensures in
     rw (listed-length (λ i. get_or a.cards.now (6 * i) 0) 0 a.count, ← begun, c.enum_told.given.1)
 
 returns-2 : tie.Need-returns-2

@@ -4,14 +4,14 @@ use native.Mathlib.Omega.{arith}
 use Prim.Native.Nat.{ℕ, ◌*◌, ◌≤◌}
 use mathlib.Core.Path.{sym, ap, ◌∙◌}
 use mathlib.Core.List.{List}
-use lib.Int_n.{ℤ}
-use lib.List_n.{length}
+use lib.IntN.{ℤ}
+use lib.ListN.{length}
 use lib.Seq.{length-take-le}
 use Rattle.calendar.proofs.Months.{month-short}
 use Rattle.month_prepared.specs.inner.View.{constituents_from}
 use Rattle.heights.specs.Height.{height_at}
 use Rattle.heights.specs.Series.{series_of}
-use Rattle.hourly.specs.Card.{Hourly_card}
+use Rattle.hourly.specs.Card.{HourlyCard}
 use Rattle.hourly.specs.Month.{bytes_of, into_buffer}
 use Rattle.hourly.specs.inner.Hours.{cards_in}
 use Rattle.hourly.proofs.Hours.{cards-in}
@@ -67,7 +67,7 @@ returns c =
     let days = c.before.before.before.before.before.before.before.before.before.month-days.ensures in
     let hours = hours-first height 60 60 _ _ _ (within c.before.before.before.before.before.before.before.before) c.before.before.before.before.before.before.series.ensures ∙ ap (λ (d : ℕ). series_of height 60 60 (24 * d)) days in
     c.before.before.write-cards.ensures
-    ∙ ap (λ (cards : List Hourly_card). into_buffer (bytes_of cards (length a.out.now)) a.out.now)
+    ∙ ap (λ (cards : List HourlyCard). into_buffer (bytes_of cards (length a.out.now)) a.out.now)
     (ap (λ (row : List ℤ). cards_in row a.number a.year a.month) hours ∙ cards-in height a.number a.year a.month)
 
 pub cards-spec : {M : Type 1} → statement M

@@ -3,7 +3,7 @@ use borrow.Author.Rules.{rules}
 use Rattle.clock.proofs.yearsheet.sheet.Statement.{statement}
 use Rattle.clock.proofs.yearsheet.sheet.Tie as tie
 use mathlib.Core.Path.{sym, ◌∙◌}
-use Rattle.year.specs.inner.Rows.{Year_months, held_by}
+use Rattle.year.specs.inner.Rows.{YearMonths, held_by}
 use Rattle.clock.proofs.Sheets.{sheet-rows, sheet-inside, sheet-refused, minutes-refused, sheet-written}
 
 held-requires : tie.Need-held-requires
@@ -23,7 +23,7 @@ returns c =
     let s = c.before.before.before.before.before.before.before.before.before.before.before in
     let a = s.args in
     let months = c.before.before.before.before.before.before.before.before.months-of in
-    let is : Year_months a.sheet.year (held_by a.t3) months.result = rw c.before.before.before.before.before.before.before.before.before.held.ensures at months.ensures in
+    let is : YearMonths a.sheet.year (held_by a.t3) months.result = rw c.before.before.before.before.before.before.before.before.before.held.ensures at months.ensures in
     let prepared = c.before.before.before.prepare in
     let g = c.before.prepared.given in
     sheet-refused a.table a.t3 a.sheet s.requires.0.1.1 months.result is prepared.result prepared.ensures a.series.now a.minutes.now a.heights.now g.0.0 g.1
@@ -39,7 +39,7 @@ returns-2 c =
     let s = c.before.before.before.before.before.before.before.before.before.before.before.before in
     let a = s.args in
     let months = c.before.before.before.before.before.before.before.before.before.months-of in
-    let is : Year_months a.sheet.year (held_by a.t3) months.result = rw c.before.before.before.before.before.before.before.before.before.before.held.ensures at months.ensures in
+    let is : YearMonths a.sheet.year (held_by a.t3) months.result = rw c.before.before.before.before.before.before.before.before.before.before.held.ensures at months.ensures in
     let prepared = c.before.before.before.before.prepare in
     minutes-refused a.table a.t3 a.sheet s.requires.0.1.1 months.result is prepared.result prepared.ensures a.series.now a.minutes.now a.heights.now c.before.before.enum_told.given.1 (sym c.before.sheet-outside.ensures ∙ c.if1.true)
 
@@ -60,7 +60,7 @@ written-requires c κs =
     let s = c.before.before.before.before.before.before.before.before.before.before.before.before.before.before.before.before.before.before.before.before.before.before in
     let a = s.args in
     let months = c.before.before.before.before.before.before.before.before.before.before.before.before.before.before.before.before.before.before.before.months-of in
-    let is : Year_months a.sheet.year (held_by a.t3) months.result = rw c.before.before.before.before.before.before.before.before.before.before.before.before.before.before.before.before.before.before.before.before.held.ensures at months.ensures in
+    let is : YearMonths a.sheet.year (held_by a.t3) months.result = rw c.before.before.before.before.before.before.before.before.before.before.before.before.before.before.before.before.before.before.before.before.held.ensures at months.ensures in
     let prepared = c.before.before.before.before.before.before.before.before.before.before.before.before.before.before.prepare in
     let stride = c.before.before.before.before.before.before.before.before.before.station-stride in
     let within = sym c.before.before.before.before.before.before.before.before.before.before.before.sheet-outside.ensures ∙ c.before.before.before.before.before.before.before.before.before.before.if1.false in
@@ -80,7 +80,7 @@ returns-3 c =
     let s = c.before.before.before.before.before.before.before.before.before.before.before.before.before.before.before.before.before.before.before.before.before.before.before.before.before.before.before in
     let a = s.args in
     let months = c.before.before.before.before.before.before.before.before.before.before.before.before.before.before.before.before.before.before.before.before.before.before.before.before.months-of in
-    let is : Year_months a.sheet.year (held_by a.t3) months.result = rw c.before.before.before.before.before.before.before.before.before.before.before.before.before.before.before.before.before.before.before.before.before.before.before.before.before.held.ensures at months.ensures in
+    let is : YearMonths a.sheet.year (held_by a.t3) months.result = rw c.before.before.before.before.before.before.before.before.before.before.before.before.before.before.before.before.before.before.before.before.before.before.before.before.before.held.ensures at months.ensures in
     let prepared = c.before.before.before.before.before.before.before.before.before.before.before.before.before.before.before.before.before.before.before.prepare in
     let stride = c.before.before.before.before.before.before.before.before.before.before.before.before.before.before.station-stride in
     let within = sym c.before.before.before.before.before.before.before.before.before.before.before.before.before.before.before.before.sheet-outside.ensures ∙ c.before.before.before.before.before.before.before.before.before.before.before.before.before.before.before.if1.false in

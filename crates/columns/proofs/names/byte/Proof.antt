@@ -2,7 +2,7 @@
 use borrow.Author.Rules.{rules}
 use Rattle.columns.proofs.names.byte.Statement.{statement}
 use Rattle.columns.proofs.names.byte.Tie as tie
-use lib.List_n.{get_or-eq_default}
+use lib.ListN.{get_or-eq_default}
 use mathlib.Core.Path.{sym}
 
 shared-slice-read-result : tie.Need-shared-slice-read-result

@@ -4,7 +4,7 @@ use borrow.Author.Rules.{rules}
 use Rattle.columns.proofs.names.name_at.Statement.{statement}
 use Rattle.columns.proofs.names.name_at.Tie as tie
 use Prim.Native.Nat.{◌*◌, ◌≤◌}
-use lib.List_n.{length, drop_of_length-le}
+use lib.ListN.{length, drop_of_length-le}
 
 slice-aggregate-result : tie.Need-slice-aggregate-result
 slice-aggregate-result c = search rules

@@ -2,24 +2,24 @@
 use Prim.Native.Nat.{ℕ}
 use mathlib.Core.Path.{◌≡◌, refl, sym}
 use mathlib.Core.List.{[], ◌∷◌}
-use types.Run.{One_of, miss}
+use types.Run.{OneOf, miss}
 use denote.Enum.Declared.{tag_of}
 use borrow.Author.Rules.{rules}
 use Rattle.fields.specs.declared.Narrow.{Narrow}
 use Rattle.fields.specs.contracts.Narrow.{the_type}
-use Rattle.fields.specs.declared.Narrow.The_variants.{Value, Malformed, Out_of_range}
+use Rattle.fields.specs.declared.Narrow.TheVariants.{Value, Malformed, OutOfRange}
 use Rattle.fields.specs.inner.Narrow.{narrow_gives}
 use Rattle.commandline.specs.Lengths.{given}
 use Rattle.commandline.specs.declared.lengths.Lengths.{Lengths}
-use Rattle.commandline.specs.declared.lengths.Lengths.The_variants.{No_lengths}
+use Rattle.commandline.specs.declared.lengths.Lengths.TheVariants.{NoLengths}
 use Rattle.commandline.proofs.lengths.three.Statement.{statement}
 use Rattle.commandline.proofs.lengths.three.Tie as tie
 
 -- a field that has no number gives no lengths
-no_number : (r : Narrow) → One_of (1 ∷ 2 ∷ []) (tag_of the_type r) → (f : ℕ → Lengths) → given (narrow_gives r) f ≡ No_lengths
+no_number : (r : Narrow) → OneOf (1 ∷ 2 ∷ []) (tag_of the_type r) → (f : ℕ → Lengths) → given (narrow_gives r) f ≡ NoLengths
 no_number (Value n) keys f = absurd (miss (1 ∷ 2 ∷ []) 0 tt keys)
 no_number Malformed keys f = refl
-no_number Out_of_range keys f = refl
+no_number OutOfRange keys f = refl
 
 enum-known-first : tie.Need-enum-known-first
 enum-known-first c = search rules

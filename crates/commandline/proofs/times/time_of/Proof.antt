@@ -3,25 +3,25 @@ use Prim.Native.Nat.{ℕ}
 use mathlib.Core.Path.{◌≡◌, refl}
 use mathlib.Core.List.{[], ◌∷◌}
 use native.Mathlib.Omega.{arith}
-use types.Run.{One_of, miss}
+use types.Run.{OneOf, miss}
 use denote.Enum.Declared.{tag_of}
 use borrow.Author.Rules.{rules}
 use borrow.Author.Tests.{eq-eqb, ne_eqb}
 use Rattle.fields.specs.declared.Narrow.{Narrow}
 use Rattle.fields.specs.contracts.Narrow.{the_type}
-use Rattle.fields.specs.declared.Narrow.The_variants.{Value, Malformed, Out_of_range}
+use Rattle.fields.specs.declared.Narrow.TheVariants.{Value, Malformed, OutOfRange}
 use Rattle.fields.specs.inner.Narrow.{narrow_gives}
 use Rattle.commandline.specs.Times.{time_of, given}
 use Rattle.commandline.specs.declared.times.Time.{Time}
-use Rattle.commandline.specs.declared.times.Time.The_variants.{No_time}
+use Rattle.commandline.specs.declared.times.Time.TheVariants.{NoTime}
 use Rattle.commandline.proofs.times.time_of.Statement.{statement}
 use Rattle.commandline.proofs.times.time_of.Tie as tie
 
 -- a field that has no number gives no time
-no_number : (r : Narrow) → One_of (1 ∷ 2 ∷ []) (tag_of the_type r) → (f : ℕ → Time) → given (narrow_gives r) f ≡ No_time
+no_number : (r : Narrow) → OneOf (1 ∷ 2 ∷ []) (tag_of the_type r) → (f : ℕ → Time) → given (narrow_gives r) f ≡ NoTime
 no_number (Value n) keys f = absurd (miss (1 ∷ 2 ∷ []) 0 tt keys)
 no_number Malformed keys f = refl
-no_number Out_of_range keys f = refl
+no_number OutOfRange keys f = refl
 
 returns : tie.Need-returns
 unfolding time_of

@@ -2,7 +2,7 @@
 use mathlib.Core.Path.{refl, sym, ap}
 use mir.Syntax.{w64}
 use mir.Val.{SFits}
-use mir.Val_laws.{to_z-of_z}
+use mir.ValLaws.{to_z-of_z}
 use Rattle.cuvalimodo_c.specs.Answers.{reading_of}
 use borrow.Author.Rules.{rules}
 use Rattle.cuvalimodo_c.proofs.Numbers.{refusal-read}

@@ -1,7 +1,7 @@
 -- `byvalue::place_station` meets its contract. Assumes nothing.
 use borrow.Author.Rules.{rules}
 use mir.Syntax.{w32}
-use mir.Val_laws.{to_z-of_z}
+use mir.ValLaws.{to_z-of_z}
 use Rattle.cuvalimodo_c.proofs.byvalue.place_station.Statement.{statement}
 use Rattle.cuvalimodo_c.proofs.byvalue.place_station.Tie as tie
 

@@ -1,7 +1,7 @@
 -- `daybook::answered::put_lines` meets its contract: the page keeps its length, the next place stays on it, and what is left of the file falls. Assumes nothing.
 use Prim.Native.Nat.{◌-◌, ◌≤◌}
 use mathlib.Core.Path.{◌≡◌}
-use lib.List_n.{length}
+use lib.ListN.{length}
 use borrow.Author.Rules.{rules}
 use Rattle.daybook.proofs.answered.put_lines.Statement.{statement}
 use Rattle.daybook.proofs.answered.put_lines.Tie as tie

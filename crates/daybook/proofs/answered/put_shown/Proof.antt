@@ -1,7 +1,7 @@
 -- `daybook::answered::put_shown` meets its contract: the page keeps its length, and the next place stays on it. Assumes nothing.
 use Prim.Native.Nat.{◌-◌, ◌≤◌}
 use mathlib.Core.Path.{◌≡◌}
-use lib.List_n.{length}
+use lib.ListN.{length}
 use borrow.Author.Rules.{rules}
 use Rattle.daybook.proofs.answered.put_shown.Statement.{statement}
 use Rattle.daybook.proofs.answered.put_shown.Tie as tie

@@ -3,7 +3,7 @@ use Prim.Native.Nat.{◌-◌, ◌≤◌, max}
 use mathlib.Core.Path.{◌≡◌, sym, ◌∙◌, ap}
 use mathlib.Core.Logic.{⊎_elim}
 use native.Mathlib.Omega.{arith}
-use lib.List_n.{length, drop}
+use lib.ListN.{length, drop}
 use borrow.Author.Rules.{rules}
 use Rattle.columns.specs.Lines.{lines_of}
 use Rattle.card.proofs.lines.Walk.{lines_end}

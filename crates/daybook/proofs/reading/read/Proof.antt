@@ -1,7 +1,7 @@
 -- `daybook::reading::read` meets its contract: no part of the buffer has more bytes than eight for each place. Assumes nothing.
 use native.Mathlib.Omega.{arith}
 use mathlib.Core.Path.{◌≡◌, ap}
-use lib.List_n.{length, length-take}
+use lib.ListN.{length, length-take}
 use borrow.Author.Rules.{rules}
 use Rattle.daybook.specs.Bookings.{most_bookings}
 use Rattle.daybook.proofs.reading.read.Statement.{statement}

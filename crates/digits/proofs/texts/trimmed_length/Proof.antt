@@ -2,7 +2,7 @@
 use Prim.Native.Nat.{◌≤◌}
 use mathlib.Core.Path.{◌≡◌, sym, ◌∙◌}
 use native.Mathlib.Omega.{arith}
-use lib.List_n.{length, take}
+use lib.ListN.{length, take}
 use lib.Seq.{take_all}
 use Rattle.digits.specs.Texts.{trimmed}
 use Rattle.digits.proofs.texts.Texts.{take-blank, take-other}

@@ -1,7 +1,7 @@
 -- `drawing_picture::axes::put_columns` meets its contract and ends: the page keeps its length. The measure: what is left of the plot's minutes. Assumes nothing.
 use mathlib.Core.Path.{◌≡◌}
 use Prim.Native.Nat.{◌+◌, ◌-◌}
-use lib.List_n.{length}
+use lib.ListN.{length}
 use borrow.Author.Rules.{rules}
 use Rattle.drawing_picture.proofs.axes.put_columns.Statement.{statement}
 use Rattle.drawing_picture.proofs.axes.put_columns.Tie as tie

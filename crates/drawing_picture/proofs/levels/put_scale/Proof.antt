@@ -1,7 +1,7 @@
 -- `drawing_picture::levels::put_scale` meets its contract and ends: the page keeps its length. The measure: so many lines are left. Assumes nothing.
 use mathlib.Core.Path.{◌≡◌}
 use Prim.Native.Nat.{◌-◌}
-use lib.List_n.{length}
+use lib.ListN.{length}
 use borrow.Author.Rules.{rules}
 use Rattle.drawing_picture.proofs.levels.put_scale.Statement.{statement}
 use Rattle.drawing_picture.proofs.levels.put_scale.Tie as tie

@@ -1,7 +1,7 @@
 -- `drawing_picture::marks::put_kind` is safe and ends: the page keeps its length, and the turns left fall. Assumes nothing.
 use borrow.Author.Rules.{rules}
 use mathlib.Core.Path.{◌≡◌}
-use lib.List_n.{length}
+use lib.ListN.{length}
 use Prim.Native.Nat.{◌-◌}
 use Rattle.drawing_picture.proofs.marks.put_kind.Statement.{statement}
 use Rattle.drawing_picture.proofs.marks.put_kind.Tie as tie

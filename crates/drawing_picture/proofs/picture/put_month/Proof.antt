@@ -1,7 +1,7 @@
 -- `drawing_picture::picture::put_month` meets its contract: the next place stays on the page, and the weeks left fall. Assumes nothing.
 use borrow.Author.Rules.{rules}
 use mathlib.Core.Path.{◌≡◌}
-use lib.List_n.{length}
+use lib.ListN.{length}
 use Prim.Native.Nat.{◌-◌, ◌≤◌}
 use Rattle.drawing_picture.proofs.picture.put_month.Statement.{statement}
 use Rattle.drawing_picture.proofs.picture.put_month.Tie as tie

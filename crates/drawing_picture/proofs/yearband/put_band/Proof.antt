@@ -1,7 +1,7 @@
 -- `drawing_picture::yearband::put_band` meets its contract: the page keeps its length, and the days left fall. Assumes nothing.
 use mathlib.Core.Path.{◌≡◌}
 use Prim.Native.Nat.{◌-◌}
-use lib.List_n.{length}
+use lib.ListN.{length}
 use borrow.Author.Rules.{rules}
 use Rattle.drawing_picture.proofs.yearband.put_band.Statement.{statement}
 use Rattle.drawing_picture.proofs.yearband.put_band.Tie as tie

@@ -1,7 +1,7 @@
 -- `drawing_picture::yearband::put_kind` is safe and ends: the page keeps its length, and the months left fall. Assumes nothing.
 use mathlib.Core.Path.{◌≡◌}
 use Prim.Native.Nat.{◌-◌}
-use lib.List_n.{length}
+use lib.ListN.{length}
 use borrow.Author.Rules.{rules}
 use Rattle.drawing_picture.proofs.yearband.put_kind.Statement.{statement}
 use Rattle.drawing_picture.proofs.yearband.put_kind.Tie as tie

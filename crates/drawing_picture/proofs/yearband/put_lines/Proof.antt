@@ -1,7 +1,7 @@
 -- `drawing_picture::yearband::put_lines` meets its contract: the page keeps its length, and the months left fall. Assumes nothing.
 use mathlib.Core.Path.{◌≡◌}
 use Prim.Native.Nat.{◌-◌}
-use lib.List_n.{length}
+use lib.ListN.{length}
 use borrow.Author.Rules.{rules}
 use Rattle.drawing_picture.proofs.yearband.put_lines.Statement.{statement}
 use Rattle.drawing_picture.proofs.yearband.put_lines.Tie as tie

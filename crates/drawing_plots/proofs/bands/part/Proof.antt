@@ -5,7 +5,7 @@ use Rattle.drawing_plots.proofs.bands.part.Statement.{statement}
 use Rattle.drawing_plots.proofs.bands.part.Tie as tie
 use mathlib.Core.Path.{sym, ap, ◌∙◌}
 use Prim.Native.Nat.{ℕ, ◌≤◌, ◌-◌}
-use lib.List_n.{length, take, drop, length-drop, drop_of_length-le}
+use lib.ListN.{length, take, drop, length-drop, drop_of_length-le}
 use lib.Seq.{take_all, take-nil}
 use native.Mathlib.Nat.{add-sub_cancel_left}
 

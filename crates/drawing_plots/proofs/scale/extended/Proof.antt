@@ -3,15 +3,15 @@ use Rattle.drawing_plots.proofs.scale.extended.Statement.{statement}
 use Rattle.drawing_plots.proofs.scale.extended.Tie as tie
 use mathlib.Core.Path.{◌≡◌, refl, ◌∙◌}
 use Prim.Native.Nat.{◌-◌, ◌≤◌, ◌<◌}
-use lib.List_n.{drop, get_or, length}
+use lib.ListN.{drop, get_or, length}
 use native.Mathlib.Omega.{arith}
 use mir.Syntax.{w64}
-use mir.Val_laws.{to_z-of_z}
+use mir.ValLaws.{to_z-of_z}
 use Rattle.drawing_plots.specs.Heights.{raised, least_of, most_of}
 use Rattle.drawing_plots.proofs.scale.Laws.{least_more, most-more}
 use borrow.Author.Rules.{rules}
 use mathlib.Core.Path.{ap}
-use lib.Int_n.{pos}
+use lib.IntN.{pos}
 use mir.Val.{SFits}
 use lib.Seq.{drop-length}
 

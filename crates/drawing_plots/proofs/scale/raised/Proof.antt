@@ -5,9 +5,9 @@ use Rattle.drawing_plots.proofs.scale.raised.Tie as tie
 use mathlib.Core.Path.{◌∙◌, ap}
 use Prim.Native.Nat.{ℕ, ◌+◌, ◌-◌, min}
 use native.Mathlib.Omega.{arith}
-use lib.Int_n.{nat_abs}
+use lib.IntN.{nat_abs}
 use mir.Syntax.{w64}
-use mir.Val_laws.{to_z-of_z}
+use mir.ValLaws.{to_z-of_z}
 use Rattle.drawing_plots.specs.Heights.{zero_at}
 use Rattle.drawing_plots.proofs.scale.Laws.{raised_below, raised-above}
 

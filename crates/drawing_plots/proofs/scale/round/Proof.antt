@@ -5,7 +5,7 @@ use Rattle.drawing_plots.proofs.scale.round.Tie as tie
 use Rattle.drawing_plots.specs.Lines.{round_steps}
 use Rattle.drawing_plots.proofs.scale.Laws.{step-some, at-within}
 use native.Mathlib.Omega.{arith}
-use lib.List_n.{get_or-eq_default}
+use lib.ListN.{get_or-eq_default}
 use mathlib.Core.Path.{sym}
 
 mul-result : tie.Need-overflow-mul-result

@@ -3,7 +3,7 @@ use Rattle.drawing_plots.proofs.scale.round_step.Statement.{statement}
 use Rattle.drawing_plots.proofs.scale.round_step.Tie as tie
 use mathlib.Core.Path.{◌≡◌, refl}
 use Prim.Native.Nat.{◌-◌, ◌≤◌, ◌<◌}
-use lib.List_n.{drop}
+use lib.ListN.{drop}
 use native.Mathlib.Omega.{arith}
 use Rattle.drawing_plots.specs.Lines.{round_steps, round_step, first_fit, fits}
 use Rattle.drawing_plots.proofs.scale.Laws.{fit-more}

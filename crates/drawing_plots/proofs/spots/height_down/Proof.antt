@@ -5,7 +5,7 @@ use Rattle.drawing_plots.proofs.spots.height_down.Tie as tie
 use mathlib.Core.Path.{◌∙◌, ap}
 use Rattle.drawing_plots.specs.Places.{down_of}
 use Rattle.drawing_plots.specs.Heights.{raised}
-use mir.Val_laws.{to_z-of_z}
+use mir.ValLaws.{to_z-of_z}
 
 raised-requires : tie.Need-raised-requires
 raised-requires c κs = search rules

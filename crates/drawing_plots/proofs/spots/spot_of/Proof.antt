@@ -3,7 +3,7 @@ use borrow.Author.Rules.{rules}
 use Rattle.drawing_plots.proofs.spots.spot_of.Statement.{statement}
 use Rattle.drawing_plots.proofs.spots.spot_of.Tie as tie
 use mathlib.Core.Path.{◌∙◌}
-use mir.Val_laws.{to_z-of_z}
+use mir.ValLaws.{to_z-of_z}
 
 minute-across-requires : tie.Need-minute-across-requires
 minute-across-requires c κs = search rules

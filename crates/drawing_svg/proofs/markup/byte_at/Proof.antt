@@ -3,7 +3,7 @@ use borrow.Author.Rules.{rules}
 use Rattle.drawing_svg.proofs.markup.byte_at.Statement.{statement}
 use Rattle.drawing_svg.proofs.markup.byte_at.Tie as tie
 use mathlib.Core.Path.{sym}
-use lib.List_n.{get_or-eq_default}
+use lib.ListN.{get_or-eq_default}
 
 shared-slice-read-result : tie.Need-shared-slice-read-result
 shared-slice-read-result c = search rules

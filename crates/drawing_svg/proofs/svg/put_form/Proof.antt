@@ -2,7 +2,7 @@
 use mathlib.Core.Path.{◌≡◌}
 use Prim.Native.Nat.{◌-◌, ◌≤◌}
 use borrow.Author.Rules.{rules}
-use lib.List_n.{length}
+use lib.ListN.{length}
 use Rattle.drawing_svg.proofs.svg.put_form.Statement.{statement}
 use Rattle.drawing_svg.proofs.svg.put_form.Tie as tie
 use native.Mathlib.Omega.{arith}

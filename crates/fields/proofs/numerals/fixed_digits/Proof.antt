@@ -4,7 +4,7 @@ use Rattle.fields.proofs.numerals.fixed_digits.Statement.{statement}
 use Rattle.fields.proofs.numerals.fixed_digits.Tie as tie
 use mathlib.Core.Path.{◌∙◌}
 use Prim.Native.Nat.{◌+◌, ◌-◌}
-use lib.List_n.{replicate}
+use lib.ListN.{replicate}
 use Rattle.columns.specs.Columns.{columns}
 use Rattle.fields.specs.Numerals as spec
 use Rattle.fields.specs.inner.Cap.{cap}

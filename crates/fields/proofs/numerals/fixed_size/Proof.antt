@@ -6,10 +6,10 @@ use Rattle.fields.proofs.numerals.fixed_size.Tie as tie
 use mathlib.Core.Path.{refl, sym, ap, ◌∙◌}
 use Prim.Native.Nat.{◌+◌, ◌-◌, ◌≤◌, ◌<◌}
 use borrow.Author.Tests.{lt-ltb, le-ltb, le-leb, lt-leb}
-use Rattle.fields.specs.declared.numerals.Size.The_variants.{Of}
+use Rattle.fields.specs.declared.numerals.Size.TheVariants.{Of}
 use Rattle.fields.proofs.numerals.Digits.{begins-within}
 use Rattle.fields.proofs.numerals.Sizes.{fixed-good, fixed-size}
-use lib.List_n.{length}
+use lib.ListN.{length}
 use Rattle.columns.specs.Bytes.{leading}
 use Rattle.columns.specs.Columns.{columns}
 use Rattle.fields.specs.Numerals.{digit}

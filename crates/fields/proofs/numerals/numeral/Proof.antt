@@ -5,7 +5,7 @@ use Rattle.fields.proofs.numerals.numeral.Statement.{statement}
 use Rattle.fields.proofs.numerals.numeral.Tie as tie
 use mathlib.Core.Path.{◌≡◌, refl, sym, ◌∙◌}
 use Prim.Native.Nat.{min, ◌+◌, ◌*◌, ◌-◌, ◌≤◌}
-use lib.List_n.{get_or}
+use lib.ListN.{get_or}
 use Rattle.columns.specs.Columns.{columns}
 use Rattle.fields.specs.Numerals as spec
 use Rattle.fields.specs.inner.Cap.{cap}

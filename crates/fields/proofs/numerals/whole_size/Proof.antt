@@ -6,7 +6,7 @@ use Rattle.fields.proofs.numerals.whole_size.Tie as tie
 use mathlib.Core.Path.{ap}
 use Prim.Native.Nat.{◌-◌, ◌≤◌, ◌<◌}
 use borrow.Author.Tests.{lt-ltb, le-ltb}
-use Rattle.fields.specs.declared.numerals.Size.The_variants.{Of}
+use Rattle.fields.specs.declared.numerals.Size.TheVariants.{Of}
 use Rattle.fields.proofs.numerals.Sizes.{whole-good, whole-size}
 
 run-end-requires : tie.Need-run-end-requires

@@ -6,7 +6,7 @@ use Rattle.fields.proofs.numerals.zeros.Tie as tie
 use mathlib.Core.Path.{◌≡◌, sym, ◌∙◌}
 use Prim.Native.Nat.{min, ◌+◌, ◌*◌, ◌-◌, ◌≤◌}
 use native.Mathlib.Nat.{sub-zero}
-use lib.List_n.{replicate}
+use lib.ListN.{replicate}
 use Rattle.fields.specs.Numerals as spec
 use Rattle.fields.specs.inner.Cap.{cap}
 use Rattle.fields.proofs.numerals.Digits.{zeros-more, zeros-none, capped-before}

@@ -4,7 +4,7 @@ use Rattle.files.proofs.checksum.crc32.Statement.{statement}
 use Rattle.files.proofs.checksum.crc32.Tie as tie
 use mathlib.Core.Path.{◌≡◌, refl}
 use Prim.Native.Nat.{◌-◌}
-use lib.List_n.{length, drop}
+use lib.ListN.{length, drop}
 use Rattle.files.specs.Crc.{ones, divided, message_bits, crc}
 use Rattle.files.proofs.checksum.Division.{bytes-more, bytes-none}
 

@@ -5,8 +5,8 @@ use native.Mathlib.Omega.{arith}
 use mathlib.Core.Path.{◌≡◌, refl, sym, ap, ◌∙◌}
 use mathlib.Core.List.{List, map}
 use lib.Dec.{lit<}
-use lib.Int_n.{ℤ, pos}
-use lib.List_n.{length, get_or, length-set}
+use lib.IntN.{ℤ, pos}
+use lib.ListN.{length, get_or, length-set}
 use Rattle.angles.proofs.Known.{read}
 use Rattle.month_prepared.specs.inner.View.{constituents_from}
 use Rattle.heights.specs.Height.{height_at}

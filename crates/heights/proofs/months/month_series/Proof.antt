@@ -2,7 +2,7 @@
 use borrow.Author.Rules.{rules}
 use mathlib.Core.Path.{ap, ◌∙◌}
 use mathlib.Core.List.{List}
-use lib.List_n.{length}
+use lib.ListN.{length}
 use Rattle.month_prepared.specs.Prepared.{Constituent}
 use Rattle.heights.specs.Height.{height_at}
 use Rattle.heights.specs.Series.{series_of}

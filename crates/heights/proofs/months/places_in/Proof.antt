@@ -3,10 +3,10 @@ use borrow.Author.Rules.{rules}
 use Prim.Native.Nat.{ℕ, ◌+◌, ◌-◌, ◌*◌, ◌/◌, ◌≤◌, ◌<◌}
 use native.Mathlib.Omega.{arith}
 use native.Mathlib.Nat.{div-mul-le_self, div-le_self, mul-le-mul_right}
-use lib.List_n.{get_or}
+use lib.ListN.{get_or}
 use Rattle.month_prepared.specs.declared.months.Months.{Months}
-use Rattle.month_prepared.specs.declared.months.In_month.{In_month}
-use Rattle.heights.specs.inner.Places.{Is_own, Places_post}
+use Rattle.month_prepared.specs.declared.months.InMonth.{InMonth}
+use Rattle.heights.specs.inner.Places.{IsOwn, PlacesPost}
 use Rattle.heights.proofs.months.places_in.Statement.{statement}
 use Rattle.heights.proofs.months.places_in.Tie as tie
 
@@ -16,8 +16,8 @@ before_last last minute step i h l =
     let most : i ≤ (last - minute - 1) / step = omega arith in
     omega (arith, div-mul-le_self (last - minute - 1) step, mul-le-mul_right {m = i} {n = (last - minute - 1) / step} step most)
 
-places-before : {months : Months} {own : In_month} {step left places : ℕ} → Is_own months own → own.month + 1 < months.many → places ≤ left → (0 < left → 0 < places)
-    → places ≤ (get_or months.lasts own.month 0 - own.minute - 1) / step + 1 → Places_post months own step left places
+places-before : {months : Months} {own : InMonth} {step left places : ℕ} → IsOwn months own → own.month + 1 < months.many → places ≤ left → (0 < left → 0 < places)
+    → places ≤ (get_or months.lasts own.month 0 - own.minute - 1) / step + 1 → PlacesPost months own step left places
 places-before {months} {own} {step} owns there within some few =
     record {
       within = within;

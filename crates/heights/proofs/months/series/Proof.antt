@@ -2,7 +2,7 @@
 use borrow.Author.Rules.{rules}
 use Prim.Native.Nat.{◌-◌}
 use native.Mathlib.Omega.{arith}
-use lib.List_n.{length}
+use lib.ListN.{length}
 use Rattle.month_prepared.specs.inner.Rows.{months_in}
 use Rattle.month_prepared.proofs.Owners.{last-most}
 use Rattle.heights.specs.Height.{height_over}

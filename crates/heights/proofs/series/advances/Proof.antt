@@ -3,7 +3,7 @@ use borrow.Author.Rules.{rules}
 use Prim.Native.Nat.{◌-◌, ◌*◌, ◌%◌, ◌≤◌, ◌<◌}
 use native.Mathlib.Omega.{arith}
 use mathlib.Core.Path.{◌≡◌, refl, ◌∙◌}
-use lib.List_n.{length, get_or, length-set}
+use lib.ListN.{length, get_or, length-set}
 use borrow.Author.Count.{below_none}
 use Rattle.limits.specs.Limits.{most_records}
 use Rattle.angles.specs.Ticks.{turn}

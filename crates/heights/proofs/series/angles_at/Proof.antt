@@ -4,7 +4,7 @@ use native.Mathlib.Omega.{arith}
 use mathlib.Core.Path.{◌≡◌, refl, ◌∙◌}
 use borrow.Author.Rules.{rules}
 use borrow.Author.Count.{below_none}
-use lib.List_n.{length, get_or, length-set}
+use lib.ListN.{length, get_or, length-set}
 use Rattle.limits.specs.Limits.{most_records}
 use Rattle.heights.specs.Angle.{angle}
 use Rattle.heights.specs.inner.Angles.{Angles}

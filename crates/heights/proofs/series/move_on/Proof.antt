@@ -4,11 +4,11 @@ use Prim.Native.Nat.{ℕ, ◌+◌, ◌-◌, ◌%◌, ◌≤◌, ◌<◌}
 use native.Mathlib.Omega.{arith}
 use mathlib.Core.Path.{◌≡◌, refl, ap, ◌∙◌}
 use mathlib.Core.List.{List}
-use lib.List_n.{length, get_or, length-set}
+use lib.ListN.{length, get_or, length-set}
 use borrow.Author.Count.{below_none}
 use Rattle.limits.specs.Limits.{most_records}
 use Rattle.angles.specs.Ticks.{turn}
-use Rattle.heights.specs.inner.Angles.{Moved_on}
+use Rattle.heights.specs.inner.Angles.{MovedOn}
 use Rattle.heights.proofs.series.Filling.{filled_more, unreached}
 use Rattle.heights.proofs.series.move_on.Statement.{statement}
 use Rattle.heights.proofs.series.move_on.Tie as tie
@@ -17,7 +17,7 @@ use Rattle.heights.proofs.series.move_on.Tie as tie
 pub record Moving (angles₀ ticks : List ℕ) (count : ℕ) (angles : List ℕ) (k : ℕ) : Type 0 where
   pub within : k ≤ count
   pub room : length angles ≡ most_records
-  pub moved : Moved_on k ticks angles₀ angles
+  pub moved : MovedOn k ticks angles₀ angles
   pub others : (j : ℕ) → k ≤ j → get_or angles j 0 ≡ get_or angles₀ j 0
 
 abbrev invariant-loop : tie.invariant-loop

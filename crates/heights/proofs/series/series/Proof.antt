@@ -7,8 +7,8 @@ use native.Mathlib.Nat.{sub-zero}
 use mathlib.Core.Path.{◌≡◌, refl, sym, subst, ap, ap₂, ◌∙◌}
 use mathlib.Core.List.{List}
 use lib.Dec.{lit<}
-use lib.Int_n.{ℤ}
-use lib.List_n.{length, length-set}
+use lib.IntN.{ℤ}
+use lib.ListN.{length, length-set}
 use lib.Seq.{sets}
 use mir.Syntax.{w64}
 use mir.Val.{to_z, of_z}

@@ -3,13 +3,13 @@ use borrow.Author.Rules.{rules}
 use Prim.Native.Nat.{ℕ, ◌-◌, ◌≤◌, ◌<◌}
 use native.Mathlib.Omega.{arith}
 use mathlib.Core.Path.{◌≡◌, refl, sym, ◌∙◌}
-use lib.Int_n.{pos}
-use lib.List_n.{length, get_or, length-set}
+use lib.IntN.{pos}
+use lib.ListN.{length, get_or, length-set}
 use lib.Seq.{ext_get_or}
 use borrow.Author.Count.{below_none}
 use mir.Syntax.{w32}
 use mir.Val.{SFits, to_z, of_z}
-use mir.Val_laws.{to_z-of_z}
+use mir.ValLaws.{to_z-of_z}
 use Rattle.limits.specs.Limits.{most_records}
 use Rattle.heights.proofs.series.Filling.{filled_more}
 use Rattle.heights.proofs.series.weights_of.Statement.{statement}

@@ -3,7 +3,7 @@ use Prim.Native.Nat.{◌^◌}
 use mathlib.Core.Path.{ap, ◌∙◌}
 use borrow.Author.Rules.{rules}
 use lib.Dec.{lit<, lit≤}
-use lib.Int_n.{ℤ, ◌*ℤ◌}
+use lib.IntN.{ℤ, ◌*ℤ◌}
 use mir.Syntax.{w32}
 use Rattle.angles.proofs.Known.{known, read, read-narrow, times, minus, shifted, kept, fits, says}
 use Rattle.heights.specs.Share.{share}

@@ -5,8 +5,8 @@ use Prim.Native.Nat.{ℕ, ◌-◌, ◌≤◌, ◌<◌}
 use native.Mathlib.Omega.{arith}
 use borrow.Author.Rules.{rules}
 use borrow.Author.Count.{below_none, below_more}
-use lib.Int_n.{ℤ, pos}
-use lib.List_n.{length, get_or}
+use lib.IntN.{ℤ, pos}
+use lib.ListN.{length, get_or}
 use Rattle.refusals.proofs.Laws.{not-both}
 use Rattle.hourly.specs.Card.{value}
 use Rattle.hourly.specs.Month.{centimetres, outside}

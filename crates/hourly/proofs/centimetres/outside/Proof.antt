@@ -2,10 +2,10 @@
 use mathlib.Core.Path.{◌≡◌}
 use mathlib.Core.Bool.{true, false}
 use mathlib.Core.Logic.{⊎_elim}
-use lib.Int_n.{pos, neg_ℤ}
+use lib.IntN.{pos, neg_ℤ}
 use lib.Signed.{le_z}
 use mir.Syntax.{w64}
-use mir.Val_laws.{to_z-of_z}
+use mir.ValLaws.{to_z-of_z}
 use Rattle.hourly.proofs.centimetres.outside.Statement.{statement}
 use Rattle.hourly.proofs.centimetres.outside.Tie as tie
 

@@ -4,8 +4,8 @@ use mathlib.Core.Path.{◌≡◌, refl, sym, ap, ◌∙◌}
 use Prim.Native.Nat.{ℕ, zero, suc, ◌+◌, ◌-◌, ◌/◌, ◌≤◌, ◌<◌}
 use native.Mathlib.Omega.{arith}
 use borrow.Fn.Kinds.{In}
-use borrow.Fn.Plain_cycle.{Measures, is, falls, and}
-use lib.List_n.{length}
+use borrow.Fn.PlainCycle.{Measures, is, falls, and}
+use lib.ListN.{length}
 use Rattle.hourly.specs.Writing.{decimal}
 use Rattle.hourly.proofs.Lengths.{length-digit, length_more, decimal-most}
 use Rattle.hourly.proofs.writing.digit_count.Reads as digit-count

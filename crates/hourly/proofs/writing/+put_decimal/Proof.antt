@@ -7,8 +7,8 @@ use native.Mathlib.Nat.{add-zero}
 use native.Mathlib.Omega.{arith}
 use borrow.Author.Rules.{rules}
 use borrow.Fn.Kinds.{In}
-use borrow.Fn.Plain_cycle.{Measures, is, falls, and}
-use lib.List_n.{length, set, length-set}
+use borrow.Fn.PlainCycle.{Measures, is, falls, and}
+use lib.ListN.{length, set, length-set}
 use lib.Seq.{sets}
 use Rattle.hourly.specs.Writing.{decimal}
 use Rattle.hourly.proofs.Lengths.{decimal_digit, decimal-more, length-digit, length_more}

@@ -5,7 +5,7 @@ use Prim.Native.Nat.{ℕ, suc, ◌+◌, ◌-◌, ◌≤◌, ◌<◌}
 use native.Mathlib.Nat.{add-zero}
 use native.Mathlib.Omega.{arith}
 use borrow.Author.Rules.{rules}
-use lib.List_n.{set, replicate}
+use lib.ListN.{set, replicate}
 use lib.Seq.{sets}
 use Rattle.hourly.proofs.writing.Stores.{Left, left-all, left-next, left-none}
 use Rattle.hourly.proofs.writing.put_blanks.Statement.{statement}

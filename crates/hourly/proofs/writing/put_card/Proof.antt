@@ -1,7 +1,7 @@
 -- `hourly::writing::put_card` meets its contract: heading, heights, LF (`card-stored`). Assumes nothing.
 use mathlib.Core.Path.{◌∙◌}
 use native.Mathlib.Omega.{arith}
-use lib.List_n.{length-set}
+use lib.ListN.{length-set}
 use Rattle.hourly.proofs.writing.Cards.{card-stored}
 use borrow.Author.Rules.{rules}
 use Rattle.hourly.proofs.writing.put_card.Statement.{statement}

@@ -5,7 +5,7 @@ use Prim.Native.Nat.{ℕ, ◌-◌, ◌*◌, ◌≤◌}
 use native.Mathlib.Nat.{zero-mul}
 use native.Mathlib.Omega.{arith}
 use borrow.Author.Rules.{rules}
-use lib.Int_n.{ℤ}
+use lib.IntN.{ℤ}
 use Rattle.hourly.specs.Writing.{cards_written}
 use Rattle.hourly.specs.inner.Hours.{cards_after}
 use Rattle.hourly.specs.inner.Fields.{card_length}

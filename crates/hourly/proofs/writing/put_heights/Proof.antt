@@ -5,8 +5,8 @@ use Prim.Native.Nat.{ℕ, ◌+◌, ◌-◌, ◌*◌, ◌≤◌}
 use native.Mathlib.Nat.{add-zero, zero-mul}
 use native.Mathlib.Omega.{arith}
 use borrow.Author.Rules.{rules}
-use lib.Int_n.{ℤ, pos}
-use lib.List_n.{length, get_or}
+use lib.IntN.{ℤ, pos}
+use lib.ListN.{length, get_or}
 use lib.Seq.{sets}
 use Rattle.angles.proofs.Machine.{held}
 use Rattle.hourly.specs.Card.{value}

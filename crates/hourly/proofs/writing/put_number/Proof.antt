@@ -4,12 +4,12 @@ use mathlib.Core.Path.{◌≡◌, ap, ◌∙◌}
 use mathlib.Core.Bool.{true}
 use Prim.Native.Nat.{ℕ, ◌+◌, ◌≤◌}
 use native.Mathlib.Omega.{arith}
-use lib.Int_n.{ℤ, pos, nat_abs}
-use lib.List_n.{length, length-set}
+use lib.IntN.{ℤ, pos, nat_abs}
+use lib.ListN.{length, length-set}
 use lib.Seq.{sets}
 use lib.Signed.{lt_z}
 use mir.Syntax.{w64}
-use mir.Val_laws.{to_z-of_z}
+use mir.ValLaws.{to_z-of_z}
 use Rattle.hourly.specs.Card.{value}
 use Rattle.hourly.specs.Writing.{decimal, entry_written}
 use Rattle.hourly.proofs.writing.Fields.{negative-stored, negative-room, not_negative}

@@ -2,7 +2,7 @@
 use borrow.Author.Rules.{rules}
 use mathlib.Core.Path.{◌≡◌, sym, ◌∙◌}
 use native.Mathlib.Nat.{sub-zero, zero-add}
-use lib.List_n.{length}
+use lib.ListN.{length}
 use Rattle.columns.specs.Bytes.{among, leading}
 use Rattle.columns.proofs.Bytes.{leading-is}
 use Rattle.columns.proofs.Columns.{padded-all}

@@ -4,7 +4,7 @@ use Rattle.messages.proofs.textlines.line_of.Statement.{statement}
 use mathlib.Core.Path.{◌≡◌, sym, ◌∙◌}
 use Prim.Native.Nat.{◌≤◌, ◌<◌, ◌-◌}
 use native.Mathlib.Omega.{arith}
-use lib.List_n.{length, drop, length-drop}
+use lib.ListN.{length, drop, length-drop}
 use Rattle.columns.specs.Lines.{lines_of}
 use Rattle.messages.specs.Lines.{line_at}
 use Rattle.messages.proofs.textlines.Lines.{line-next, line_first, line-none}

@@ -2,9 +2,9 @@
 use mathlib.Core.Path.{ap, ap₂, ◌∙◌}
 use Prim.Native.Nat.{◌%◌}
 use lib.Dec.{lit<}
-use lib.Int_n.{ℤ, pos, ◌+ℤ◌, ◌*ℤ◌}
+use lib.IntN.{ℤ, pos, ◌+ℤ◌, ◌*ℤ◌}
 use mir.Syntax.{w8}
-use mir.Val_laws.{to_z-of_z}
+use mir.ValLaws.{to_z-of_z}
 use Rattle.angles.specs.Ticks.{turn}
 use Rattle.angles.specs.Floor.{mod_turn}
 use Rattle.angles.proofs.Known.{read, fits, kept, plus}

@@ -1,11 +1,11 @@
 -- `month_arguments::arguments::argument_at` meets its contract: an entry of the list of V, or the default past its end.
 use mathlib.Core.Path.{◌∙◌}
-use lib.Int_n.{pos, nat_abs}
+use lib.IntN.{pos, nat_abs}
 use Prim.Native.Nat.{◌*◌}
-use lib.List_n.{get_or}
+use lib.ListN.{get_or}
 use mir.Syntax.{w64}
 use mir.Val.{SFits}
-use mir.Val_laws.{to_z-of_z}
+use mir.ValLaws.{to_z-of_z}
 use Rattle.table.proofs.entries.Beyond.{past-entries, entry_at}
 use borrow.Author.Rules.{rules}
 use Rattle.month_arguments.proofs.arguments.argument_at.Statement.{statement}

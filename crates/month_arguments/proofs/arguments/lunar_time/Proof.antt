@@ -1,7 +1,7 @@
 -- `month_arguments::arguments::lunar_time` meets its contract: h once, and s minus once.
 use mathlib.Core.Path.{ap, ap₂, ◌∙◌}
 use lib.Dec.{lit<}
-use lib.Int_n.{pos, negsuc, ◌+ℤ◌}
+use lib.IntN.{pos, negsuc, ◌+ℤ◌}
 use Rattle.angles.specs.Floor.{mod_turn}
 use Rattle.angles.proofs.Known.{read, fits, kept, plus}
 use Rattle.month_arguments.proofs.arguments.Reduced.{joined, minus-once}

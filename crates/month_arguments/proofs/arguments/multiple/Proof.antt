@@ -4,7 +4,7 @@ use Prim.Native.Nat.{ℕ, ◌*◌, ◌^◌, ◌%◌, ◌≤◌}
 use native.Mathlib.Omega.{arith}
 use native.Mathlib.Nat.{le_trans}
 use lib.Dec.{lit<, lit≤}
-use lib.Int_n.{ℤ, pos, ◌*ℤ◌}
+use lib.IntN.{ℤ, pos, ◌*ℤ◌}
 use mir.Syntax.{w8, w64}
 use mir.Val.{SFits, to_z, of_z}
 use Rattle.angles.specs.Ticks.{turn}

@@ -1,11 +1,11 @@
 -- `month_arguments::arguments::shallow_argument` meets its contract. The invariant: what is added up and the parts that are left give the whole, modulo T.
 use mathlib.Core.Path.{◌≡◌, sym, ap, subst, ◌∙◌}
 use Prim.Native.Nat.{ℕ, ◌+◌, ◌-◌, ◌<◌}
-use lib.Int_n.{pos, ◌+ℤ◌, ◌*ℤ◌}
-use lib.List_n.{get_or}
+use lib.IntN.{pos, ◌+ℤ◌, ◌*ℤ◌}
+use lib.ListN.{get_or}
 use mir.Syntax.{w8}
 use mir.Val.{SFits}
-use mir.Val_laws.{to_z-of_z}
+use mir.ValLaws.{to_z-of_z}
 use Rattle.angles.specs.Ticks.{turn}
 use Rattle.angles.specs.Floor.{mod_turn}
 use Rattle.angles.proofs.Angles.{below-turn}

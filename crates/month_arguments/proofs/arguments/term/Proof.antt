@@ -2,10 +2,10 @@
 use mathlib.Core.Path.{sym, ap, subst, ◌∙◌}
 use Prim.Native.Nat.{◌%◌, ◌^◌, ◌≤◌}
 use lib.Dec.{lit<}
-use lib.Int_n.{ℤ, pos, nat_abs, ◌*ℤ◌}
+use lib.IntN.{ℤ, pos, nat_abs, ◌*ℤ◌}
 use mir.Syntax.{w8}
 use mir.Val.{SFits}
-use mir.Val_laws.{to_z-of_z}
+use mir.ValLaws.{to_z-of_z}
 use Rattle.angles.specs.Ticks.{turn}
 use Rattle.angles.proofs.Known.{read}
 use borrow.Author.Rules.{rules}

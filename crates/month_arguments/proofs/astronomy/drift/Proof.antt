@@ -7,7 +7,7 @@ use Prim.Native.Nat.{ℕ, ◌*◌, ◌%◌, ◌^◌, ◌≤◌, ◌<◌}
 use native.Mathlib.Nat.{le_trans}
 use native.Mathlib.Omega.{arith}
 use lib.Dec.{lit<}
-use lib.Int_n.{ℤ, nat_abs, pos, ◌*ℤ◌}
+use lib.IntN.{ℤ, nat_abs, pos, ◌*ℤ◌}
 use lib.Signed.{quot_z, rem_z}
 use mir.Syntax.{w64}
 use mir.Val.{to_z, of_z}

@@ -7,15 +7,15 @@ use Prim.Native.Nat.{ℕ, ◌+◌, ◌*◌, ◌%◌, ◌<◌}
 use native.Mathlib.Nat.{le_refl}
 use native.Mathlib.Omega.{arith}
 use lib.Dec.{lit<}
-use lib.Int_n.{ℤ, nat_abs, pos, ◌+ℤ◌, ◌*ℤ◌}
-use lib.List_n.{get_or}
+use lib.IntN.{ℤ, nat_abs, pos, ◌+ℤ◌, ◌*ℤ◌}
+use lib.ListN.{get_or}
 use mir.Syntax.{w64}
 use mir.Val.{to_z, of_z}
 use Rattle.angles.specs.Ticks.{turn, ten_billionth}
 use Rattle.angles.specs.Floor.{mod_turn}
 use Rattle.angles.proofs.Known.{Known, plainly, read, cast, fits, kept, plus, times}
 use Rattle.month_arguments.proofs.astronomy.Reduced.{cycle, span, longitude-reduced}
-use mir.Val_laws.{to_z-of_z}
+use mir.ValLaws.{to_z-of_z}
 use lib.Signed.{rem_z}
 
 -- 216 times the drift, and the sum with the start

@@ -4,7 +4,7 @@ use Rattle.month_arguments.proofs.astronomy.longitudes_on.Statement.{statement}
 use Rattle.month_arguments.proofs.astronomy.longitudes_on.Tie as tie
 use Rattle.month_arguments.specs.Longitudes.{longitudes_on}
 use mir.Syntax.{w64}
-use mir.Val_laws.{to_z-of_z}
+use mir.ValLaws.{to_z-of_z}
 
 longitude-on-requires : tie.Need-longitude-on-requires
 longitude-on-requires c κs = search rules

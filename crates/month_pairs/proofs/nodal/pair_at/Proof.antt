@@ -2,11 +2,11 @@
 use mathlib.Core.Path.{◌∙◌}
 use Prim.Native.Nat.{◌+◌, ◌*◌}
 use lib.Dec.{lit≤}
-use lib.Int_n.{pos}
-use lib.List_n.{get_or}
+use lib.IntN.{pos}
+use lib.ListN.{get_or}
 use mir.Syntax.{w64}
 use mir.Val.{SFits}
-use mir.Val_laws.{to_z-of_z}
+use mir.ValLaws.{to_z-of_z}
 use Rattle.table.proofs.entries.Beyond.{past-entries, entry_at}
 use Rattle.refusals.specs.Checked.{good}
 use Rattle.month_pairs.specs.Pairs.{checked, start_pair}

@@ -2,11 +2,11 @@
 use mathlib.Core.Path.{◌≡◌, ◌∙◌}
 use mathlib.Core.List.{List}
 use Prim.Native.Nat.{ℕ, ◌+◌}
-use lib.Int_n.{ℤ, pos}
-use lib.List_n.{get_or}
+use lib.IntN.{ℤ, pos}
+use lib.ListN.{get_or}
 use mir.Syntax.{w8}
 use mir.Val.{SFits}
-use mir.Val_laws.{to_z-of_z}
+use mir.ValLaws.{to_z-of_z}
 use Rattle.table.specs.inner.View.{naturals, integers, part_of}
 use Rattle.month_satellites.specs.Satellites.{Pair}
 use Rattle.month_satellites.specs.inner.View.{pair_of}

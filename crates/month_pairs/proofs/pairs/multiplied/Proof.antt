@@ -2,7 +2,7 @@
 use mathlib.Core.Path.{◌≡◌, ◌∙◌, ap₂}
 use Prim.Native.Nat.{◌^◌, ◌≤◌}
 use borrow.Author.Rules.{rules}
-use lib.Int_n.{ℤ, nat_abs, ◌+ℤ◌, ◌-ℤ◌, ◌*ℤ◌}
+use lib.IntN.{ℤ, nat_abs, ◌+ℤ◌, ◌-ℤ◌, ◌*ℤ◌}
 use lib.Dec.{lit<}
 use Rattle.angles.specs.Floor.{floor_div}
 use Rattle.angles.proofs.Machine.{held}

@@ -2,7 +2,7 @@
 use Prim.Native.Nat.{◌^◌, ◌≤◌}
 use borrow.Author.Rules.{rules}
 use lib.Dec.{lit≤, lit<}
-use lib.Int_n.{◌*ℤ◌, ℤ, nat_abs, ◌+ℤ◌}
+use lib.IntN.{◌*ℤ◌, ℤ, nat_abs, ◌+ℤ◌}
 use Rattle.angles.proofs.Machine.{held}
 use Rattle.angles.proofs.Known.{Known, fits, kept, says, plus}
 use Rattle.month_satellites.proofs.latitude.Sizes.{pair-product, floored}

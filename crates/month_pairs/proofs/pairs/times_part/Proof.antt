@@ -3,9 +3,9 @@ use mathlib.Core.Path.{sym, ◌∙◌, ap, ap₂, subst}
 use Prim.Native.Nat.{ℕ}
 use borrow.Author.Rules.{rules}
 use lib.Dec.{lit<}
-use lib.Int_n.{ℤ}
+use lib.IntN.{ℤ}
 use mir.Syntax.{w8}
-use mir.Val_laws.{to_z-of_z}
+use mir.ValLaws.{to_z-of_z}
 use Rattle.angles.proofs.Known.{fits}
 use Rattle.month_satellites.specs.Satellites.{Pair}
 use Rattle.month_pairs.specs.Pairs.{times_often, turned, times_main}

@@ -1,11 +1,11 @@
 -- `month_pairs::pairs::turn` meets its contract: by the coefficient's sign.
 use mathlib.Core.Path.{◌≡◌, refl, ◌∙◌, ap₂}
 use mathlib.Core.Bool.{true, false}
-use lib.Int_n.{ℤ, pos, neg_ℤ}
+use lib.IntN.{ℤ, pos, neg_ℤ}
 use lib.Signed.{lt_z}
 use lib.Dec.{lit<}
 use mir.Syntax.{w8}
-use mir.Val_laws.{to_z-of_z}
+use mir.ValLaws.{to_z-of_z}
 use Rattle.angles.proofs.Machine.{if-negative, if-not-negative}
 use Rattle.angles.proofs.Known.{read, fits, kept, says, negated}
 use Rattle.month_satellites.specs.Satellites.{Pair}

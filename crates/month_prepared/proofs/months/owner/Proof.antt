@@ -6,10 +6,10 @@ use native.Mathlib.Omega.{arith}
 use native.Mathlib.Nat.{zero-add}
 use mathlib.Core.Path.{◌≡◌}
 use mathlib.Core.List.{List}
-use lib.Int_n.{ℤ}
-use lib.List_n.{get_or}
+use lib.IntN.{ℤ}
+use lib.ListN.{get_or}
 use Rattle.month_prepared.specs.declared.months.Months.{Months}
-use Rattle.month_prepared.specs.inner.Rows.{Following, Owner_post, last_of, minutes_after}
+use Rattle.month_prepared.specs.inner.Rows.{Following, OwnerPost, last_of, minutes_after}
 use Rattle.month_prepared.proofs.Owners.{minutes-next, owner_at}
 use Rattle.month_prepared.proofs.months.owner.Statement.{statement}
 use Rattle.month_prepared.proofs.months.owner.Tie as tie
@@ -30,7 +30,7 @@ module _ {months : Months} {minute month left : ℕ} (passing : Passing months m
 
   -- the month where the passing ends owns the minute
   owns : Following months → left ≤ get_or months.lasts month 0 → (month + 1 < months.many → left < get_or months.lasts month 0)
-      → Owner_post months minute (record { month = month; minute = left })
+      → OwnerPost months minute (record { month = month; minute = left })
   owns follow within before =
       record {
         there = passing.there;

@@ -4,18 +4,18 @@ use native.Mathlib.Nat.{le_refl, le_trans, mul-le-mul, mul-le-mul_right}
 use native.Mathlib.Omega.{arith}
 use borrow.Author.Rules.{rules}
 use lib.Dec.{lit≤, lit<}
-use lib.Int_n.{ℤ, pos, ◌-ℤ◌, ◌*ℤ◌}
+use lib.IntN.{ℤ, pos, ◌-ℤ◌, ◌*ℤ◌}
 use mir.Syntax.{w64}
 use mir.Val.{to_z}
 use Rattle.angles.proofs.Machine.{held}
 use Rattle.angles.proofs.Known.{Known, plainly, cast, bounded, fits, kept, says, minus, times}
 use Rattle.month_satellites.specs.Latitude.{diurnal_north}
-use Rattle.month_satellites.specs.inner.Factors.{Is_s20}
+use Rattle.month_satellites.specs.inner.Factors.{IsS20}
 use Rattle.month_satellites.proofs.latitude.Sizes.{floored, apart-size}
 use Rattle.month_satellites.proofs.latitude.diurnal_north.Statement.{statement}
 use Rattle.month_satellites.proofs.latitude.diurnal_north.Tie as tie
 
-module _ (s : ℕ) (h : Is_s20 s) where
+module _ (s : ℕ) (h : IsS20 s) where
   square-small : s * s ≤ 2 ^ 40
   square-small = le_trans (mul-le-mul {n₂ = 2 ^ 20} {m₂ = 2 ^ 20} h.high h.high) (lit≤ tt)
 

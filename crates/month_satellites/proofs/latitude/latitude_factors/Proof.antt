@@ -2,11 +2,11 @@
 use mathlib.Core.Path.{◌≡◌, ◌∙◌, ap, ap₂}
 use Prim.Native.Nat.{ℕ, ◌^◌, ◌≤◌}
 use borrow.Author.Rules.{rules}
-use lib.Int_n.{ℤ, pos, nat_abs}
+use lib.IntN.{ℤ, pos, nat_abs}
 use lib.Dec.{lit<}
 use mir.Syntax.{w32}
 use mir.Val.{SFits, to_z, of_z}
-use mir.Val_laws.{to_z-of_z}
+use mir.ValLaws.{to_z-of_z}
 use Rattle.angles.proofs.Machine.{held}
 use Rattle.angles.proofs.Known.{read, fits, says}
 use Rattle.month_satellites.specs.Latitude.{by_side, s20, diurnal_north, semidiurnal_north, diurnal_factor, semidiurnal_factor}

@@ -4,11 +4,11 @@ use Prim.Native.Nat.{ℕ, ◌-◌, ◌*◌, ◌/◌, ◌^◌, ◌≤◌}
 use native.Mathlib.Omega.{arith}
 use native.Mathlib.Nat.{le_refl}
 use borrow.Author.Rules.{rules}
-use lib.Int_n.{ℤ, pos, nat_abs}
+use lib.IntN.{ℤ, pos, nat_abs}
 use lib.Dec.{lit<}
 use mir.Syntax.{w32}
 use mir.Val.{to_z, of_z}
-use mir.Val_laws.{to_z-of_z}
+use mir.ValLaws.{to_z-of_z}
 use Rattle.angles.specs.Ticks.{arc_minute}
 use Rattle.angles.specs.Floor.{floor_div}
 use Rattle.angles.proofs.Machine.{held}
@@ -17,7 +17,7 @@ use Rattle.cosine.specs.Fraction.{quarter}
 use Rattle.cosine.specs.Fixed.{step, fixed_sine}
 use Rattle.cosine.proofs.Natural.{fixed_base_ℕ}
 use Rattle.month_satellites.specs.Latitude.{latitude_size, s20}
-use Rattle.month_satellites.specs.inner.Factors.{Is_s20}
+use Rattle.month_satellites.specs.inner.Factors.{IsS20}
 use Rattle.month_satellites.proofs.latitude.Sine.{sine-first, sine-above}
 use Rattle.month_satellites.proofs.latitude.Sizes.{floored}
 use Rattle.month_satellites.proofs.latitude.s20_of.Statement.{statement}
@@ -46,7 +46,7 @@ module _ (l : ℤ) (sine q : ℤ) (m r : ℕ) (em : m ≡ latitude_size l) (es :
   unfolding s20
   result-is = ap pos in_table ∙ ap (λ (z : ℤ). floor_div z 1024) (sym sine-is ∙ ap (λ (k : ℕ). fixed_sine (k * arc_minute)) em)
 
-  in-range : Is_s20 r
+  in-range : IsS20 r
   in-range =
       record {
         low = omega (arith, in_table, sine-above (m * arc_minute) (omega (arith, m-range)) (omega (arith, m-range)));

@@ -2,11 +2,11 @@
 use mathlib.Core.Path.{◌≡◌, sym, ◌∙◌, ap, ap₂}
 use Prim.Native.Nat.{ℕ, ◌^◌, ◌≤◌, ◌+◌}
 use borrow.Author.Rules.{rules}
-use lib.Int_n.{ℤ, pos, nat_abs, ◌+ℤ◌, ◌*ℤ◌, +ℤ_idr}
+use lib.IntN.{ℤ, pos, nat_abs, ◌+ℤ◌, ◌*ℤ◌, +ℤ_idr}
 use lib.Dec.{lit<}
 use mir.Syntax.{w8}
 use mir.Val.{SFits, to_z, of_z}
-use mir.Val_laws.{to_z-of_z}
+use mir.ValLaws.{to_z-of_z}
 use Rattle.angles.specs.Ticks.{centicycle}
 use Rattle.angles.specs.Floor.{mod_turn}
 use Rattle.angles.proofs.Machine.{held}

@@ -6,7 +6,7 @@ use native.Mathlib.Omega.{arith}
 use native.Mathlib.Nat.{le_trans, add-sub_cancel_left}
 use borrow.Author.Rules.{rules}
 use lib.Dec.{lit≤}
-use lib.Int_n.{ℤ, pos, ◌+ℤ◌, +ℤ_idl}
+use lib.IntN.{ℤ, pos, ◌+ℤ◌, +ℤ_idl}
 use mir.Syntax.{w64}
 use mir.Val.{to_z}
 use Rattle.cosine.specs.Fixed.{fixed_cosine, fixed_sine}

@@ -5,7 +5,7 @@ use native.Mathlib.Nat.{le_trans}
 use borrow.Author.Rules.{rules}
 use borrow.Author.Tests.{ne_eqb}
 use lib.Dec.{lit≤, lit<}
-use lib.Int_n.{ℤ, nat_abs}
+use lib.IntN.{ℤ, nat_abs}
 use Rattle.angles.proofs.Machine.{held}
 use Rattle.angles.proofs.Known.{read, bounded, says}
 use Rattle.table.specs.Table.{mark_of}

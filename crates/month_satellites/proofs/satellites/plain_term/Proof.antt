@@ -4,7 +4,7 @@ use native.Mathlib.Omega.{arith}
 use native.Mathlib.Nat.{le_of_lt}
 use borrow.Author.Rules.{rules}
 use lib.Dec.{lit≤, lit<}
-use lib.Int_n.{pos, ℤ, nat_abs, ◌*ℤ◌}
+use lib.IntN.{pos, ℤ, nat_abs, ◌*ℤ◌}
 use mir.Syntax.{w64}
 use mir.Val.{to_z}
 use Rattle.angles.proofs.Machine.{held}

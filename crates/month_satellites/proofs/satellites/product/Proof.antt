@@ -2,7 +2,7 @@
 use Prim.Native.Nat.{◌^◌, ℕ, ◌<◌}
 use native.Mathlib.Nat.{le_of_lt}
 use borrow.Author.Rules.{rules}
-use lib.Int_n.{pos, ℤ, ◌*ℤ◌}
+use lib.IntN.{pos, ℤ, ◌*ℤ◌}
 use lib.Dec.{lit<}
 use mir.Syntax.{w8, w64}
 use mir.Val.{SFits, to_z, of_z}

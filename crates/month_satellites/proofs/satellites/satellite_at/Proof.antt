@@ -4,11 +4,11 @@ use mathlib.Core.List.{List, [], ◌∷◌}
 use Prim.Native.Nat.{ℕ, ◌+◌, ◌*◌}
 use native.Mathlib.Nat.{add-zero}
 use borrow.Author.Rules.{rules}
-use lib.Int_n.{ℤ, pos}
-use lib.List_n.{get_or}
+use lib.IntN.{ℤ, pos}
+use lib.ListN.{get_or}
 use mir.Syntax.{w8}
 use mir.Val.{SFits}
-use mir.Val_laws.{to_z-of_z}
+use mir.ValLaws.{to_z-of_z}
 use Rattle.table.specs.inner.View.{listed, row_of, satellite_of}
 use Rattle.table.specs.Table.{mark_of, Satellite}
 use Rattle.month_satellites.proofs.satellites.satellite_at.Statement.{statement}

@@ -3,7 +3,7 @@ use mathlib.Core.Path.{◌≡◌, ◌∙◌, ap}
 use mathlib.Core.List.{List}
 use Prim.Native.Nat.{ℕ, ◌≤◌, ◌^◌}
 use borrow.Author.Rules.{rules}
-use lib.Int_n.{ℤ, nat_abs}
+use lib.IntN.{ℤ, nat_abs}
 use lib.Dec.{lit<}
 use Rattle.angles.proofs.Machine.{held}
 use Rattle.angles.proofs.Known.{read, says}

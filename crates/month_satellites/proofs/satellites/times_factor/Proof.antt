@@ -2,7 +2,7 @@
 use Prim.Native.Nat.{◌^◌, ◌≤◌}
 use borrow.Author.Rules.{rules}
 use lib.Dec.{lit≤, lit<}
-use lib.Int_n.{ℤ, nat_abs, ◌*ℤ◌}
+use lib.IntN.{ℤ, nat_abs, ◌*ℤ◌}
 use Rattle.angles.proofs.Machine.{held}
 use Rattle.angles.proofs.Known.{Known, read, fits, kept, says, times}
 use Rattle.month_satellites.specs.Satellites.{times_factor}

@@ -1,5 +1,5 @@
 -- `month_workings::worked::work_mains` meets its contract: a case for each that can be found.
-use Rattle.month_workings.proofs.worked.Of_rows.{ready-main, ready-shallow, ready-nothing}
+use Rattle.month_workings.proofs.worked.OfRows.{ready-main, ready-shallow, ready-nothing}
 use borrow.Author.Rules.{rules}
 use Rattle.month_workings.proofs.worked.work_mains.Statement.{statement}
 use Rattle.month_workings.proofs.worked.work_mains.Tie as tie

@@ -3,8 +3,8 @@ use mathlib.Core.Path.{sym, subst, ◌∙◌}
 use mathlib.Core.List.{List}
 use Prim.Native.Nat.{ℕ, ◌<◌}
 use lib.Dec.{lit<}
-use lib.Int_n.{ℤ, pos, ◌+ℤ◌, ◌*ℤ◌}
-use lib.List_n.{get_or, take}
+use lib.IntN.{ℤ, pos, ◌+ℤ◌, ◌*ℤ◌}
+use lib.ListN.{get_or, take}
 use Rattle.angles.specs.Ticks.{turn, centicycle}
 use Rattle.angles.proofs.Angles.{below-turn}
 use Rattle.table.proofs.entries.Beyond.{past-entries, entry_at}

@@ -3,7 +3,7 @@ use lib.Dec.{lit<}
 use native.Mathlib.Omega.{arith}
 use mir.Syntax.{w64}
 use mir.Val.{SFits}
-use mir.Val_laws.{to_z-of_z}
+use mir.ValLaws.{to_z-of_z}
 use Rattle.angles.specs.Ticks.{turn}
 use Rattle.angles.proofs.Known.{cast}
 use Rattle.month_workings.proofs.workings.Storing.{past_all, stored}

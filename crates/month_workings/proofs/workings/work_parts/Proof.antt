@@ -3,17 +3,17 @@ use mathlib.Core.Path.{◌∙◌}
 use Prim.Native.Nat.{ℕ, ◌+◌, ◌-◌, ◌<◌, ◌^◌}
 use native.Mathlib.Nat.{not-suc-le-zero}
 use native.Mathlib.Omega.{arith}
-use lib.List_n.{get_or}
+use lib.ListN.{get_or}
 use Rattle.table.specs.inner.View.{naturals}
 use Rattle.month_workings.specs.inner.Kept.{Has}
-use Rattle.month_workings.specs.inner.Given.{Kept_by}
+use Rattle.month_workings.specs.inner.Given.{KeptBy}
 use Rattle.month_workings.proofs.workings.Storing.{one-part-more}
 use borrow.Author.Rules.{rules}
 use Rattle.month_workings.proofs.workings.work_parts.Statement.{statement}
 use Rattle.month_workings.proofs.workings.work_parts.Tie as tie
 
 abbrev invariant-loop : tie.invariant-loop
-invariant-loop cosines cards angles satelliteangles ratios shallowcards row given kept₀ count j₀ kept j = Kept_by given cards angles satelliteangles ratios kept × ((i : ℕ) → i < j → Has kept (get_or (naturals 6 shallowcards row) (2 + i) 0)) × (count < 2 ^ 16)
+invariant-loop cosines cards angles satelliteangles ratios shallowcards row given kept₀ count j₀ kept j = KeptBy given cards angles satelliteangles ratios kept × ((i : ℕ) → i < j → Has kept (get_or (naturals 6 shallowcards row) (2 + i) 0)) × (count < 2 ^ 16)
 
 abbrev decreases-loop : tie.decreases-loop
 decreases-loop cosines cards angles satelliteangles ratios shallowcards row given kept₀ count j₀ kept j = count - j

@@ -1,7 +1,7 @@
 -- `page::face::fill` is safe and ends: the row keeps its length, and its columns left fall at each turn. Assumes nothing.
 use borrow.Author.Rules.{rules}
 use mathlib.Core.Path.{◌≡◌}
-use lib.List_n.{length}
+use lib.ListN.{length}
 use Prim.Native.Nat.{◌-◌}
 use Rattle.page.proofs.face.fill.Statement.{statement}
 use Rattle.page.proofs.face.fill.Tie as tie

@@ -2,7 +2,7 @@
 use borrow.Author.Rules.{rules}
 use Prim.Native.Nat.{◌≤◌}
 use mathlib.Core.Path.{◌≡◌}
-use lib.List_n.{length}
+use lib.ListN.{length}
 use Rattle.page.proofs.figures.put_blanks.Statement.{statement}
 use Rattle.page.proofs.figures.put_blanks.Tie as tie
 

@@ -6,35 +6,35 @@ use native.Mathlib.Omega.{arith}
 use native.Mathlib.Numerals.{add-one}
 use mathlib.Core.Bool.{Bool, true, false}
 use mathlib.Core.List.{List, [], ◌∷◌}
-use mathlib.Core.Well_founded.Inv_image
-use mathlib.Core.Well_founded.{Well_founded}
-use lib.List_n.{length}
+use mathlib.Core.WellFounded.InvImage
+use mathlib.Core.WellFounded.{WellFounded}
+use lib.ListN.{length}
 use lib.Dec.{ltb}
 use borrow.Author.Tests.{ltb-true, ltb-false}
-use lib.Wf_n.{lt-wf_rel}
+use lib.WfN.{lt-wf_rel}
 use seplogic.Ra.Ura.{Ura}
-use seplogic.Ra.Tree_share.{full_share}
+use seplogic.Ra.TreeShare.{full_share}
 use mir.Syntax.{Ty, Body, seq, assign, place, rv_opd, copy, return, named, imm, w8, w32, w64, ty_int, ty_bool, ty_ptr, ty_ref}
 use mir.Val.{Val, vunit, vint, vptr, vbool, Fits}
 use base.Logic.{SProp, ent, emp, via, fst∗, snd∗, ex_e, id⊢}
 use base.Fml.{Lft, GName, Share, Fml, ftrue, fat, froom, fdies, flft}
 use prog.Memory.{Memory}
 use prog.Routine.{Routine}
-use prog.Wp.{Wp_fn, Tables, Env, after_turn}
+use prog.Wp.{WpFn, Tables, Env, after_turn}
 use types.Logic.{Logic, sem}
 use contract.Monad.{Fun, fact}
 use contract.Running.{tables, tables_of}
 use types.Kit.{Item, at_ret, ‵, raw, ◌⊛◌, some, later, ⋆, ◌$◌, ◌∵◌, !, qed, by, move, keep, drop, use0, use1, split, join, pick, rewrite, fsplit, fjoin, suffices, frame, await, done}
 use types.Part.{whole, sub, look_in}
 use types.Run.{look, look_raw, init, store, forget, stop, hop, fld, from, load, lit, of_opd, bin, and_then, no_more, assigns, assigns_last, land, first, stays, leaves_loop, blocks, exec, loops, again, returns, enter, alloc1, alloc0, params1, pass1, pass0, free1, free0}
-use sound.Wp_laws.{Fm_c, fm_of, Wp_fn-mono}
+use sound.WpLaws.{FmC, fm_of, WpFn-mono}
 use denote.Exit.{yes}
-use denote.Rattle_type.{owns}
+use denote.RattleType.{owns}
 use denote.Laws.{Is, shows}
 use denote.Memory.{pointee}
 use denote.Plain.{uint_Tells, uint_Makes, uint_Lawful}
 use denote.Ref.{Bor}
-use denote.Slice.{slice_ty, slice_val, Shr_slice, Room, shr_slice_vals, shr_slice_Tells}
+use denote.Slice.{slice_ty, slice_val, ShrSlice, Room, shr_slice_vals, shr_slice_Tells}
 use denote.Index.{place_is, elem_out, elem_back, looks_slice, shuts_slice}
 use denote.Signature.{plain}
 use denote.Builtin.{u8, u32, usize}
@@ -53,9 +53,9 @@ use Rattle.station.specs.declared.records.Rows.{Rows}
 use Rattle.station.specs.inner.Rows.{put_row, no_rows, rows_of}
 use Rattle.station.proofs.records.Copies.{blank, lent_at, put_lent, rows_upto, rows_are}
 use Rattle.station.specs.contracts.records.Record as T
-use Rattle.station.proofs.records.Record.The_laws as T'
+use Rattle.station.proofs.records.Record.TheLaws as T'
 use Rattle.station.specs.contracts.records.Rows as R
-use Rattle.station.proofs.records.Rows.The_laws as R'
+use Rattle.station.proofs.records.Rows.TheLaws as R'
 use Rattle.station.specs.contracts.records.no_rows as none
 use Rattle.station.proofs.records.no_rows.Symbol as none-def
 use Rattle.station.proofs.records.no_rows.Symbol.{name as #records·no-rows}
@@ -103,8 +103,8 @@ left {m} t = m - t.i
 abbrev ≺ : {m : ℕ} → At m → At m → Type 0
 ≺ s t = left s < left t
 
-≺-wf : {m : ℕ} → Well_founded (≺ {m = m})
-≺-wf = Inv_image.wf left lt-wf_rel.wf
+≺-wf : {m : ℕ} → WellFounded (≺ {m = m})
+≺-wf = InvImage.wf left lt-wf_rel.wf
 
 by_bool {ℓ} : {X : Type ℓ} (y : Bool) → (y ≡ true → X) → (y ≡ false → X) → X
 by_bool true f g = f refl
@@ -155,7 +155,7 @@ module _ {M : Type 1} {𝓤 : Ura M} (𝓛 : Logic 𝓤) (mem : Memory → SProp
   Post = (walk_of 𝓛 it.ended stayed (it.clauses 𝓛 mem run)).post (((κ, tt), (q, tt), tt, x, at), tt)
 
   abbrev Own : Fml
-  Own = (Shr_slice (named 0) κ T.the_row).own_val x.0 at.0
+  Own = (ShrSlice (named 0) κ T.the_row).own_val x.0 at.0
 
   abbrev elem : ℕ → Record
   elem i = lent_at ys i
@@ -201,11 +201,11 @@ module _ {M : Type 1} {𝓤 : Ura M} (𝓛 : Logic 𝓤) (mem : Memory → SProp
   abbrev En : ℕ → ℕ → ℕ → ℕ → ℕ → ℕ → ℕ → ℕ → ℕ → ℕ → ℕ → Env 𝓤 H
   En l₀ l₁ l₂ l₃ l₄ l₅ l₆ l₇ l₈ l₉ lₐ = (R'.mir, l₀) ∷ (slice, l₁) ∷ (ty_int w64, l₂) ∷ (R'.mir, l₃) ∷ (ty_int w64, l₄) ∷ (T'.mir, l₅) ∷ (ty_int w64, l₆) ∷ (ty_bool, l₇) ∷ (ty_int w64, l₈) ∷ (ty_ptr, l₉) ∷ (T'.mir, lₐ) ∷ []
 
-  walk : (𝓣 : Tables 𝓤 H) → Fm_c 𝓤 H 𝓛.laws 𝓣.C → Triple 𝓤 (𝓣.C #records·at-most) (Most 𝓛 mem run) → Triple 𝓤 (𝓣.C #records·no-rows) (None 𝓛 mem run) → Triple 𝓤 (𝓣.C #records·put) (Put 𝓛 mem run)
-      → Room T.the_row n → ent 𝓤 (on_entry 𝓛 it.signature (κ, tt) (q, tt) x at) (Wp_fn 𝓤 H 𝓣.C 𝓣.Λ code.function (slice_val (b, o) n ∷ []) Post)
+  walk : (𝓣 : Tables 𝓤 H) → FmC 𝓤 H 𝓛.laws 𝓣.C → Triple 𝓤 (𝓣.C #records·at-most) (Most 𝓛 mem run) → Triple 𝓤 (𝓣.C #records·no-rows) (None 𝓛 mem run) → Triple 𝓤 (𝓣.C #records·put) (Put 𝓛 mem run)
+      → Room T.the_row n → ent 𝓤 (on_entry 𝓛 it.signature (κ, tt) (q, tt) x at) (WpFn 𝓤 H 𝓣.C 𝓣.Λ code.function (slice_val (b, o) n ∷ []) Post)
   unfolding after_turn
   walk 𝓣 fm known-most known-none known-put gn =
-      qed 𝓛 ((‵ (flft κ q) ⊛ ‵ ftrue) ∷ ‵ (owns (Shr_slice (named 0) κ T.the_row ∷ []) x at) ∷ []) ∵ enter ! 𝓣.C 𝓣.Λ code.function (slice_val (b, o) n ∷ []) _ $
+      qed 𝓛 ((‵ (flft κ q) ⊛ ‵ ftrue) ∷ ‵ (owns (ShrSlice (named 0) κ T.the_row ∷ []) x at) ∷ []) ∵ enter ! 𝓣.C 𝓣.Λ code.function (slice_val (b, o) n ∷ []) _ $
       alloc1 ! (λ l₀. alloc1 ! (λ l₁. alloc1 ! (λ l₂. alloc1 ! (λ l₃. alloc1 ! (λ l₄. alloc1 ! (λ l₅. alloc1 ! (λ l₆. alloc1 ! (λ l₇. alloc1 ! (λ l₈. alloc1 ! (λ l₉. alloc1 ! (λ lₐ. alloc0 ! $ params1 ! $
       pass1 ! (init ! 18 refl (tt, (tt, (record { fits = gn.0 }, tt)))) $ pass0 ! $
       -- _6 = rs.len(), at 8; m = at_most(_6), at 16
@@ -277,13 +277,13 @@ module _ {M : Type 1} {𝓤 : Ura M} (𝓛 : Logic 𝓤) (mem : Memory → SProp
 module _ {M : Type 1} {𝓤 : Ura M} (𝓛 : Logic 𝓤) (mem : Memory → SProp 𝓤) (run : Routine → Fun 𝓤) (𝓣 : Tables 𝓤 𝓛.H) (known-most : Triple 𝓤 (𝓣.C #records·at-most) (Most 𝓛 mem run)) (known-none : Triple 𝓤 (𝓣.C #records·no-rows) (None 𝓛 mem run)) (known-put : Triple 𝓤 (𝓣.C #records·put) (Put 𝓛 mem run)) where
   open 𝓛 use {H}
 
-  it-walks : Walks 𝓛 it.ended stayed (Wp_fn 𝓤 H 𝓣.C 𝓣.Λ code.function) (it.clauses 𝓛 mem run)
-  it-walks = walked 𝓛 it.ended stayed (it.clauses 𝓛 mem run) (Wp_fn 𝓤 H 𝓣.C 𝓣.Λ code.function) (λ κs. (shr_slice_vals, tt)) (λ κs. (shr_slice_Tells (named 0) κs.0 T.the_row, tt))
+  it-walks : Walks 𝓛 it.ended stayed (WpFn 𝓤 H 𝓣.C 𝓣.Λ code.function) (it.clauses 𝓛 mem run)
+  it-walks = walked 𝓛 it.ended stayed (it.clauses 𝓛 mem run) (WpFn 𝓤 H 𝓣.C 𝓣.Λ code.function) (λ κs. (shr_slice_vals, tt)) (λ κs. (shr_slice_Tells (named 0) κs.0 T.the_row, tt))
       (λ κs qs bounds a g are. via 𝓤 _ (fst∗ 𝓤 _ (emp 𝓤))
       (walk 𝓛 mem run κs.0 qs.0 a.0.ref_ptr.0 a.0.ref_ptr.1 0 a.0.now 𝓣 (fm_of 𝓤 H 𝓛.laws 𝓣) known-most known-none known-put are.0.0.1))
 
-  it-meets : Meets 𝓛 it.signature (Wp_fn 𝓤 H 𝓣.C 𝓣.Λ code.function) (it.spec 𝓛 mem run)
-  it-meets = walk_Meets 𝓛 it.ended stayed (Goes-none_slice 𝓛 1 (0 ∷ []) tt (plain (λ _. T.the_row)) yes, tt) (it.clauses 𝓛 mem run) (Wp_fn 𝓤 H 𝓣.C 𝓣.Λ code.function) (Wp_fn-mono 𝓤 H 𝓛.laws 𝓣 code.function) it-walks
+  it-meets : Meets 𝓛 it.signature (WpFn 𝓤 H 𝓣.C 𝓣.Λ code.function) (it.spec 𝓛 mem run)
+  it-meets = walk_Meets 𝓛 it.ended stayed (Goes-none_slice 𝓛 1 (0 ∷ []) tt (plain (λ _. T.the_row)) yes, tt) (it.clauses 𝓛 mem run) (WpFn 𝓤 H 𝓣.C 𝓣.Λ code.function) (WpFn-mono 𝓤 H 𝓛.laws 𝓣 code.function) it-walks
 
 pub rows-of-spec : {M : Type 1} → stated.statement M
 unfolding code.routine tables_of

@@ -5,7 +5,7 @@ use Rattle.station_file.proofs.stationfields.latitude_fields.Tie as tie
 use mathlib.Core.Path.{refl, ap}
 use mir.Syntax.{w8, w32}
 use mir.Val.{SFits}
-use mir.Val_laws.{to_z-of_z}
+use mir.ValLaws.{to_z-of_z}
 use Rattle.refusals.specs.Checked.{good}
 use Rattle.station_file.specs.Cards.{latitude_fields}
 

@@ -5,7 +5,7 @@ use Rattle.station_file.proofs.stationfields.size_of.Tie as tie
 use lib.Dec.{lit<}
 use mir.Syntax.{w8}
 use mathlib.Core.Path.{◌≡◌}
-use lib.Int_n.{nat_abs}
+use lib.IntN.{nat_abs}
 use Rattle.angles.proofs.Known.{read-narrow, kept, fits}
 
 cast-size : tie.Need-overflow-cast-size

@@ -4,7 +4,7 @@ use Rattle.station_file.proofs.stationfile.accepted.Statement.{statement}
 use Rattle.station_file.proofs.stationfile.accepted.Tie as tie
 use mathlib.Core.Path.{refl}
 use mir.Syntax.{w32}
-use mir.Val_laws.{to_z-of_z}
+use mir.ValLaws.{to_z-of_z}
 
 only-requires : tie.Need-only-requires
 only-requires c κs = search rules

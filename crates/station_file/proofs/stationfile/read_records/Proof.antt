@@ -7,10 +7,10 @@ use mathlib.Core.Path.{◌≡◌, refl, ap, ◌∙◌}
 use mathlib.Core.List.{[]}
 use Prim.Native.Nat.{◌+◌, ◌-◌, ◌≤◌, ◌<◌, min}
 use native.Mathlib.Omega.{arith}
-use lib.List_n.{length, drop, length-set}
+use lib.ListN.{length, drop, length-set}
 use mir.Syntax.{w32}
 use mir.Val.{SFits, to_z, of_z}
-use mir.Val_laws.{to_z-of_z}
+use mir.ValLaws.{to_z-of_z}
 use Rattle.columns.specs.Lines.{lines_of}
 use Rattle.columns.specs.Names.{names_from}
 use Rattle.station.specs.declared.records.Rows.{Rows}

@@ -7,8 +7,8 @@ use Prim.Native.Nat.{◌<◌, min}
 use native.Mathlib.Omega.{arith}
 use mir.Syntax.{w32}
 use mir.Val.{SFits}
-use mir.Val_laws.{to_z-of_z}
-use lib.List_n.{length}
+use mir.ValLaws.{to_z-of_z}
+use lib.ListN.{length}
 use Rattle.columns.specs.Names.{names_from}
 use Rattle.station_file.proofs.stationfile.Records.{file-here, file-empty}
 

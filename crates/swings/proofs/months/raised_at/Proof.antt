@@ -1,6 +1,6 @@
 -- `swings::months::raised_at` meets its contract, by what its callees give. Assumes nothing.
 use mir.Syntax.{w64}
-use mir.Val_laws.{to_z-of_z}
+use mir.ValLaws.{to_z-of_z}
 use borrow.Author.Rules.{rules}
 use Rattle.swings.proofs.months.raised_at.Statement.{statement}
 use Rattle.swings.proofs.months.raised_at.Tie as tie

@@ -1,11 +1,11 @@
--- `table::definitions::first_rows` meets its contract. The invariant: what is kept is of the rows from this one on (`First_rows`).
+-- `table::definitions::first_rows` meets its contract. The invariant: what is kept is of the rows from this one on (`FirstRows`).
 use mathlib.Core.Path.{◌≡◌, subst, ◌∙◌}
 use Prim.Native.Nat.{ℕ, ◌+◌, ◌-◌, ◌≤◌, ◌<◌}
 use native.Mathlib.Nat.{sub-zero}
 use native.Mathlib.Omega.{arith}
-use lib.List_n.{length, length-replicate, length-set}
+use lib.ListN.{length, length-replicate, length-set}
 use Rattle.table.specs.inner.Found.{place_in}
-use Rattle.table.proofs.definitions.First_rows.{From, from-none, row-set, row-past}
+use Rattle.table.proofs.definitions.FirstRows.{From, from-none, row-set, row-past}
 use borrow.Author.Rules.{rules}
 use Rattle.table.proofs.definitions.first_rows.Statement.{statement}
 use Rattle.table.proofs.definitions.first_rows.Tie as tie

@@ -5,8 +5,8 @@ use native.Mathlib.Omega.{arith}
 use borrow.Author.Rules.{rules}
 use lib.Dec.{lit≤}
 use Prim.Native.Nat.{◌^◌, ◌≤◌}
-use lib.Int_n.{ℤ, pos, nat_abs}
-use lib.List_n.{length}
+use lib.IntN.{ℤ, pos, nat_abs}
+use lib.ListN.{length}
 use mir.Syntax.{w8}
 use mir.Val.{SFits}
 use Rattle.angles.proofs.Known.{read-narrow}

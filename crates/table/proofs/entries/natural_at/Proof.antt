@@ -3,7 +3,7 @@
 use mathlib.Core.Path.{sym, ◌∙◌}
 use native.Mathlib.Omega.{arith}
 use borrow.Author.Rules.{rules}
-use lib.List_n.{length}
+use lib.ListN.{length}
 use Rattle.table.proofs.Rows.{row_at}
 use Rattle.table.proofs.entries.Beyond.{past-columns, past-rows, far, near}
 use Rattle.table.proofs.entries.natural_at.Statement.{statement}

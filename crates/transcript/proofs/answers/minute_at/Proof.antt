@@ -1,6 +1,6 @@
 -- `transcript::answers::minute_at` meets its contract: past the end stands 0. Assumes nothing.
 use Rattle.std.proofs.Common.{sym, rules}
-use lib.List_n.{get_or-eq_default}
+use lib.ListN.{get_or-eq_default}
 use Rattle.transcript.proofs.answers.minute_at.Statement.{statement}
 use Rattle.transcript.proofs.answers.minute_at.Tie as tie
 

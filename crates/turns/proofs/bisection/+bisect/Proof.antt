@@ -2,7 +2,7 @@
 -- Assumes nothing.
 use Prim.Native.Nat.{ℕ, ◌<◌}
 use borrow.Fn.Kinds.{In}
-use borrow.Fn.Plain_cycle.{Measures, is, falls, and}
+use borrow.Fn.PlainCycle.{Measures, is, falls, and}
 use Rattle.turns.proofs.bisection.bisect.Reads as bisect
 use Rattle.turns.proofs.bisection.bisect.Kinds as bisect-kinds
 use Rattle.turns.proofs.bisection.+bisect.Lts-bisect as bisect-lts

@@ -5,9 +5,9 @@ use mathlib.Core.Path.{◌≡◌, refl, sym, ◌∙◌, ap₂}
 use mathlib.Core.Bool.{true, false}
 use borrow.Author.Tests.{lt-ltb, le-ltb}
 use mir.Syntax.{w64}
-use mir.Val_laws.{to_z-of_z}
+use mir.ValLaws.{to_z-of_z}
 use lib.Dec.{ltb}
-use lib.Int_n.{nat_abs}
+use lib.IntN.{nat_abs}
 use Rattle.turns.proofs.bisection.turn_between.Statement.{statement}
 use Rattle.turns.proofs.bisection.turn_between.Tie as tie
 

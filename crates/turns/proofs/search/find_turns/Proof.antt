@@ -3,7 +3,7 @@
 use Rattle.turns.proofs.search.find_turns.Statement.{statement}
 use Rattle.turns.proofs.search.find_turns.Tie as tie
 use borrow.Author.Rules.{rules}
-use lib.List_n.{length}
+use lib.ListN.{length}
 use mir.Syntax.{w64}
 use mir.Val.{SFits}
 use Rattle.month_prepared.proofs.Owners.{last-most}

@@ -8,7 +8,7 @@ use native.Mathlib.Omega.{arith}
 use mathlib.Core.Path.{◌≡◌, refl, ◌∙◌, ap}
 use mir.Syntax.{w64}
 use mir.Val.{SFits, to_z}
-use mir.Val_laws.{to_z-of_z}
+use mir.ValLaws.{to_z-of_z}
 use Rattle.month_prepared.proofs.Owners.{last-most}
 use Rattle.turns.specs.Sense.{rising}
 use Rattle.turns.specs.inner.Lists.{slopes_in}

@@ -4,7 +4,7 @@ use Rattle.turns.proofs.sense.differs.Statement.{statement}
 use Rattle.turns.proofs.sense.differs.Tie as tie
 use mathlib.Core.Path.{◌≡◌, sym, ◌∙◌, ap}
 use mathlib.Core.Bool.{true, false, not}
-use mir.Val_laws.{to_z-of_z}
+use mir.ValLaws.{to_z-of_z}
 use Rattle.turns.specs.Sense.{rising, differ}
 
 rises-requires : tie.Need-rises-requires

@@ -1,9 +1,9 @@
 -- `turns::sense::rises` meets its contract: the test is `rising` by the number's sign. Assumes nothing.
 use mathlib.Core.Path.{◌≡◌, refl}
 use lib.Dec.{leb-zero}
-use lib.Int_n.{ℤ, pos, negsuc}
+use lib.IntN.{ℤ, pos, negsuc}
 use lib.Signed.{le_z}
-use mir.Val_laws.{to_z-of_z}
+use mir.ValLaws.{to_z-of_z}
 use Rattle.turns.specs.Sense.{rising}
 use Rattle.turns.proofs.sense.rises.Statement.{statement}
 use Rattle.turns.proofs.sense.rises.Tie as tie

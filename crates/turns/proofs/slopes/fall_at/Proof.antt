@@ -4,7 +4,7 @@ use Rattle.turns.proofs.slopes.fall_at.Statement.{statement}
 use Rattle.turns.proofs.slopes.fall_at.Tie as tie
 use mathlib.Core.Path.{◌∙◌, ap}
 use lib.Dec.{lit<}
-use lib.Int_n.{ℤ, ◌*ℤ◌}
+use lib.IntN.{ℤ, ◌*ℤ◌}
 use mir.Syntax.{w32}
 use Rattle.angles.proofs.Known.{read, read-narrow, fits, kept, known, says, plus, times}
 use Rattle.turns.specs.Slope.{fall}

@@ -8,11 +8,11 @@ use native.Mathlib.Omega.{arith}
 use native.Mathlib.Nat.{sub-zero}
 use mathlib.Core.Path.{◌≡◌, sym, ap, ap₂, ◌∙◌}
 use lib.Dec.{lit<}
-use lib.Int_n.{ℤ, pos, neg_ℤ, nat_abs, ◌+ℤ◌, +ℤ_idl, +ℤ_idr, +ℤ_assoc}
-use lib.List_n.{get_or}
+use lib.IntN.{ℤ, pos, neg_ℤ, nat_abs, ◌+ℤ◌, +ℤ_idl, +ℤ_idr, +ℤ_assoc}
+use lib.ListN.{get_or}
 use mir.Syntax.{w32, w64}
 use mir.Val.{SFits, to_z}
-use mir.Val_laws.{to_z-of_z}
+use mir.ValLaws.{to_z-of_z}
 use Rattle.angles.proofs.Known.{plainly, fits, kept, says, negated}
 use Rattle.month_prepared.specs.inner.View.{constituents_after, constituents_from}
 use Rattle.turns.specs.Slope.{fall, falls_at, slope_at}

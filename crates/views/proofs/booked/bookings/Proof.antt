@@ -1,7 +1,7 @@
 -- `views::booked::bookings` is safe and ends: no more minutes are lent than were filled in. Assumes nothing.
 use mathlib.Core.Path.{sym}
 use native.Mathlib.Omega.{arith}
-use lib.List_n.{length-take}
+use lib.ListN.{length-take}
 use lib.Seq.{length-take-le}
 use borrow.Author.Rules.{rules}
 use Rattle.views.proofs.booked.bookings.Statement.{statement}

@@ -1,7 +1,7 @@
 -- `drawing_picture::axes::curve::put_curve` meets its contract and ends: the page keeps its length. The measure: the heights left. Assumes nothing.
 use mathlib.Core.Path.{◌≡◌}
 use Prim.Native.Nat.{◌-◌}
-use lib.List_n.{length}
+use lib.ListN.{length}
 use borrow.Author.Rules.{rules}
 use native.Mathlib.Omega.{arith}
 use borrow.Author.Tests.{ltb-true, leb-true}
