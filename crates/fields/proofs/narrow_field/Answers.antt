@@ -1,0 +1,30 @@
+-- `fields::narrow_field` meets its contract: the range from 0 to a number of 32 bits is one of 64 bits, so the capped size has the field's answer. Assumes nothing.
+use native.Mathlib.Omega.{arith}
+use borrow.Author.Rules.{rules}
+use mathlib.Core.Path.{◌∙◌}
+use Prim.Native.Nat.{ℕ, ◌<◌, ◌^◌}
+use lib.IntN.{pos}
+use mir.Syntax.{w64}
+use mir.Val.{SFits}
+use Rattle.columns.specs.Columns.{columns}
+use Rattle.fields.specs.Number.{ranged}
+use Rattle.fields.proofs.Ranges.{written-gives}
+use Rattle.fields.proofs.narrow_field.Goals as goal
+
+fits : (n : ℕ) → n < 2 ^ 32 → SFits w64 (pos n)
+fits n h = record { sfits = omega arith }
+
+pub returns-in-Of : goal.returns-in-Of
+returns-in-Of c =
+    let e = written-gives (pos 0) (pos c.args.high) (fits 0 (omega arith)) (fits c.args.high (omega arith)) c.args.format (columns c.args.line.now c.args.from c.args.width) c.written_in-written.result c.written_in-written.ensures in record {
+      result_value = c.narrowed.ensures.result_value ∙ (rw c.size-1.given.1 at e);
+      narrow_within = c.narrowed.ensures.narrow_within;
+    }
+
+pub returns-in-Bad : goal.returns-in-Bad
+unfolding ranged
+returns-in-Bad c =
+    let e = written-gives (pos 0) (pos c.args.high) (fits 0 (omega arith)) (fits c.args.high (omega arith)) c.args.format (columns c.args.line.now c.args.from c.args.width) c.written_in-written.result c.written_in-written.ensures in record {
+      result_value = rw c.enum_told-1.given.1 at e;
+      narrow_within = tt;
+    }

@@ -1,0 +1,20 @@
+-- `fields::ranged_field` meets its contract. What is kept of a field has its answer: `written-gives`. Assumes nothing.
+use borrow.Author.Rules.{rules}
+use mathlib.Core.Path.{◌∙◌}
+use mir.Syntax.{w64}
+use mir.ValLaws.{to_z-of_z}
+use Rattle.columns.specs.Columns.{columns}
+use Rattle.fields.specs.Number.{ranged}
+use Rattle.fields.proofs.Ranges.{written-gives}
+use Rattle.fields.proofs.ranged_field.Goals as goal
+
+pub returns-in-Of : goal.returns-in-Of
+returns-in-Of c =
+    let e = written-gives c.args.low c.args.high c.ranges.low c.ranges.high c.args.format (columns c.args.line.now c.args.from c.args.width) c.written_in-written.result c.written_in-written.ensures in
+    (simp (to_z-of_z w64 c.args.low c.ranges.low, to_z-of_z w64 c.args.high c.ranges.high) at c.ranged.ensures) ∙ (rw c.size-1.given.1 at e)
+
+pub returns-in-Bad : goal.returns-in-Bad
+unfolding ranged
+returns-in-Bad c =
+    let e = written-gives c.args.low c.args.high c.ranges.low c.ranges.high c.args.format (columns c.args.line.now c.args.from c.args.width) c.written_in-written.result c.written_in-written.ensures in
+    rw c.enum_told-1.given.1 at e

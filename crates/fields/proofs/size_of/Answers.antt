@@ -1,0 +1,14 @@
+-- `fields::size_of` meets its contract. By cases on the format. Assumes nothing.
+use borrow.Author.Rules.{rules}
+use Rattle.fields.specs.inner.Kept.{kept_of}
+use Rattle.fields.proofs.size_of.Goals as goal
+
+pub returns-in-Whole : goal.returns-in-Whole
+unfolding kept_of
+returns-in-Whole c =
+    rw c.enum_told-1.given.1 c.whole_size.ensures
+
+pub returns-in-Fixed : goal.returns-in-Fixed
+unfolding kept_of
+returns-in-Fixed c =
+    rw c.format-1.given.1 c.fixed_size.ensures

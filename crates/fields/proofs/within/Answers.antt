@@ -1,0 +1,30 @@
+-- `fields::within` meets its contract. The two tests of order; at most is not above: `le_z-lt_z`. Assumes nothing.
+use mathlib.Core.Path.{◌≡◌, ap}
+use mathlib.Core.Bool.{and-false}
+use Rattle.fields.specs.Number.{ranged}
+use Rattle.fields.proofs.Ranges.{le_z-lt_z}
+use lib.Signed.{lt_z, le_z}
+use mathlib.Core.Bool.{true, false}
+use mir.Syntax.{w64}
+use mir.ValLaws.{to_z-of_z}
+use Rattle.fields.specs.declared.Field.TheVariants.{Value}
+use Rattle.fields.proofs.within.Goals as goal
+
+pub returns-then-z-low : goal.returns-then-z-low
+unfolding ranged
+returns-then-z-low c =
+    let t : lt_z c.args.z c.args.low ≡ true = rw (to_z-of_z w64 c.args.z c.ranges.z, to_z-of_z w64 c.args.low c.ranges.low) at c.if-z-low.true in
+    rw (le_z-lt_z c.args.low c.args.z, t)
+
+pub returns-then-high-z : goal.returns-then-high-z
+unfolding ranged
+returns-then-high-z c =
+    let t : lt_z c.args.high c.args.z ≡ true = rw (to_z-of_z w64 c.args.high c.ranges.high, to_z-of_z w64 c.args.z c.ranges.z) at c.if-high-z.true in
+    rw (le_z-lt_z c.args.z c.args.high, t, and-false (le_z c.args.low c.args.z))
+
+pub returns : goal.returns
+unfolding ranged
+returns c =
+    let t : lt_z c.args.z c.args.low ≡ false = rw (to_z-of_z w64 c.args.z c.ranges.z, to_z-of_z w64 c.args.low c.ranges.low) at c.if-z-low.false in
+    let u : lt_z c.args.high c.args.z ≡ false = rw (to_z-of_z w64 c.args.high c.ranges.high, to_z-of_z w64 c.args.z c.ranges.z) at c.if-high-z.false in
+    rw (le_z-lt_z c.args.low c.args.z, t, le_z-lt_z c.args.z c.args.high, u) (ap Value (to_z-of_z w64 c.args.z c.ranges.z))
