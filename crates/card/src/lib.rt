@@ -40,7 +40,7 @@ pub enum Ratio {
 }
 
 // Whether something on a card is as it should be, or what is wrong with it.
-#[derive(Drop)]
+#[derive(Clone, Copy)]
 pub enum Check {
     Clear,
     Bad(Fault),

@@ -14,7 +14,7 @@ mod numerals; // what stands behind the sign
 use crate::numerals::{CAP, Size, begins, fixed_size, whole_size};
 
 // 01's I and F: a whole number, and one with a point and so many decimals at the most.
-#[derive(Drop)]
+#[derive(Clone, Copy)]
 pub enum Format {
     Whole,
     Fixed(usize),
