@@ -1,4 +1,6 @@
 // Whole numbers of ticks: division that rounds down, and the remainder modulo a turn.
+#![tactic(auto)]
+
 ghost use Rattle.std.specs.Prelude.{◌≡◌, ◌<◌, ◌^◌, nat_abs};
 ghost use Rattle.std.specs.Int.Signed.{mag};
 ghost use Rattle.angles.specs.Ticks.{turn};

@@ -1,4 +1,6 @@
 // The calendar: months, minutes of a month, the day count from 1 January 1976, and the dates in range.
+#![tactic(auto)]
+
 ghost use Rattle.std.specs.Prelude.{◌≡◌, ◌&&◌, ◌+◌, ◌*◌, ◌/◌, ◌^◌, ◌≤◌, ◌<◌, ◌-◌, eqb};
 ghost use Rattle.calendar.specs.Calendar.{between, day_count, in_range, is_fourth, month_days, month_minutes, months_days, year_in_range, year_minutes};
 

@@ -1,5 +1,7 @@
 // One card of the card file: the columns and ranges of its number fields, what is wrong with it, its numbers narrowed to the types that the
 // table keeps, how it opens, and the places of its names.
+#![tactic(auto)]
+
 ghost use Rattle.std.specs.Prelude.{◌≡◌, ◌≤◌, ◌<◌, length, take, nat_abs};
 ghost use Rattle.limits.specs.Limits.{satellites_a_card};
 ghost use Rattle.card.specs.Formats as spec;

@@ -1,5 +1,7 @@
 // Reads a card file of up to 65,536 bytes from standard input and says in one line what it comes to: the counts of an accepted file's
 // frequencies, mains, satellites and shallow constituents, or the refusal's number and line.
+#![tactic(auto)]
+
 use card_file::counts;
 use card_file::counts::Counts;
 use libc::STDOUT_FILENO;

@@ -2,6 +2,8 @@
 //
 // A call takes the clock and, where it can change it, gives it back. A refused call leaves the clock and the lent buffers as they were.
 // No call asks anything of its caller but a clock that `new` or another call made.
+#![tactic(auto)]
+
 ghost use Rattle.std.specs.Prelude.{◌≡◌, true};
 ghost use Rattle.columns.specs.Names.{names_from};
 ghost use Rattle.table.specs.inner.View.{table_of};

@@ -1,4 +1,6 @@
 // The lines of a card file, the columns of a line, padded with blanks, and names as parts of a lent line.
+#![tactic(auto)]
+
 ghost use Rattle.std.specs.Prelude.{◌≡◌, ◌+◌, ◌-◌, ◌<◌, length, take, drop};
 ghost use Rattle.columns.specs.Bytes.{among, every, leading};
 ghost use Rattle.columns.specs.Lines.{first_line, rest_lines, line_good, blank_card};

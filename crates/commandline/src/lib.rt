@@ -2,6 +2,8 @@
 //
 // The words are lent in one row, each ended by a byte 0, behind those of `defaults`: the two files and the two units that are meant where
 // nothing else is said. A word is named by where it begins.
+#![tactic(auto)]
+
 ghost use Rattle.std.specs.Prelude.{◌≡◌, ◌+◌, length};
 ghost use Rattle.commandline.specs.Days.{DayAsked, hourly_asked};
 ghost use Rattle.commandline.specs.Lengths.{lengths_at};

@@ -1,4 +1,6 @@
 // The cosine and sine of an angle in ticks, in units of 2^-30, by a table that is made once and lent.
+#![tactic(auto)]
+
 ghost use Rattle.std.specs.Prelude.{◌≡◌, ◌+◌, ◌<◌, ◌≤◌, cond, pos, neg_ℤ, nat_abs};
 ghost use Rattle.cosine.specs.Fraction.{in_quadrant};
 ghost use Rattle.cosine.specs.Fixed.{one, entries, step, entry, line, fixed_cosine, fixed_sine, IsTable};

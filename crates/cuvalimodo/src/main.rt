@@ -1,6 +1,8 @@
 // The tide clock of a berth on the command line: the year's, the month's and the day's high and low waters, a file's bookings, hourly cards, heights for other programs, drawings.
 //
 // It reads the files, asks the clock, and writes. Every refusal is the library's, and is said in one line on standard error.
+#![tactic(auto)]
+
 mod help; // one screen
 
 ghost use Rattle.clock.specs.View.{Made};

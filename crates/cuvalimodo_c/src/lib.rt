@@ -5,6 +5,8 @@
 // leaves the clock and the lent buffers as they were. bindings/c/cuvalimodo.h declares all of it for C.
 //
 // (Each function over a lent clock is thin: its proof is a walk by hand.)
+#![tactic(auto)]
+
 ghost use Rattle.std.specs.Prelude.{◌≡◌};
 ghost use Rattle.card_file.specs.Cards.{cards_outcome};
 ghost use Rattle.card_file.specs.Counts.{counts_of};

@@ -1,4 +1,6 @@
 // Writes fixed cosines and sines, day counts and month lengths, one labelled line each.
+#![tactic(auto)]
+
 ghost use Rattle.cosine.specs.Fixed.{IsTable};
 
 use angles::TURN;

@@ -1,4 +1,6 @@
 // The figures on a sheet as short rows of bytes: heights, rounded, with their decimals; days and times of day; dates and names of months; texts.
+#![tactic(auto)]
+
 ghost use Rattle.std.specs.Prelude.{◌≡◌, get_or, pos};
 ghost use Rattle.digits.specs.Digits.{thousandths, last_digit, day_of, hour_of, time_of_day, time_on_day, latitude_end, three_decimals, four_decimals};
 

@@ -1,6 +1,8 @@
 // Drawings of the clock's month, and of a year, as SVG on standard output.
 //
 // Heights and turns are the clock's; crate drawing_picture gives them places. What the clock refuses is said, and nothing is drawn.
+#![tactic(auto)]
+
 ghost use Rattle.std.specs.Prelude.{◌<◌, ◌≤◌, length, ◌≡◌};
 ghost use Rattle.clock.specs.View.{Made};
 

@@ -1,4 +1,6 @@
 // The geometry of a drawing, in whole numbers: ten units make a pixel.
+#![tactic(auto)]
+
 pub mod bands; // from a day's lowest to its highest water
 pub mod plots; // where plots stand, and which minutes are theirs
 pub mod scale; // from heights and minutes to places

@@ -1,4 +1,6 @@
 // Number fields of a card: one reader for every I and F format and range.
+#![tactic(auto)]
+
 ghost use Rattle.std.specs.Prelude.{◌≡◌, ◌-◌, pos};
 ghost use Rattle.columns.specs.Bytes.{blank, behind};
 ghost use Rattle.columns.specs.Columns.{columns};

@@ -1,4 +1,6 @@
 // Files: read whole into a lent buffer, by name or from where the program itself lies; and the checksum by which a person compares two of them.
+#![tactic(auto)]
+
 ghost use Rattle.std.specs.Prelude.{◌≡◌, true, ◌≤◌, pos, neg_ℤ, length};
 ghost use Rattle.std.specs.Int.Signed.{le_z};
 ghost use Rattle.io.specs.Counts.{IsPrefixLen};

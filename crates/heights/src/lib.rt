@@ -1,5 +1,7 @@
 // Heights of the water in a prepared month, and in months that follow one another: at a minute, in a series, and how far one may lie from the
 // exact sum. The table of cosines and the arrays of the constituents are lent; a month's arguments and weights are a row of RECORDS places.
+#![tactic(auto)]
+
 ghost use Rattle.std.specs.Prelude.{◌≡◌, ◌≤◌, ◌^◌, nat_abs};
 ghost use Rattle.limits.specs.Limits.{most_minutes, most_records};
 ghost use Rattle.cosine.specs.Fixed.{IsTable};

@@ -1,4 +1,6 @@
 // The manual's hourly cards, (I1,1X,I5,7X,3I2,12A4): a month's heights at its full hours, in centimetres, two cards a day.
+#![tactic(auto)]
+
 ghost use Rattle.std.specs.Prelude.{◌≡◌, ◌*◌, length};
 ghost use Rattle.calendar.specs.Calendar.{month_days};
 ghost use Rattle.hourly.specs.Answers.{cards_returned};

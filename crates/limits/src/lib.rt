@@ -1,5 +1,7 @@
 // Document 01's limits, each here alone; the arrays that hold so many are as long.
 
+#![tactic(auto)]
+
 // "At most 160 frequencies .., 64 mains, 256 satellites, 128 shallow."
 pub const FREQUENCIES: usize = 160;
 

@@ -1,4 +1,6 @@
 // What the program says of a refusal or of a command line that it cannot follow: one line on standard error each.
+#![tactic(auto)]
+
 mod pieces; // pieces of a line
 mod phrases; // which words say what
 mod textlines; // a line of a text

@@ -1,4 +1,6 @@
 // A station's constituents in a month: V, frequency and the weights P and Q of each record, or refusal 11.
+#![tactic(auto)]
+
 ghost use Rattle.std.specs.Prelude.{◌≡◌, true, ◌≤◌, ◌^◌, nat_abs, get_or};
 ghost use Rattle.calendar.specs.Calendar.{in_range};
 ghost use Rattle.cosine.specs.Fixed.{IsTable};

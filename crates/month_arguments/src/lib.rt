@@ -1,4 +1,6 @@
 // The month's angles: the five longitudes on a day, and the argument V of a constituent.
+#![tactic(auto)]
+
 use limits::MAINS;
 
 pub mod astronomy; // longitudes on a day

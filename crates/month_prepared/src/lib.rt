@@ -1,4 +1,6 @@
 // What preparing a month hands to the heights: the weights, V, lag and frequency of each constituent.
+#![tactic(auto)]
+
 ghost use Rattle.std.specs.Prelude.{◌≡◌, [], min};
 ghost use Rattle.limits.specs.Limits.{most_records};
 ghost use Rattle.month_prepared.specs.inner.View.{constituents_of};

@@ -3,6 +3,8 @@
 // 01's search ends where a stride would pass the last minute asked. From the month's first minute on it so leaves out a turn in what is left
 // of the month behind its last whole stride, and a sheet without that turn would name a later one as the next. Searches over the month's last
 // minutes alone, as long as each of the station's strides, find it.
+#![tactic(auto)]
+
 ghost use Rattle.std.specs.Prelude.{◌+◌, ◌≤◌};
 ghost use Rattle.clock.specs.View.{Made};
 ghost use Rattle.monthturns.specs.inner.Kept.{Kept};

@@ -1,4 +1,6 @@
 // Writing to standard output by pages: what is put stands in a lent page until the page is full or flushed.
+#![tactic(auto)]
+
 ghost use Rattle.std.specs.Prelude.{◌≡◌, ◌≤◌, min, length};
 
 use libc::STDOUT_FILENO;

@@ -1,4 +1,6 @@
 // The words of 01's refusals and of those that requests add, each beside its number.
+#![tactic(auto)]
+
 ghost use Rattle.std.specs.Prelude.{◌≡◌, ◌≤◌, length};
 ghost use Rattle.refusal_words.specs.Words.{words_of, bytes_of, zeros_behind};
 

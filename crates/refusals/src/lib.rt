@@ -1,4 +1,6 @@
 // Document 01's refusals, each by its own name, and the answer of a call: accepted, or refused at a place.
+#![tactic(auto)]
+
 ghost use Rattle.std.specs.Prelude.{◌≡◌};
 ghost use Rattle.refusals.specs.Outcome.{number_of};
 

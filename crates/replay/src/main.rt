@@ -1,6 +1,8 @@
 // Plays a script of calls to a clock that starts with no table, and writes a line for each call, hourly cards behind theirs.
 //
 // It takes a card file of 262,143 bytes and 65,536 places in each lent buffer. What asks for more ends the run as a line that is not of the form does; but hourly cards may ask for any buffer.
+#![tactic(auto)]
+
 ghost use Rattle.std.specs.Prelude.{◌≡◌, ◌≤◌, length};
 ghost use Rattle.clock.specs.View.{Made};
 ghost use Rattle.hourly.specs.Answers.{cards_returned};

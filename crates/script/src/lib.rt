@@ -1,4 +1,6 @@
 // The lines of a replay script: each read as a call, as a record of a station, or as a minute of a list of bookings.
+#![tactic(auto)]
+
 ghost use Rattle.std.specs.Prelude.{◌≡◌, ◌∷◌, ◌+◌, ◌-◌, ◌≤◌, ◌^◌, length, pos, neg_ℤ};
 ghost use Rattle.columns.specs.Names.{same};
 ghost use Rattle.script.specs.Script.{call_of, call_of_words, record_of, has_minus, with_strides, station_at, station_of, cards_of, date_of, height_of, series_of, turns_of, year_of, bookings_of, hourly_of, minute_of};

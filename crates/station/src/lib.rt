@@ -1,4 +1,6 @@
 // A station: a latitude, stride lengths and its constituents' records, accepted whole or refused at the first record that is at fault.
+#![tactic(auto)]
+
 ghost use Rattle.std.specs.Prelude.{◌≡◌, ◌+◌, ◌%◌, ◌<◌, ◌≤◌};
 ghost use Rattle.limits.specs.Limits.{most_records};
 ghost use Rattle.refusals.specs.Outcome.{outcome_of};

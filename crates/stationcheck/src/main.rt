@@ -1,5 +1,7 @@
 // Says what a station file comes to. Standard input, of up to 65,536 bytes, is a line with the size of a table's names in bytes, the names, five bytes
 // each, and the station file. It writes the checksums of both, the station's name and time zone, and the latitude and the records, or the refusal.
+#![tactic(auto)]
+
 ghost use Rattle.card.specs.inner.Fields.{IsNatural};
 
 use card::faults::What;

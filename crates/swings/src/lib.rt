@@ -1,4 +1,6 @@
 // How far the water moves from turn to turn, and which turns stand on a day. Turns are lent as two rows, their minutes and their heights.
+#![tactic(auto)]
+
 ghost use Rattle.std.specs.Prelude.{◌≡◌, ◌+◌, ◌-◌, ◌≤◌, max};
 ghost use Rattle.swings.specs.Swings.{apart, swing, largest_swing, bar_length, is_high, turn_from, day_end};
 

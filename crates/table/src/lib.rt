@@ -1,4 +1,6 @@
 // The table that a card file gives, in flat arrays of rows, and what stands at a place of it. Types are so narrow that no sum over the table can overflow.
+#![tactic(auto)]
+
 ghost use Rattle.std.specs.Prelude.{◌≡◌, ◌+◌, ◌≤◌, length, get_or, pos};
 ghost use Rattle.std.proofs.lemmas.List.Edits.{sets};
 ghost use Rattle.table.specs.Table.{no_cards};

@@ -1,5 +1,7 @@
 // Turns of the water in months that follow one another, a single one or a year's: the stride of a station's tides, the search for where the
 // slope changes sense, and what is written of the turns. The table of cosines and the arrays of the constituents are lent.
+#![tactic(auto)]
+
 ghost use Rattle.std.specs.Prelude.{◌≡◌, map, ◌≤◌, length};
 ghost use Rattle.month_prepared.specs.inner.Rows.{last_of};
 ghost use Rattle.turns.specs.inner.Lists.{Rows, slopes_in, heights_in};

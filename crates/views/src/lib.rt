@@ -1,4 +1,6 @@
 // The sheets of the month that a clock has prepared, those of a file's bookings in it, and its hourly cards, written on standard output, or the clock's refusal, said; and the sheets of a year.
+#![tactic(auto)]
+
 mod booked; // a file's bookings
 mod carded; // hourly cards
 mod tabulated; // heights for other programs

@@ -1,6 +1,8 @@
 // Shows what prepared months are made of: plays the card files, stations and dates of a script, and writes V, P and Q of each record for each date.
 //
 // It keeps a table and a station beside the clock's own questions (`calls`), so that the months can be compared with the second code where no height is. Any other call ends the run.
+#![tactic(auto)]
+
 ghost use Rattle.std.specs.Prelude.{◌≡◌, true, length};
 ghost use Rattle.calendar.specs.Calendar.{in_range};
 ghost use Rattle.transcript.specs.inner.Posts.{Lent};

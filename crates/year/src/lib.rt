@@ -1,4 +1,6 @@
 // The twelve months of a calendar year: each month's arguments and weights in a row of its own, worked out once.
+#![tactic(auto)]
+
 ghost use Rattle.std.specs.Prelude.{◌*◌, ◌≤◌, ◌≡◌, true};
 ghost use Rattle.std.proofs.Math.Seq.{paste};
 ghost use Rattle.limits.specs.Limits.{most_records};
