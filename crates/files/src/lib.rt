@@ -8,7 +8,7 @@ ghost use Rattle.io.specs.Counts.{IsPrefixLen};
 pub mod checksum; // CRC-32
 
 // How a reading ended.
-#[derive(Drop)]
+#[derive(Clone, Copy)]
 pub enum End {
     Whole,
     TooLarge,
@@ -16,7 +16,7 @@ pub enum End {
 }
 
 // How many bytes were read, and how the reading ended.
-#[derive(Drop)]
+#[derive(Clone, Copy)]
 pub struct Reading {
     pub bytes: usize,
     pub end: End,
