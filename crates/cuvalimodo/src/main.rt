@@ -23,7 +23,7 @@ use station_file::stationfile::StationCards;
 use station_file::{stationcards, stationfaults, stationfile};
 
 // A file's length in its buffer, and whether it is there whole.
-#[derive(Drop)]
+#[derive(Clone, Copy)]
 struct Loaded {
     good: bool,
     bytes: usize,

@@ -9,7 +9,7 @@ use page::figures;
 use page::shown::Turns;
 
 // A turn: its minute in the month, its height, and whether it is high water.
-#[derive(Drop)]
+#[derive(Clone, Copy)]
 struct Turn {
     minute: u32,
     height: i64,
@@ -17,7 +17,7 @@ struct Turn {
 }
 
 // What a mark leaves: the next place on the page, and the lanes.
-#[derive(Drop)]
+#[derive(Clone, Copy)]
 struct Marked {
     at: usize,
     lanes: Lanes,

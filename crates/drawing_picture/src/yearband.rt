@@ -13,7 +13,7 @@ use swings::months;
 use swings::months::Month;
 
 // What a mark leaves: the next place on the page, and the lanes.
-#[derive(Drop)]
+#[derive(Clone, Copy)]
 struct Marked {
     at: usize,
     lanes: Lanes,

@@ -15,7 +15,7 @@ pub const UNIT: usize = 4_096;
 
 // What a sheet stands on: the station's latitude in minutes, north positive, how many constituents it has, its strides, and the CRC-32 of the
 // card file and of the station file.
-#[derive(Drop)]
+#[derive(Clone, Copy)]
 pub struct Ground {
     pub latitude: i32,
     pub constituents: usize,
@@ -26,7 +26,7 @@ pub struct Ground {
 
 // What every sheet says on its face: the station's name and its times' zone, with blanks behind them, the unit of its heights, a word of so
 // many bytes, and what the sheet stands on.
-#[derive(Drop)]
+#[derive(Clone, Copy)]
 pub struct Face {
     pub name: [u8; 22],
     pub zone: [u8; 3],

@@ -19,7 +19,7 @@ use transcript::reading::{Asked, Heard};
 use transcript::{answers, input, reading};
 
 // What a call leaves: the clock, the next place on the page, and whether the run goes on.
-#[derive(Drop)]
+#[derive(Clone, Copy)]
 struct Step {
     clock: Clock,
     at: usize,

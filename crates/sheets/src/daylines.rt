@@ -8,7 +8,7 @@ use page::shown::Known;
 
 // Days that follow one another, of the days in all that the minutes are counted over: how many lie before them, how many they are, and the turn with which
 // they begin.
-#[derive(Drop)]
+#[derive(Clone, Copy)]
 pub struct Days {
     pub before: u32,
     pub days: u32,
@@ -17,7 +17,7 @@ pub struct Days {
 }
 
 // A day's line: its number on the sheet, its number among all days, and its turns from one to before another.
-#[derive(Drop)]
+#[derive(Clone, Copy)]
 struct Line {
     number: u32,
     day: u32,

@@ -7,7 +7,7 @@ use page::shown::{Date, Turns};
 use page::{face, figures};
 
 // The next high or low water: whether there is one, whether it lies in the month after, its minute and its height.
-#[derive(Drop)]
+#[derive(Clone, Copy)]
 pub struct Next {
     pub found: bool,
     pub later: bool,
@@ -16,7 +16,7 @@ pub struct Next {
 }
 
 // What is to be known at a minute of the month: the height, and the next high and low water.
-#[derive(Drop)]
+#[derive(Clone, Copy)]
 pub struct Water {
     pub minute: u32,
     pub height: i64,
@@ -25,7 +25,7 @@ pub struct Water {
 }
 
 // A day of the month: its first minute, its turns from one to before another, its lowest and its highest water.
-#[derive(Drop)]
+#[derive(Clone, Copy)]
 struct Day {
     start: u32,
     from: usize,
@@ -44,7 +44,7 @@ fn higher(a: i64, b: i64) -> i64 {
 }
 
 // The lowest and the highest of some heights.
-#[derive(Drop)]
+#[derive(Clone, Copy)]
 struct Range {
     low: i64,
     high: i64,

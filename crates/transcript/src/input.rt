@@ -6,7 +6,7 @@ use std::io::Read;
 use std::num::wrapping_add_u64;
 
 // What is read and not yet taken: the bytes of the buffer from `from` to `to`. `line` is the input line, from 1, on which the first of them stands.
-#[derive(Drop)]
+#[derive(Clone, Copy)]
 pub struct Window {
     pub from: usize,
     pub to: usize,
@@ -15,7 +15,7 @@ pub struct Window {
 }
 
 // A line ends at `end`, where its LF stands; where `end` is the window's end it has none, for the input ended or the buffer is full.
-#[derive(Drop)]
+#[derive(Clone, Copy)]
 pub struct Line {
     pub end: usize,
     pub window: Window,

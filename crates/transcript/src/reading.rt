@@ -16,7 +16,7 @@ use std::num::wrapping_add_u64;
 // a search and a year's sheet end with how many places they are lent; bookings have so many minutes, which stand in the lent places, and so many places for heights;
 // hourly cards have a station number and so many bytes.
 // Stop: the input is not of the form.
-#[derive(Drop)]
+#[derive(Clone, Copy)]
 pub enum Asked {
     Cards(usize, usize),
     Station(i32, usize, Strides),
@@ -32,7 +32,7 @@ pub enum Asked {
 }
 
 // What a call asks, the input line of the call or of what is wrong, a station's first 146 records, and the window behind it all.
-#[derive(Drop)]
+#[derive(Clone, Copy)]
 pub struct Heard {
     pub asked: Asked,
     pub line: u64,
@@ -41,7 +41,7 @@ pub struct Heard {
 }
 
 // The call of a line, the number of that line, and the window behind it.
-#[derive(Drop)]
+#[derive(Clone, Copy)]
 struct CallLine {
     call: Call,
     line: u64,
@@ -49,7 +49,7 @@ struct CallLine {
 }
 
 // Whether a card file came whole, where it stands, the line of its last byte or of what is wrong, and the window behind it.
-#[derive(Drop)]
+#[derive(Clone, Copy)]
 struct CardFile {
     good: bool,
     from: usize,
@@ -59,14 +59,14 @@ struct CardFile {
 }
 
 // A station's line; where it is bad the window still begins with it.
-#[derive(Drop)]
+#[derive(Clone, Copy)]
 struct Told {
     entry: Entry,
     window: Window,
 }
 
 // Whether a station's lines were all of the form, the first 146 records, and the window behind them, or at the bad line.
-#[derive(Drop)]
+#[derive(Clone, Copy)]
 struct Records {
     good: bool,
     rows: Rows,
@@ -74,14 +74,14 @@ struct Records {
 }
 
 // A minute's line; where it is bad the window still begins with it.
-#[derive(Drop)]
+#[derive(Clone, Copy)]
 struct MinuteLine {
     number: Number,
     window: Window,
 }
 
 // Whether minutes' lines were all of the form, and the window behind them, or at the bad line.
-#[derive(Drop)]
+#[derive(Clone, Copy)]
 struct Minutes {
     good: bool,
     window: Window,

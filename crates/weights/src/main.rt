@@ -20,7 +20,7 @@ use transcript::reading::{Asked, Heard};
 use transcript::{answers, input, reading};
 
 // What the calls leave: a table and a station, each there or not.
-#[derive(Drop)]
+#[derive(Clone, Copy)]
 struct Kept {
     tabled: bool,
     table: Table,
@@ -29,14 +29,14 @@ struct Kept {
 }
 
 // What a call says, and what it leaves.
-#[derive(Drop)]
+#[derive(Clone, Copy)]
 struct After {
     answer: Answer,
     kept: Kept,
 }
 
 // What a line of the script leaves: the table and the station, the next place on the page, and whether the run goes on.
-#[derive(Drop)]
+#[derive(Clone, Copy)]
 struct Step {
     kept: Kept,
     at: usize,
