@@ -16,6 +16,7 @@ use script::YearLine;
 use station::records::Rows;
 use station::strides::Strides;
 use std::io;
+use std::io::Read;
 use transcript::reading::{Asked, Heard};
 use transcript::{answers, input, reading};
 
@@ -426,7 +427,8 @@ fn first() -> Step
 
 // Calls until the run ends. A proved loop has to end, and nothing says that the input does, so the calls are counted down from a number that no run uses up.
 fn run(
-    rt: &(impl Input + Print),
+    rt: &impl Print,
+    input: &mut impl Read,
     buffer: &mut [u8],
     series: &mut [i64],
     minutes: &mut [u32],
@@ -439,7 +441,7 @@ fn run(
     let mut window = input::start();
     let mut calls = u64::MAX;
     while 0 < calls && step.more {
-        let heard = reading::next_call(rt, buffer, window, minutes, heights.len())?;
+        let heard = reading::next_call(input, buffer, window, minutes, heights.len());
         let next = heard.window;
         window = next;
         step = answer_call(
@@ -480,6 +482,7 @@ fn main(rt: HostRuntime) -> io::Result<()> {
     let mut page = [0u8; 65536];
     run(
         &rt,
+        &mut rt.stdin(),
         &mut buffer,
         &mut series,
         &mut minutes,

@@ -284,7 +284,7 @@ fn latitude_at(line: &[u8], at: usize) -> Call
 fn is_word(word: &[u8], name: &[u8]) -> bool
     ensures { result ≡ same word.now name.now }
 {
-    check::same(word, name)
+    word == name
 }
 
 // The call of a word and of the numbers at a byte of a line.

@@ -16,6 +16,7 @@ use station::records::Rows;
 use station::strides::Strides;
 use station::{Station, strides};
 use std::io;
+use std::io::Read;
 use table::Table;
 use transcript::reading::{Asked, Heard};
 use transcript::{answers, input, reading};
@@ -241,14 +242,19 @@ fn answer_call(
 }
 
 // Calls until the run ends. A proved loop has to end, and nothing says that the input does, so the calls are counted down from a number that no run uses up.
-fn run(rt: &(impl Input + Print), buffer: &mut [u8], page: &mut [u8]) -> io::Result<()> {
+fn run(
+    rt: &impl Print,
+    input: &mut impl Read,
+    buffer: &mut [u8],
+    page: &mut [u8],
+) -> io::Result<()> {
     // No bookings are answered, so no place is lent for their minutes.
     let mut minutes = [0u32; 0];
     let mut step = left(nothing(), 0);
     let mut window = input::start();
     let mut calls = u64::MAX;
     while 0 < calls && step.more {
-        let heard = reading::next_call(rt, buffer, window, &mut minutes, 0)?;
+        let heard = reading::next_call(input, buffer, window, &mut minutes, 0);
         let next = heard.window;
         window = next;
         step = answer_call(rt, heard, step.kept, buffer, page, step.at)?;
@@ -268,5 +274,5 @@ fn input_buffer() -> [u8; 262144]
 fn main(rt: HostRuntime) -> io::Result<()> {
     let mut buffer = input_buffer();
     let mut page = [0u8; 65536];
-    run(&rt, &mut buffer, &mut page)
+    run(&rt, &mut rt.stdin(), &mut buffer, &mut page)
 }
