@@ -7,7 +7,7 @@ use limits::RECORDS;
 
 // One of a station's constituents, as it is lent: its place in the table, its amplitude and its phase lag.
 #[repr(C)]
-#[derive(Drop)]
+#[derive(Clone, Copy)]
 pub struct Record {
     pub place: u8,
     pub amplitude: u32,
@@ -15,7 +15,7 @@ pub struct Record {
 }
 
 // The records taken apart: an array for each field.
-#[derive(Drop)]
+#[derive(Clone, Copy)]
 pub struct Rows {
     pub places: [u8; RECORDS],
     pub amplitudes: [u32; RECORDS],

@@ -2,12 +2,9 @@
 use mathlib.Core.Path.{refl}
 use Rattle.table.specs.Table.{no_cards}
 use Rattle.table.specs.inner.View.{table_of, listed}
-use Rattle.table.proofs.no_cards.Statement.{statement}
-use Rattle.table.proofs.no_cards.Tie as tie
+use Rattle.table.proofs.no_cards.Goals as goal
 
-returns : tie.Need-returns
+pub returns : goal.returns
 unfolding table_of listed no_cards
-returns c = refl
-
-pub no-cards-spec : {M : Type 1} → statement M
-no-cards-spec = tie.close (tie.spec returns)
+returns c =
+    refl
