@@ -52,7 +52,7 @@ pub fn at_most(n: usize) -> usize
     if n < RECORDS { n } else { RECORDS }
 }
 
-// The records taken apart, the first 146 of them: the thin function over the lent slice of structs. Its proof is a walk by hand.
+// The records taken apart, the first 146 of them: the thin function over the lent slice of structs.
 pub fn rows_of(rs: &[Record]) -> Rows
     ensures { result ≡ rows_of rs.now }
 {
