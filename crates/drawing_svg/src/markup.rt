@@ -6,7 +6,7 @@ ghost use Rattle.drawing_svg.specs.Utf8.{is_from, size_from, second_low, second_
 ghost use Rattle.drawing_svg.specs.Escapes.{shown_as, written_of};
 
 // How a character is written: the first bytes of six.
-#[derive(Drop)]
+#[derive(Clone, Copy)]
 pub struct Character {
     pub bytes: [u8; 6],
     pub size: usize,
