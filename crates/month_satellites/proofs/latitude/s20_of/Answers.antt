@@ -20,8 +20,7 @@ use Rattle.month_satellites.specs.Latitude.{latitude_size, s20}
 use Rattle.month_satellites.specs.inner.Factors.{IsS20}
 use Rattle.month_satellites.proofs.latitude.Sine.{sine-first, sine-above}
 use Rattle.month_satellites.proofs.latitude.Sizes.{floored}
-use Rattle.month_satellites.proofs.latitude.s20_of.Statement.{statement}
-use Rattle.month_satellites.proofs.latitude.s20_of.Tie as tie
+use Rattle.month_satellites.proofs.latitude.s20_of.Goals as goal
 
 size-range : (l : ℤ) → (300 ≤ latitude_size l) × (latitude_size l ≤ 5400)
 unfolding latitude_size
@@ -53,34 +52,14 @@ module _ (l : ℤ) (sine q : ℤ) (m r : ℕ) (em : m ≡ latitude_size l) (es :
         high = omega (arith, er, (says (over sine q hs eq)).1);
       }
 
-minutes-requires : tie.Need-minutes-requires
-minutes-requires c κs = search rules
+pub overflow_mul-minutes : goal.overflow_mul-minutes
+overflow_mul-minutes c =
+    record { fits = omega (arith, c.minutes.ensures, size-range (to_z w32 (of_z w32 c.args.latitude))) }
 
-mul-wave : tie.Need-overflow-mul-wave
-mul-wave c = record { fits = omega (arith, c.minutes.ensures, size-range (to_z w32 (of_z w32 c.before.args.latitude))) }
-
-wave-requires : tie.Need-wave-requires
-wave-requires c κs = search rules
-
-floor-div-requires : tie.Need-floor-div-requires
-floor-div-requires c κs = search rules
-
-size-requires : tie.Need-size-requires
-size-requires c κs = search rules
-
-returns : tie.Need-returns
+pub returns : goal.returns
 returns c =
-    let s = c.before.before.before.before.before in
-    let l = to_z w32 (of_z w32 s.args.latitude) in
-    let w = c.before.before.before.wave in
-    let m = c.before.before.before.before.minutes in
-    let q = c.before.floor-div in (
-      result-is l w.result.sine q.result m.result c.size.result m.ensures w.ensures.1.0 w.ensures.1.1.1 q.ensures c.size.ensures
-          ∙ ap s20 (to_z-of_z w32 s.args.latitude s.ranges.latitude),
-      in-range l w.result.sine q.result m.result c.size.result m.ensures w.ensures.1.0 w.ensures.1.1.1 q.ensures c.size.ensures,
-    )
-
-pub s20-of-spec : {M : Type 1} → statement M
-s20-of-spec =
-    tie.close
-    (tie.spec minutes-requires mul-wave wave-requires floor-div-requires size-requires returns)
+    let l = to_z w32 (of_z w32 c.args.latitude) in record {
+      result_value = result-is l c.wave-w.result.sine c.floor_div.result c.minutes.result c.size.result c.minutes.ensures c.wave-w.ensures.sine_value c.wave-w.ensures.cosine_bound.1 c.floor_div.ensures c.size.ensures
+          ∙ ap s20 (to_z-of_z w32 c.args.latitude c.ranges.latitude);
+      s20 = in-range l c.wave-w.result.sine c.floor_div.result c.minutes.result c.size.result c.minutes.ensures c.wave-w.ensures.sine_value c.wave-w.ensures.cosine_bound.1 c.floor_div.ensures c.size.ensures;
+    }

@@ -12,8 +12,7 @@ use Rattle.angles.proofs.Known.{Known, plainly, cast, bounded, fits, kept, says,
 use Rattle.month_satellites.specs.Latitude.{diurnal_north}
 use Rattle.month_satellites.specs.inner.Factors.{IsS20}
 use Rattle.month_satellites.proofs.latitude.Sizes.{floored, apart-size}
-use Rattle.month_satellites.proofs.latitude.diurnal_north.Statement.{statement}
-use Rattle.month_satellites.proofs.latitude.diurnal_north.Tie as tie
+use Rattle.month_satellites.proofs.latitude.diurnal_north.Goals as goal
 
 module _ (s : ℕ) (h : IsS20 s) where
   square-small : s * s ≤ 2 ^ 40
@@ -31,44 +30,30 @@ module _ (s : ℕ) (h : IsS20 s) where
   above : Known (pos 36309 *ℤ held (pos (2 ^ 40) -ℤ to_z w64 (5 * (s * s)))) (pos 36309 *ℤ rest) (36309 * (2 ^ 24 * s))
   above = times (plainly (pos 36309) {A = 36309} (le_refl 36309)) (kept the_rest (omega (arith, h.high)))
 
-mul-square : tie.Need-overflow-mul-square
-mul-square c = record { fits = omega (arith, square-small c.args.s c.requires) }
+pub overflow_mul-square : goal.overflow_mul-square
+overflow_mul-square c =
+    record { fits = omega (arith, square-small c.args.s c.requires) }
 
-mul-square-2 : tie.Need-overflow-mul-square-2
-mul-square-2 c = record { fits = omega (arith, square-small c.args.s c.requires) }
+pub overflow_mul-square-2 : goal.overflow_mul-square-2
+overflow_mul-square-2 c =
+    record { fits = omega (arith, square-small c.args.s c.requires) }
 
-cast-rest : tie.Need-overflow-cast-rest
-cast-rest c = record { sfits = omega (arith, square-small c.args.s c.requires) }
+pub overflow_cast-rest : goal.overflow_cast-rest
+overflow_cast-rest c =
+    record { sfits = omega (arith, square-small c.args.s c.requires) }
 
-sub-rest : tie.Need-overflow-sub-rest
-sub-rest c = fits (the_rest c.args.s c.requires) (omega (arith, c.requires.high))
+pub overflow_sub-rest : goal.overflow_sub-rest
+overflow_sub-rest c =
+    fits (the_rest c.args.s c.requires) (omega (arith, c.requires.high))
 
-mul-floor-div : tie.Need-overflow-mul-floor-div
-mul-floor-div c = fits (above c.args.s c.requires) (omega (arith, c.requires.high))
+pub overflow_mul-rest : goal.overflow_mul-rest
+overflow_mul-rest c =
+    fits (above c.args.s c.requires) (omega (arith, c.requires.high))
 
-mul-floor-div-2 : tie.Need-overflow-mul-floor-div-2
-mul-floor-div-2 c = search rules
-
-floor-div-requires : tie.Need-floor-div-requires
-floor-div-requires c κs = search rules
-
-returns : tie.Need-returns
+pub returns : goal.returns
 unfolding diurnal_north
 returns c =
-    let s = c.before.args.s in
-    let h = c.before.requires in
-    let g = floored (2 ^ 23) (100000 * s) c.floor-div.ensures (kept (above s h) (omega (arith, h.high))) (omega (arith, h.low)) (omega arith) in
-    says (kept g (lit< tt))
-
-pub diurnal-north-spec : {M : Type 1} → statement M
-diurnal-north-spec =
-    tie.close
-    (tie.spec
-    mul-square
-    mul-square-2
-    cast-rest
-    sub-rest
-    mul-floor-div
-    mul-floor-div-2
-    floor-div-requires
-    returns)
+    let g = floored (2 ^ 23) (100000 * c.args.s) c.floor_div.ensures (kept (above c.args.s c.requires) (omega (arith, c.requires.high))) (omega (arith, c.requires.low)) (omega arith) in record {
+      value = (says (kept g (lit< tt))).0;
+      result_bound = (says (kept g (lit< tt))).1;
+    }
