@@ -8,7 +8,7 @@ use crate::asked::{series_outside, state_answer, turns_outside};
 use refusals::{Answer, Refusal};
 
 // A year, the start and the step of a series, the first and the last minute of a search; minutes are counted from 1 January.
-#[derive(Drop)]
+#[derive(Clone, Copy)]
 pub struct Sheet {
     pub year: u32,
     pub start: u32,

@@ -6,7 +6,7 @@ use limits::STEP;
 
 // The questions in the order in which they are asked: the start is past the month's last minute, the step out of range, the last height past
 // the month's last minute; or all is within.
-#[derive(Drop)]
+#[derive(Clone, Copy)]
 pub enum Reason {
     Within,
     Start,

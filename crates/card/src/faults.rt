@@ -7,7 +7,7 @@ use limits::COLUMNS;
 use refusals::Refusal;
 
 // What is at fault: a field of a card, its name, the card itself, or the file.
-#[derive(Drop)]
+#[derive(Clone, Copy)]
 pub enum What {
     File,
     Card,
@@ -33,7 +33,7 @@ pub enum What {
 }
 
 // What is wrong with it.
-#[derive(Drop)]
+#[derive(Clone, Copy)]
 pub enum Trouble {
     TooLong,
     BadByte,
@@ -61,7 +61,7 @@ pub enum Trouble {
 }
 
 // What is at fault, which of several, from 1 (0: there is one only), and what is wrong with it.
-#[derive(Drop)]
+#[derive(Clone, Copy)]
 pub struct Fault {
     pub what: What,
     pub which: usize,

@@ -19,7 +19,7 @@ pub const SHALLOW_NAME: usize = 6;
 pub const RATIO: u32 = 20_000;
 
 // A number field: what it holds and which of several, from 1 (0: there is one only); its first column, width and format; its range.
-#[derive(Drop)]
+#[derive(Clone, Copy)]
 pub struct NumberField {
     pub what: What,
     pub which: usize,
@@ -58,7 +58,7 @@ pub fn frequency() -> NumberField
 }
 
 // Part 2: its two cards of five numbers.
-#[derive(Drop)]
+#[derive(Clone, Copy)]
 pub enum FiveCard {
     Longitudes,
     Increases,
@@ -194,7 +194,7 @@ pub fn mark_column(j: usize) -> usize
 }
 
 // A row of small numbers: a main's six Doodson numbers, or the three differences of a card's satellite.
-#[derive(Drop)]
+#[derive(Clone, Copy)]
 pub enum Row {
     Doodson,
     Differences(usize),

@@ -19,28 +19,28 @@ use fields::{Field, Narrow};
 use formats::{NumberField, RATIO, Row, fault_in};
 
 // A small signed number of a card, or what is wrong with it.
-#[derive(Drop)]
+#[derive(Clone, Copy)]
 pub enum Small {
     Value(i8),
     Bad(Fault),
 }
 
 // A number of a card that is not below 0, or what is wrong with it.
-#[derive(Drop)]
+#[derive(Clone, Copy)]
 pub enum Natural {
     Value(u64),
     Bad(Fault),
 }
 
 // A satellite's ratio on a card, in ten-thousandths, or what is wrong with it.
-#[derive(Drop)]
+#[derive(Clone, Copy)]
 pub enum Ratio {
     Value(u32),
     Bad(Fault),
 }
 
 // Whether something on a card is as it should be, or what is wrong with it.
-#[derive(Drop)]
+#[derive(Clone, Copy)]
 pub enum Check {
     Clear,
     Bad(Fault),
@@ -95,7 +95,7 @@ pub fn ratio_on(line: &[u8], j: usize) -> Ratio
 }
 
 // Up to six small numbers.
-#[derive(Drop)]
+#[derive(Clone, Copy)]
 pub struct SmallRow {
     pub check: Check,
     pub values: [i8; 6],

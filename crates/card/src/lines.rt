@@ -36,14 +36,14 @@ pub fn after_line(file: &[u8], at: usize, width: usize) -> usize
 }
 
 // Where the reader stands behind a part, byte and line, or what is wrong on a line.
-#[derive(Drop)]
+#[derive(Clone, Copy)]
 pub enum Progress {
     Reached(usize, usize),
     Refused(Fault, usize),
 }
 
 // Whether a card ends its part, has fields to read, or is refused before them.
-#[derive(Drop)]
+#[derive(Clone, Copy)]
 pub enum Opening {
     Ends,
     Fields,

@@ -15,7 +15,7 @@ use crate::formats::part_name;
 use columns::names;
 
 // A place, or what is wrong with a name.
-#[derive(Drop)]
+#[derive(Clone, Copy)]
 pub enum Place {
     At(u16),
     Bad(Fault),

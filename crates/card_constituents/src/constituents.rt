@@ -23,7 +23,7 @@ use limits::SATELLITES_A_CARD;
 use table::{MAIN_ANGLES, MAIN_CARDS, SATELLITE_ANGLES, SATELLITE_RATIOS};
 
 // Where part 3 ends, and how many mains are stored.
-#[derive(Drop)]
+#[derive(Clone, Copy)]
 pub struct MainsRead {
     pub progress: Progress,
     pub mains: usize,

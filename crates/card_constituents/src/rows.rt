@@ -14,7 +14,7 @@ use card_mains::satellitecard::{at_most_three, satellite_card};
 use table::{MAIN_ANGLES, MAIN_CARDS, SATELLITE_ANGLES, SATELLITE_RATIOS};
 
 // Where part 3 is read: the byte at which line n starts, and how many mains and satellites are stored.
-#[derive(Drop)]
+#[derive(Clone, Copy)]
 pub struct Here {
     pub at: usize,
     pub n: usize,

@@ -12,7 +12,7 @@ use table::Table;
 
 // What a card file comes to: the counts of an accepted file, or the refusal's number and line.
 #[repr(C)]
-#[derive(Drop)]
+#[derive(Clone, Copy)]
 pub struct Counts {
     pub number: u32,
     pub line: usize,

@@ -23,14 +23,14 @@ use refusals::Answer;
 use table::{MAIN_ANGLES, MAIN_CARDS, SATELLITE_ANGLES, SATELLITE_RATIOS, Table};
 
 // Where the reading of a card file ends, and its table; or what is wrong, and on which line (the table is then free).
-#[derive(Drop)]
+#[derive(Clone, Copy)]
 pub struct Parsed {
     pub progress: Progress,
     pub table: Table,
 }
 
 // What a card file comes to, and its table where it is accepted (else it is free).
-#[derive(Drop)]
+#[derive(Clone, Copy)]
 pub struct Read {
     pub answer: Answer,
     pub table: Table,

@@ -19,7 +19,7 @@ use limits::FREQUENCIES;
 use table::NAMES;
 
 // What the next card of part 1 comes to: the part's end, a frequency, or a fault.
-#[derive(Drop)]
+#[derive(Clone, Copy)]
 pub enum FrequencyStep {
     Ends,
     Gives(u64),
@@ -67,7 +67,7 @@ fn put_name(names: &mut [u8; NAMES], place: usize, line: &[u8], from: usize)
 }
 
 // The frequencies that part 1 gives, and where it ends.
-#[derive(Drop)]
+#[derive(Clone, Copy)]
 pub struct Frequencies {
     pub progress: Progress,
     pub count: usize,

@@ -12,7 +12,7 @@ use card::lines::{Progress, after_line, line_at};
 use card::{Check, Natural, faults, formats, natural_field};
 
 // Five numbers that are not below 0.
-#[derive(Drop)]
+#[derive(Clone, Copy)]
 pub struct Five {
     pub check: Check,
     pub values: [u64; 5],
@@ -45,7 +45,7 @@ pub fn five_card(line: &[u8], card: FiveCard) -> Five
 }
 
 // What a card of five numbers gives, and where it ends.
-#[derive(Drop)]
+#[derive(Clone, Copy)]
 pub struct FiveRead {
     pub progress: Progress,
     pub values: [u64; 5],

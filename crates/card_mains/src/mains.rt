@@ -17,7 +17,7 @@ use card::{Check, Natural, Small, natural_field, small_field, small_row};
 use limits::{MAINS, SATELLITES};
 
 // What the next constituent card comes to: the part's end, a main with so many satellites, or a fault.
-#[derive(Drop)]
+#[derive(Clone, Copy)]
 pub enum MainStep {
     Ends,
     Gives(u16),
@@ -25,7 +25,7 @@ pub enum MainStep {
 }
 
 // That, with the main's place, and its Doodson numbers and phase.
-#[derive(Drop)]
+#[derive(Clone, Copy)]
 pub struct MainRead {
     pub step: MainStep,
     pub place: u16,

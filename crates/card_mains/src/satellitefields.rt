@@ -10,7 +10,7 @@ use card::formats::Row;
 use card::{Check, Ratio, Small, formats, ratio_on, small_field, small_row};
 
 // What a satellite's fields hold, or what is wrong with them.
-#[derive(Drop)]
+#[derive(Clone, Copy)]
 pub struct SatelliteRead {
     pub check: Check,
     pub differences: [i8; 6],

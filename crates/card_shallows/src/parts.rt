@@ -15,7 +15,7 @@ use card::faults::Fault;
 use card::places::{Place, main_named};
 
 // A part, its coefficient and its main's position, or what is wrong with it.
-#[derive(Drop)]
+#[derive(Clone, Copy)]
 pub enum PartRead {
     Gives(i8, u16),
     Bad(Fault),
@@ -44,7 +44,7 @@ fn part(
 }
 
 // What the next shallow-water card comes to: the part's end, a shallow constituent, or a fault.
-#[derive(Drop)]
+#[derive(Clone, Copy)]
 pub enum ShallowStep {
     Ends,
     Gives,
@@ -52,7 +52,7 @@ pub enum ShallowStep {
 }
 
 // That, with the constituent's row of a place, the count of its parts and four mains, and its row of coefficients.
-#[derive(Drop)]
+#[derive(Clone, Copy)]
 pub struct ShallowRead {
     pub step: ShallowStep,
     pub card: [u16; 6],

@@ -33,7 +33,7 @@ fn put_shallow(
 }
 
 // The shallow constituents that part 4 gives, and where it ends.
-#[derive(Drop)]
+#[derive(Clone, Copy)]
 pub struct Shallows {
     pub progress: Progress,
     pub count: usize,

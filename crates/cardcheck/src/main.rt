@@ -4,31 +4,31 @@
 
 use card_file::counts;
 use card_file::counts::Counts;
-use libc::STDOUT_FILENO;
+use std::io;
 
 // A number, with a blank before it.
-fn put(n: u64) {
-    io::write_all(STDOUT_FILENO, b" ");
-    io::print_decimal(STDOUT_FILENO, n);
+fn put(rt: &impl Print, n: u64) -> io::Result<()> {
+    rt.write_all(b" ")?;
+    rt.print(n)
 }
 
-fn report(counts: Counts) {
+fn report(rt: &impl Print, counts: Counts) -> io::Result<()> {
     if counts.number == 0 {
-        io::write_all(STDOUT_FILENO, b"accepted");
-        put(counts.frequencies as u64);
-        put(counts.mains as u64);
-        put(counts.satellites as u64);
-        put(counts.shallows as u64);
+        rt.write_all(b"accepted")?;
+        put(rt, counts.frequencies as u64)?;
+        put(rt, counts.mains as u64)?;
+        put(rt, counts.satellites as u64)?;
+        put(rt, counts.shallows as u64)?;
     } else {
-        io::write_all(STDOUT_FILENO, b"refused");
-        put(counts.number as u64);
-        put(counts.line as u64);
+        rt.write_all(b"refused")?;
+        put(rt, counts.number as u64)?;
+        put(rt, counts.line as u64)?;
     }
-    io::write_all(STDOUT_FILENO, b"\n");
+    rt.write_all(b"\n")
 }
 
-fn main() {
-    let mut file = io::large_buffer();
-    let n = io::read_full(0, &mut file);
-    report(counts::check_cards(&file[..n]));
+fn main(rt: HostRuntime) -> io::Result<()> {
+    let mut file = [0u8; 65536];
+    let n = files::read_full(&mut rt.stdin(), &mut file);
+    report(&rt, counts::check_cards(&file[..n]))
 }

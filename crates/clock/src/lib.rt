@@ -42,7 +42,7 @@ use turns::{Reach, Searched};
 
 // What the clock keeps. Only the calls below make or change one; all zeros are a clock without a table.
 #[repr(C)]
-#[derive(Drop)]
+#[derive(Clone, Copy)]
 pub struct Clock {
     cosines: [u32; ENTRIES],
     tabled: bool,
@@ -63,28 +63,28 @@ pub struct Clock {
 
 // The names of a table's frequencies, five bytes each by place, and how many there are.
 #[repr(C)]
-#[derive(Drop)]
+#[derive(Clone, Copy)]
 pub struct TableNames {
     pub count: usize,
     pub bytes: [u8; NAMES],
 }
 
 // What a call says, and the clock as it leaves it.
-#[derive(Drop)]
+#[derive(Clone, Copy)]
 pub struct After {
     pub answer: Answer,
     pub clock: Clock,
 }
 
 // A height, or a refusal.
-#[derive(Drop)]
+#[derive(Clone, Copy)]
 pub enum HeightAnswer {
     Height(i64),
     Refused(Refusal, usize),
 }
 
 // How many turns, and whether the first is high; or a refusal.
-#[derive(Drop)]
+#[derive(Clone, Copy)]
 pub enum TurnsAnswer {
     Turns(usize, bool),
     Refused(Refusal, usize),

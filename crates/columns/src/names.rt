@@ -5,7 +5,7 @@ ghost use Rattle.columns.specs.Columns.{padded, columns};
 ghost use Rattle.columns.specs.Names.{same, name_at, names_from, place_of};
 
 // Where a name stands among others.
-#[derive(Drop)]
+#[derive(Clone, Copy)]
 pub enum Found {
     At(usize),
     Nothing,

@@ -7,7 +7,7 @@ use fields::{Format, Narrow};
 use station::strides::Strides;
 
 // Three lengths, of any size: the clock says which it takes.
-#[derive(Drop)]
+#[derive(Clone, Copy)]
 pub enum Lengths {
     Three(Strides),
     NoLengths,

@@ -20,7 +20,7 @@ pub mod lengths; // a station's stride lengths
 pub mod times; // a time of day
 
 // What is asked: a view with its year, month and so on, bookings also with where their file's name begins; or what is wrong and the word that is.
-#[derive(Drop)]
+#[derive(Clone, Copy)]
 pub enum Asked {
     Help,
     Refusals,
@@ -39,7 +39,7 @@ pub enum Asked {
 }
 
 // What can be wrong with a command line.
-#[derive(Drop)]
+#[derive(Clone, Copy)]
 pub enum Wrong {
     NoCommand,
     NoOption,
@@ -54,7 +54,7 @@ pub enum Wrong {
 
 // What is asked, where the words begin that name the card file, the station file and the unit, and the station's strides, with where their
 // word begins, 0 where they are the usual ones.
-#[derive(Drop)]
+#[derive(Clone, Copy)]
 pub struct Request {
     pub asked: Asked,
     pub cards: usize,
@@ -65,7 +65,7 @@ pub struct Request {
 }
 
 // What a word is.
-#[derive(Drop)]
+#[derive(Clone, Copy)]
 enum Kind {
     Cards,
     Station,
@@ -80,7 +80,7 @@ enum Kind {
 // What is read so far: where the next word begins; how many plain words there are, and where the first eight begin, with what each is, as a
 // number (1), as a time (2) or as neither (0), and its value; the options' words, an option that is not known and one that has no value, each
 // 0 where there is none; where --csv stands, 0 where it does not.
-#[derive(Drop)]
+#[derive(Clone, Copy)]
 struct Parsed {
     at: usize,
     plain: usize,
@@ -98,7 +98,7 @@ struct Parsed {
 }
 
 // The commands.
-#[derive(Drop)]
+#[derive(Clone, Copy)]
 enum Command {
     Year,
     Month,
@@ -114,7 +114,7 @@ enum Command {
 
 // A command's form: the fewest and the most words, its own among them, all numbers but its own, a time at one place and a file's name at
 // another (0: there is none).
-#[derive(Drop)]
+#[derive(Clone, Copy)]
 struct Form {
     least: usize,
     most: usize,
@@ -123,7 +123,7 @@ struct Form {
 }
 
 // How words fit a form.
-#[derive(Drop)]
+#[derive(Clone, Copy)]
 enum Fit {
     Fits,
     Misfit(Wrong, usize),

@@ -5,7 +5,7 @@ ghost use Rattle.commandline.specs.Times.{time_of};
 use fields::{Format, Narrow};
 
 // The minute of the day that a word HH:MM is.
-#[derive(Drop)]
+#[derive(Clone, Copy)]
 pub enum Time {
     At(u32),
     NoTime,

@@ -11,7 +11,7 @@ pub use constants::ENTRIES;
 use constants::{COSINES, STEP, STEPS};
 
 // A cosine and a sine, in units of 2^-30.
-#[derive(Drop)]
+#[derive(Clone, Copy)]
 pub struct CosineAndSine {
     pub cosine: i64,
     pub sine: i64,

@@ -21,9 +21,12 @@ use station::records::Rows;
 use station::strides::Strides;
 use station_file::stationfile::StationCards;
 use station_file::{stationcards, stationfaults, stationfile};
+use std::env::FillError;
+use std::io;
+use std::rt::{Env, Files};
 
 // A file's length in its buffer, and whether it is there whole.
-#[derive(Drop)]
+#[derive(Clone, Copy)]
 struct Loaded {
     good: bool,
     bytes: usize,
@@ -39,15 +42,14 @@ fn put_defaults(words: &mut [u8]) {
 }
 
 // Puts argument i at a place of the row, ended by the 0 that stands behind it; gives the next place, or the row's end where it has no room.
-fn put_argument(words: &mut [u8], at: usize, i: usize) -> usize {
+fn put_argument(rt: &impl Env, words: &mut [u8], at: usize, i: usize) -> usize {
     if words.len() <= at {
         return words.len();
     }
     let room = &mut words[at..];
-    let bytes = os::arg(i, room);
-    if os::errno() != 0 {
+    let Ok(bytes) = rt.arg(i, room) else {
         return words.len();
-    }
+    };
     behind(words.len(), at, bytes)
 }
 
@@ -62,14 +64,20 @@ fn behind(length: usize, at: usize, bytes: usize) -> usize {
     at + bytes + 1
 }
 
+// Whether there is an argument i.
+fn has_argument(rt: &impl Env, i: usize) -> bool {
+    let mut byte = [0u8; 1];
+    !matches!(rt.arg(i, &mut byte), Err(FillError::NotPresent))
+}
+
 // Puts all arguments behind the default words; gives where they end.
-fn put_arguments(words: &mut [u8]) -> usize {
-    let count = os::arg_count();
+fn put_arguments(rt: &impl Env, words: &mut [u8]) -> usize {
     let mut at = commandline::ARGUMENTS;
-    let mut i: usize = 1;
-    while i < count {
-        at = put_argument(words, at, i);
-        i += 1;
+    for i in 1..usize::MAX {
+        if !has_argument(rt, i) {
+            break;
+        }
+        at = put_argument(rt, words, at, i);
     }
     at
 }
@@ -95,47 +103,47 @@ fn put_shown(words: &mut [u8]) {
 }
 
 // Opens a file: one that is named by default also where the program lies.
-fn open(name: &[u8], own: bool) -> i32 {
+fn open<R: Files + Env>(rt: &R, name: &[u8], own: bool) -> io::Result<R::File> {
     if own {
-        return files::open_own(name);
+        return files::open_own(rt, name);
     }
-    os::open_read(name)
+    files::open_read(rt, name)
 }
 
 // Says what a reading came to, where it did not come whole.
-fn is_whole(name: &[u8], end: End) -> bool {
+fn is_whole(rt: HostRuntime, name: &[u8], end: End) -> io::Result<bool> {
     match end {
-        End::Whole => true,
+        End::Whole => Ok(true),
         End::TooLarge => {
-            messages::too_large(name);
-            false
+            messages::too_large(rt, name)?;
+            Ok(false)
         }
-        End::Failed => {
-            os::fail(name);
-            false
+        End::Failed(error) => {
+            messages::failed(rt, name, error)?;
+            Ok(false)
         }
     }
 }
 
 // Reads the file that a word names into a buffer, or says why it cannot be had.
-fn load(words: &[u8], at: usize, buffer: &mut [u8]) -> Loaded {
+fn load(rt: HostRuntime, words: &[u8], at: usize, buffer: &mut [u8]) -> io::Result<Loaded> {
     let name = commandline::word(words, at);
-    let fd = open(name, at < commandline::ARGUMENTS);
-    if fd < 0 {
-        os::fail(name);
-        return Loaded {
-            good: false,
-            bytes: 0,
-        };
-    }
-    let reading = files::read_whole(fd, buffer);
-    let end = reading.end;
-    let good = is_whole(name, end);
-    libc::close(fd);
-    Loaded {
+    let mut file = match open(&rt, name, at < commandline::ARGUMENTS) {
+        Ok(file) => file,
+        Err(error) => {
+            messages::failed(rt, name, error)?;
+            return Ok(Loaded {
+                good: false,
+                bytes: 0,
+            });
+        }
+    };
+    let reading = files::read_whole(&mut file, buffer);
+    let good = is_whole(rt, name, reading.end)?;
+    Ok(Loaded {
         good,
         bytes: reading.bytes,
-    }
+    })
 }
 
 // A date: a day of a month, or day 0 for the whole month, month 0 for the whole year.
@@ -164,27 +172,41 @@ fn asked_date(asked: Asked) -> Date {
 }
 
 // What is asked of a year, of a clock with a station, or the clock's refusal; nothing is refused of any other.
-fn show_year(clock: Clock, face: Face, date: Date, asked: Asked) -> Answer
+fn show_year(
+    rt: HostRuntime,
+    clock: Clock,
+    face: Face,
+    date: Date,
+    asked: Asked,
+) -> io::Result<Answer>
     requires { Made clock }
 {
     match asked {
-        Asked::Year(_) => views::year(clock, face, date),
-        Asked::YearTable(_) => views::year_table(clock, face, date),
-        Asked::YearDrawing(_) => drawing::year(clock, face, date),
-        _ => Answer::Accepted,
+        Asked::Year(_) => views::year(rt, clock, face, date),
+        Asked::YearTable(_) => views::year_table(rt, clock, face, date),
+        Asked::YearDrawing(_) => drawing::year(rt, clock, face, date),
+        _ => Ok(Answer::Accepted),
     }
 }
 
 // The bookings of the file whose name begins at a byte of the words, of a clock that has prepared the month.
-fn show_bookings(clock: Clock, face: Face, date: Date, words: &[u8], at: usize)
+fn show_bookings(
+    rt: HostRuntime,
+    clock: Clock,
+    face: Face,
+    date: Date,
+    words: &[u8],
+    at: usize,
+) -> io::Result<()>
     requires { Made clock }
 {
-    let mut buffer = io::large_buffer();
-    let file = load(words, at, &mut buffer);
+    let mut buffer = [0u8; 65536];
+    let file = load(rt, words, at, &mut buffer)?;
     if !file.good {
-        return;
+        return Ok(());
     }
     views::bookings(
+        rt,
         clock,
         face,
         date,
@@ -195,35 +217,46 @@ fn show_bookings(clock: Clock, face: Face, date: Date, words: &[u8], at: usize)
 }
 
 // What is asked, of a clock that has prepared the month.
-fn show(clock: Clock, face: Face, date: Date, words: &[u8], asked: Asked)
+fn show(
+    rt: HostRuntime,
+    clock: Clock,
+    face: Face,
+    date: Date,
+    words: &[u8],
+    asked: Asked,
+) -> io::Result<()>
     requires { Made clock }
 {
     match asked {
-        Asked::Month(_, _) => views::month(clock, face, date),
-        Asked::Day(_, _, _, minute) => views::day(clock, face, date, minute),
-        Asked::Heights(_, _, step) => views::heights(clock, face, date, step),
+        Asked::Month(_, _) => views::month(rt, clock, face, date),
+        Asked::Day(_, _, _, minute) => views::day(rt, clock, face, date, minute),
+        Asked::Heights(_, _, step) => views::heights(rt, clock, face, date, step),
         Asked::Series(_, _, _, minute, step, count) => {
-            views::series(clock, face, date, minute, step, count)
+            views::series(rt, clock, face, date, minute, step, count)
         }
-        Asked::MonthDrawing(_, _) => drawing::month(clock, face, date),
-        Asked::DayDrawing(_, _, _) => drawing::day(clock, face, date),
-        Asked::Bookings(_, _, at) => show_bookings(clock, face, date, words, at),
-        Asked::Hourly(_, _, station) => views::hourly(clock, date, station),
-        _ => {}
+        Asked::MonthDrawing(_, _) => drawing::month(rt, clock, face, date),
+        Asked::DayDrawing(_, _, _) => drawing::day(rt, clock, face, date),
+        Asked::Bookings(_, _, at) => show_bookings(rt, clock, face, date, words, at),
+        Asked::Hourly(_, _, station) => views::hourly(rt, clock, date, station),
+        _ => Ok(()),
     }
 }
 
 // Says the refusal of a date: at a record of the station file, or by the year or the month.
-fn say_date(path: &[u8], date: Date, refusal: Refusal, place: usize) {
+fn say_date(
+    rt: HostRuntime,
+    path: &[u8],
+    date: Date,
+    refusal: Refusal,
+    place: usize,
+) -> io::Result<()> {
     if 0 < place {
-        messages::refused_plainly(path, line_of(place), refusal);
-        return;
+        return messages::refused_plainly(rt, path, line_of(place), refusal);
     }
     if calendar::in_range(1976, date.month) {
-        messages::refused_turns(b"year", date.year as u64, YEAR_TURNS, refusal);
-        return;
+        return messages::refused_turns(rt, b"year", date.year as u64, YEAR_TURNS, refusal);
     }
-    messages::refused_month(date.month, refusal)
+    messages::refused_month(rt, date.month, refusal)
 }
 
 // The name of the station file.
@@ -232,15 +265,22 @@ fn station_path(words: &[u8], request: Request) -> &[u8] {
 }
 
 // Shows what is asked of a year, of a clock with table and station, or says the refusal: at a record of the station file, or of the year.
-fn with_year(clock: Clock, face: Face, words: &[u8], request: Request)
+fn with_year(
+    rt: HostRuntime,
+    clock: Clock,
+    face: Face,
+    words: &[u8],
+    request: Request,
+) -> io::Result<()>
     requires { Made clock }
 {
     let asked = request.asked;
     let date = asked_date(asked);
-    let answer = show_year(clock, face, date, asked);
+    let answer = show_year(rt, clock, face, date, asked)?;
     match answer {
-        Answer::Accepted => {}
+        Answer::Accepted => Ok(()),
         Answer::Refused(refusal, place) => say_date(
+            rt,
             station_path(words, request),
             date_of(date.year, 1, 0),
             refusal,
@@ -250,7 +290,13 @@ fn with_year(clock: Clock, face: Face, words: &[u8], request: Request)
 }
 
 // Sets the date that is asked for, of a clock with table and station, and shows what is asked.
-fn with_date(clock: Clock, face: Face, words: &[u8], request: Request)
+fn with_date(
+    rt: HostRuntime,
+    clock: Clock,
+    face: Face,
+    words: &[u8],
+    request: Request,
+) -> io::Result<()>
     requires { Made clock }
 {
     let asked = request.asked;
@@ -258,23 +304,29 @@ fn with_date(clock: Clock, face: Face, words: &[u8], request: Request)
     let after = clock::set_date(clock, date.year, date.month);
     let answer = after.answer;
     match answer {
-        Answer::Accepted => show(after.clock, face, date, words, asked),
+        Answer::Accepted => show(rt, after.clock, face, date, words, asked),
         Answer::Refused(refusal, place) => {
-            say_date(station_path(words, request), date, refusal, place)
+            say_date(rt, station_path(words, request), date, refusal, place)
         }
     }
 }
 
 // Shows what is asked, of a clock with table and station.
-fn with_asked(clock: Clock, face: Face, words: &[u8], request: Request)
+fn with_asked(
+    rt: HostRuntime,
+    clock: Clock,
+    face: Face,
+    words: &[u8],
+    request: Request,
+) -> io::Result<()>
     requires { Made clock }
 {
     let asked = request.asked;
     match asked {
-        Asked::Year(_) => with_year(clock, face, words, request),
-        Asked::YearTable(_) => with_year(clock, face, words, request),
-        Asked::YearDrawing(_) => with_year(clock, face, words, request),
-        _ => with_date(clock, face, words, request),
+        Asked::Year(_) => with_year(rt, clock, face, words, request),
+        Asked::YearTable(_) => with_year(rt, clock, face, words, request),
+        Asked::YearDrawing(_) => with_year(rt, clock, face, words, request),
+        _ => with_date(rt, clock, face, words, request),
     }
 }
 
@@ -284,18 +336,30 @@ fn line_of(place: usize) -> usize {
 }
 
 // Says the clock's refusal of a station that was read: of its strides, or at a line of its file.
-fn say_station(words: &[u8], request: Request, rows: Rows, refusal: Refusal, place: usize) {
+fn say_station(
+    rt: HostRuntime,
+    words: &[u8],
+    request: Request,
+    rows: Rows,
+    refusal: Refusal,
+    place: usize,
+) -> io::Result<()> {
     if matters::of_strides(refusal) {
-        messages::refused_strides(commandline::word(words, request.lengths), refusal);
-        return;
+        return messages::refused_strides(rt, commandline::word(words, request.lengths), refusal);
     }
-    say_records(station_path(words, request), rows, refusal, place)
+    say_records(rt, station_path(words, request), rows, refusal, place)
 }
 
 // Says the clock's refusal of a station's latitude or records.
-fn say_records(path: &[u8], rows: Rows, refusal: Refusal, place: usize) {
+fn say_records(
+    rt: HostRuntime,
+    path: &[u8],
+    rows: Rows,
+    refusal: Refusal,
+    place: usize,
+) -> io::Result<()> {
     let fault = stationfaults::station_fault(refusal, place, rows);
-    messages::refused(path, line_of(place), fault, refusal)
+    messages::refused(rt, path, line_of(place), fault, refusal)
 }
 
 // What the sheets of a station stand on: what was read of it, its strides, and the two files' checksums.
@@ -325,23 +389,37 @@ fn face_of<'a>(ground: Ground, station: &'a [u8], unit: &'a [u8]) -> Face {
 }
 
 // What the clock says of a station, and then what is asked.
-fn with_clock(after: After, rows: Rows, face: Face, words: &[u8], request: Request)
+fn with_clock(
+    rt: HostRuntime,
+    after: After,
+    rows: Rows,
+    face: Face,
+    words: &[u8],
+    request: Request,
+) -> io::Result<()>
     requires { Made after.clock }
 {
     let answer = after.answer;
     match answer {
-        Answer::Accepted => with_asked(after.clock, face, words, request),
-        Answer::Refused(refusal, place) => { say_station(words, request, rows, refusal, place) }
+        Answer::Accepted => with_asked(rt, after.clock, face, words, request),
+        Answer::Refused(refusal, place) => { say_station(rt, words, request, rows, refusal, place) }
     }
 }
 
 // A station that was read, of a clock with a table.
-fn with_station(clock: Clock, read: StationCards, face: Face, words: &[u8], request: Request)
+fn with_station(
+    rt: HostRuntime,
+    clock: Clock,
+    read: StationCards,
+    face: Face,
+    words: &[u8],
+    request: Request,
+) -> io::Result<()>
     requires { Made clock }
 {
     let rows = read.rows;
     let after = clock::place_station(clock, read.latitude, request.strides, read.count, rows);
-    with_clock(after, rows, face, words, request)
+    with_clock(rt, after, rows, face, words, request)
 }
 
 // The station file's cards, by the names of the clock's table.
@@ -354,12 +432,13 @@ fn station_cards(clock: Clock, station: &[u8]) -> StationCards
 
 // The station file, of a clock with a table.
 fn with_table<'a>(
+    rt: HostRuntime,
     clock: Clock,
     words: &'a [u8],
     cards: &'a [u8],
     station: &'a [u8],
     request: Request,
-)
+) -> io::Result<()>
     requires { Made clock }
 {
     let read = station_cards(clock, station);
@@ -367,6 +446,7 @@ fn with_table<'a>(
     let fault = read.fault;
     match answer {
         Answer::Accepted => with_station(
+            rt,
             clock,
             read,
             face_of(
@@ -378,28 +458,41 @@ fn with_table<'a>(
             request,
         ),
         Answer::Refused(refusal, line) => {
-            messages::refused(station_path(words, request), line, fault, refusal)
+            messages::refused(rt, station_path(words, request), line, fault, refusal)
         }
     }
 }
 
 // Says the refusal of the card file at a line.
-fn say_cards<'a>(path: &'a [u8], cards: &'a [u8], line: usize, refusal: Refusal) {
+fn say_cards<'a>(
+    rt: HostRuntime,
+    path: &'a [u8],
+    cards: &'a [u8],
+    line: usize,
+    refusal: Refusal,
+) -> io::Result<()> {
     let check = reader::check_of(cards);
     match check {
-        Check::Clear => messages::refused_plainly(path, line, refusal),
-        Check::Bad(fault) => messages::refused(path, line, fault, refusal),
+        Check::Clear => messages::refused_plainly(rt, path, line, refusal),
+        Check::Bad(fault) => messages::refused(rt, path, line, fault, refusal),
     }
 }
 
 // What the clock says of the card file, and then the station file.
-fn with_cards<'a>(words: &'a [u8], cards: &'a [u8], station: &'a [u8], request: Request) {
+fn with_cards<'a>(
+    rt: HostRuntime,
+    words: &'a [u8],
+    cards: &'a [u8],
+    station: &'a [u8],
+    request: Request,
+) -> io::Result<()> {
     let after = clock::load_cards(clock::new(), cards);
     let answer = after.answer;
     match answer {
-        Answer::Accepted => with_table(after.clock, words, cards, station, request),
+        Answer::Accepted => with_table(rt, after.clock, words, cards, station, request),
         Answer::Refused(refusal, line) => {
             say_cards(
+                rt,
                 commandline::word(words, request.cards),
                 cards,
                 line,
@@ -410,18 +503,19 @@ fn with_cards<'a>(words: &'a [u8], cards: &'a [u8], station: &'a [u8], request: 
 }
 
 // The two files, and then what is asked.
-fn with_files(words: &[u8], request: Request) {
-    let mut cards = io::large_buffer();
-    let first = load(words, request.cards, &mut cards);
+fn with_files(rt: HostRuntime, words: &[u8], request: Request) -> io::Result<()> {
+    let mut cards = [0u8; 65536];
+    let first = load(rt, words, request.cards, &mut cards)?;
     if !first.good {
-        return;
+        return Ok(());
     }
-    let mut station = io::large_buffer();
-    let second = load(words, request.station, &mut station);
+    let mut station = [0u8; 65536];
+    let second = load(rt, words, request.station, &mut station)?;
     if !second.good {
-        return;
+        return Ok(());
     }
     with_cards(
+        rt,
         words,
         columns::part(&cards, 0, first.bytes),
         columns::part(&station, 0, second.bytes),
@@ -430,25 +524,24 @@ fn with_files(words: &[u8], request: Request) {
 }
 
 // What is asked, of the words.
-fn run(words: &[u8]) {
+fn run(rt: HostRuntime, words: &[u8]) -> io::Result<()> {
     let request = commandline::parse(words);
     let asked = request.asked;
     match asked {
-        Asked::Help => help::write_help(),
-        Asked::Refusals => messages::list_refusals(),
-        Asked::Wrong(wrong, at) => messages::wrong_word(commandline::word(words, at), wrong),
-        _ => with_files(words, request),
+        Asked::Help => help::write_help(&rt),
+        Asked::Refusals => messages::list_refusals(rt),
+        Asked::Wrong(wrong, at) => messages::wrong_word(rt, commandline::word(words, at), wrong),
+        _ => with_files(rt, words, request),
     }
 }
 
-fn main() {
-    let mut words = io::buffer();
+fn main(rt: HostRuntime) -> io::Result<()> {
+    let mut words = [0u8; 4096];
     put_defaults(&mut words);
-    let end = put_arguments(&mut words);
+    let end = put_arguments(&rt, &mut words);
     put_shown(&mut words);
     if 4_096 <= end {
-        messages::too_long();
-        return;
+        return messages::too_long(rt);
     }
-    run(columns::part(&words, 0, end))
+    run(rt, columns::part(&words, 0, end))
 }

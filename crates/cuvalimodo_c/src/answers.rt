@@ -11,7 +11,7 @@ use refusals::Answer;
 
 // What a call says: number 0 where it is accepted, else the refusal's number and place.
 #[repr(C)]
-#[derive(Drop)]
+#[derive(Clone, Copy)]
 pub struct Verdict {
     pub number: u32,
     pub place: usize,
@@ -19,7 +19,7 @@ pub struct Verdict {
 
 // A height, with number 0; or the refusal's number and place.
 #[repr(C)]
-#[derive(Drop)]
+#[derive(Clone, Copy)]
 pub struct Reading {
     pub number: u32,
     pub place: usize,
@@ -28,7 +28,7 @@ pub struct Reading {
 
 // What a search for turns comes to: how many, and whether the first is high, with number 0; or the refusal's number and place.
 #[repr(C)]
-#[derive(Drop)]
+#[derive(Clone, Copy)]
 pub struct Turnings {
     pub number: u32,
     pub place: usize,
@@ -38,7 +38,7 @@ pub struct Turnings {
 
 // How many bytes a month's hourly cards take, with number 0; or the refusal's number and place.
 #[repr(C)]
-#[derive(Drop)]
+#[derive(Clone, Copy)]
 pub struct Cards {
     pub number: u32,
     pub place: usize,
@@ -47,7 +47,7 @@ pub struct Cards {
 
 // The words of a refusal, with zeros behind them: a C string.
 #[repr(C)]
-#[derive(Drop)]
+#[derive(Clone, Copy)]
 pub struct Text {
     pub text: [u8; 64],
 }

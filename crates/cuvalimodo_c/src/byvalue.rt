@@ -15,7 +15,7 @@ use station::records::Rows;
 use station::strides::Strides;
 
 // What a call says, and the clock as it leaves it.
-#[derive(Drop)]
+#[derive(Clone, Copy)]
 pub struct Left {
     pub verdict: Verdict,
     pub clock: Clock,

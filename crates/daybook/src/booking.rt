@@ -9,7 +9,7 @@ use commandline::times::Time;
 use digits::dates;
 
 // What a line is: a booking, at a minute of the month, or none.
-#[derive(Drop)]
+#[derive(Clone, Copy)]
 pub enum Booking {
     At(u32),
     NoBooking,

@@ -15,7 +15,7 @@ pub const FILE: usize = 65_536;
 pub const PLACES: usize = FILE / 8;
 
 // What a file comes to: so many bookings, or the number of the first line that is none.
-#[derive(Drop)]
+#[derive(Clone, Copy)]
 pub enum Reading {
     Bookings(usize),
     NoBooking(usize),

@@ -7,7 +7,7 @@ ghost use Rattle.digits.specs.Texts.{trimmed, names_greenwich, greenwich};
 pub fn same<'a>(a: &'a [u8], b: &'a [u8]) -> bool
     ensures { result ≡ same a.now b.now }
 {
-    check::same(a, b)
+    a == b
 }
 
 // How long a text is without the blanks at its end.

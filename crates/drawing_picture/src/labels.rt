@@ -1,25 +1,42 @@
 // A high or low water on a plot: the mark on the curve, and the label with time or day and height in a lane above or below.
-ghost use Rattle.std.specs.Prelude.{◌≤◌, length};
+ghost use Rattle.std.specs.Prelude.{◌≤◌, length, IfOk};
 
 use drawing_plots::sizes;
 use drawing_plots::spots::Spot;
 use drawing_svg::svg;
 use page::figures;
+use std::io;
 
 // Puts the height under a label's time, a line further down.
-fn put_second(page: &mut [u8], at: usize, x: u64, line: u64, height: i64) -> usize
-    ensures { result ≤ length page.old }
+fn put_second(
+    rt: &impl Print,
+    page: &mut [u8],
+    at: usize,
+    x: u64,
+    line: u64,
+    height: i64,
+) -> io::Result<usize>
+    ensures { IfOk result (λ next. next ≤ length page.old) }
 {
-    let start = svg::put_form(page, at, b"<tspan x=\"@\" dy=\"$\">", x, line, 0, 0);
-    let end = figures::put_height(page, start, height, 0);
-    svg::put_plain(page, end, b"</tspan></text>\n")
+    let start = svg::put_form(rt, page, at, b"<tspan x=\"@\" dy=\"$\">", x, line, 0, 0)?;
+    let end = figures::put_height(rt, page, start, height, 0)?;
+    svg::put_plain(rt, page, end, b"</tspan></text>\n")
 }
 
 // Puts a label: the time, and the height under it.
-fn put_label(page: &mut [u8], at: usize, spot: Spot, line: u64, minute: u32, height: i64) -> usize
-    ensures { result ≤ length page.old }
+fn put_label(
+    rt: &impl Print,
+    page: &mut [u8],
+    at: usize,
+    spot: Spot,
+    line: u64,
+    minute: u32,
+    height: i64,
+) -> io::Result<usize>
+    ensures { IfOk result (λ next. next ≤ length page.old) }
 {
     let start = svg::put_form(
+        rt,
         page,
         at,
         b"<text x=\"@\" y=\"$\">",
@@ -27,17 +44,25 @@ fn put_label(page: &mut [u8], at: usize, spot: Spot, line: u64, minute: u32, hei
         spot.down,
         0,
         0,
-    );
-    let time = figures::put_clock(page, start, minute);
-    put_second(page, time, spot.middle, line, height)
+    )?;
+    let time = figures::put_clock(rt, page, start, minute)?;
+    put_second(rt, page, time, spot.middle, line, height)
 }
 
 // Puts the thin line from a mark towards its label, and the mark: full at high water, open at low water.
-fn put_dot(page: &mut [u8], at: usize, spot: Spot, size: u64, high: bool) -> usize
-    ensures { result ≤ length page.old }
+fn put_dot(
+    rt: &impl Print,
+    page: &mut [u8],
+    at: usize,
+    spot: Spot,
+    size: u64,
+    high: bool,
+) -> io::Result<usize>
+    ensures { IfOk result (λ next. next ≤ length page.old) }
 {
     if high {
         return svg::put_form(
+            rt,
             page,
             at,
             b"<path d=\"M@ $V~\" stroke=\"#999\" stroke-width=\"5\"/>\n<circle cx=\"@\" cy=\"$\" r=\"^\" fill=\"#0b4f8a\" stroke=\"#0b4f8a\" stroke-width=\"10\"/>\n",
@@ -48,6 +73,7 @@ fn put_dot(page: &mut [u8], at: usize, spot: Spot, size: u64, high: bool) -> usi
         );
     }
     svg::put_form(
+        rt,
         page,
         at,
         b"<path d=\"M@ $V~\" stroke=\"#999\" stroke-width=\"5\"/>\n<circle cx=\"@\" cy=\"$\" r=\"^\" fill=\"#fff\" stroke=\"#0b4f8a\" stroke-width=\"10\"/>\n",
@@ -60,6 +86,7 @@ fn put_dot(page: &mut [u8], at: usize, spot: Spot, size: u64, high: bool) -> usi
 
 // Puts a turn's mark, and its label where it got a lane.
 pub fn put_mark(
+    rt: &impl Print,
     page: &mut [u8],
     at: usize,
     spot: Spot,
@@ -67,19 +94,28 @@ pub fn put_mark(
     minute: u32,
     height: i64,
     high: bool,
-) -> usize
-    ensures { result ≤ length page.old }
+) -> io::Result<usize>
+    ensures { IfOk result (λ next. next ≤ length page.old) }
 {
-    let next = put_dot(page, at, spot, text as u64 / 3, high);
+    let next = put_dot(rt, page, at, spot, text as u64 / 3, high)?;
     let placed = spot.placed;
     if 1 < placed.lane {
-        return next;
+        return Ok(next);
     }
-    put_label(page, next, spot, sizes::line(text) as u64, minute, height)
+    put_label(
+        rt,
+        page,
+        next,
+        spot,
+        sizes::line(text) as u64,
+        minute,
+        height,
+    )
 }
 
 // Puts the mark of a turn on a day of its month, and its label where it got a lane: the day, and the height under it.
 pub fn put_day_mark(
+    rt: &impl Print,
     page: &mut [u8],
     at: usize,
     spot: Spot,
@@ -87,15 +123,16 @@ pub fn put_day_mark(
     day: u32,
     height: i64,
     high: bool,
-) -> usize
-    ensures { result ≤ length page.old }
+) -> io::Result<usize>
+    ensures { IfOk result (λ next. next ≤ length page.old) }
 {
-    let next = put_dot(page, at, spot, text as u64 / 3, high);
+    let next = put_dot(rt, page, at, spot, text as u64 / 3, high)?;
     let placed = spot.placed;
     if 1 < placed.lane {
-        return next;
+        return Ok(next);
     }
     let start = svg::put_form(
+        rt,
         page,
         next,
         b"<text x=\"@\" y=\"$\">~",
@@ -103,6 +140,13 @@ pub fn put_day_mark(
         spot.down,
         day as u64,
         0,
-    );
-    put_second(page, start, spot.middle, sizes::line(text) as u64, height)
+    )?;
+    put_second(
+        rt,
+        page,
+        start,
+        spot.middle,
+        sizes::line(text) as u64,
+        height,
+    )
 }

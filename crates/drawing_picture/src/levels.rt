@@ -1,44 +1,70 @@
 // The height axis of a plot: a line for each round height, with its figure.
-ghost use Rattle.std.specs.Prelude.{◌≤◌, length};
+ghost use Rattle.std.specs.Prelude.{◌≤◌, length, IfOk};
 
 use drawing_plots::scale::Plot;
 use drawing_plots::spots::Level;
 use drawing_plots::{scale, spots};
 use drawing_svg::svg;
+use std::io;
 
 // Puts the decimals that the multiples of a step have, of a number of hundredths: none, one or two.
-fn put_decimals(page: &mut [u8], at: usize, hundredths: u64, step: u32) -> usize {
+fn put_decimals(
+    rt: &impl Print,
+    page: &mut [u8],
+    at: usize,
+    hundredths: u64,
+    step: u32,
+) -> io::Result<usize> {
     if step % 10_000 == 0 {
-        return at;
+        return Ok(at);
     }
-    let tenth = svg::put_form(page, at, b".@", hundredths / 10, 0, 0, 0);
+    let tenth = svg::put_form(rt, page, at, b".@", hundredths / 10, 0, 0, 0)?;
     if step % 1_000 == 0 {
-        return tenth;
+        return Ok(tenth);
     }
-    output::put_number(page, tenth, hundredths % 10)
+    output::put_number(rt, page, tenth, hundredths % 10)
 }
 
 // Puts the size of a height in metres.
-fn put_size(page: &mut [u8], at: usize, size: u32, step: u32) -> usize {
-    let whole = output::put_number(page, at, size as u64 / 10_000);
-    put_decimals(page, whole, size as u64 / 100 % 100, step)
+fn put_size(
+    rt: &impl Print,
+    page: &mut [u8],
+    at: usize,
+    size: u32,
+    step: u32,
+) -> io::Result<usize> {
+    let whole = output::put_number(rt, page, at, size as u64 / 10_000)?;
+    put_decimals(rt, page, whole, size as u64 / 100 % 100, step)
 }
 
 // Puts the height of a line, which is a raised height.
-fn put_height(page: &mut [u8], at: usize, line: u32, step: u32) -> usize {
+fn put_height(
+    rt: &impl Print,
+    page: &mut [u8],
+    at: usize,
+    line: u32,
+    step: u32,
+) -> io::Result<usize> {
     if line < scale::ZERO {
-        let next = output::put(page, at, b'-');
-        return put_size(page, next, scale::ZERO - line, step);
+        let next = output::put(rt, page, at, b'-')?;
+        return put_size(rt, page, next, scale::ZERO - line, step);
     }
-    put_size(page, at, line - scale::ZERO, step)
+    put_size(rt, page, at, line - scale::ZERO, step)
 }
 
 // Puts the line of a height across a plot, darker at zero.
-fn put_line(page: &mut [u8], at: usize, level: Level, zero: bool) -> usize
-    ensures { result ≤ length page.old }
+fn put_line(
+    rt: &impl Print,
+    page: &mut [u8],
+    at: usize,
+    level: Level,
+    zero: bool,
+) -> io::Result<usize>
+    ensures { IfOk result (λ next. next ≤ length page.old) }
 {
     if zero {
         return svg::put_form(
+            rt,
             page,
             at,
             b"<path d=\"M@ $H~\" stroke=\"#777\" stroke-width=\"8\"/>\n",
@@ -49,6 +75,7 @@ fn put_line(page: &mut [u8], at: usize, level: Level, zero: bool) -> usize
         );
     }
     svg::put_form(
+        rt,
         page,
         at,
         b"<path d=\"M@ $H~\" stroke=\"#ccc\" stroke-width=\"6\"/>\n",
@@ -60,10 +87,18 @@ fn put_line(page: &mut [u8], at: usize, level: Level, zero: bool) -> usize
 }
 
 // Puts the height at the left of its line.
-fn put_figure(page: &mut [u8], at: usize, level: Level, line: u32, step: u32) -> usize
-    ensures { result ≤ length page.old }
+fn put_figure(
+    rt: &impl Print,
+    page: &mut [u8],
+    at: usize,
+    level: Level,
+    line: u32,
+    step: u32,
+) -> io::Result<usize>
+    ensures { IfOk result (λ next. next ≤ length page.old) }
 {
     let start = svg::put_form(
+        rt,
         page,
         at,
         b"<text x=\"@\" y=\"$\">",
@@ -71,18 +106,24 @@ fn put_figure(page: &mut [u8], at: usize, level: Level, line: u32, step: u32) ->
         level.base,
         0,
         0,
-    );
-    let end = put_height(page, start, line, step);
-    svg::put_plain(page, end, b"</text>\n")
+    )?;
+    let end = put_height(rt, page, start, line, step)?;
+    svg::put_plain(rt, page, end, b"</text>\n")
 }
 
 // Puts a line of a scale with its height.
-fn put_level(page: &mut [u8], at: usize, plot: Plot, line: u32) -> usize
-    ensures { result ≤ length page.old }
+fn put_level(
+    rt: &impl Print,
+    page: &mut [u8],
+    at: usize,
+    plot: Plot,
+    line: u32,
+) -> io::Result<usize>
+    ensures { IfOk result (λ next. next ≤ length page.old) }
 {
     let level = spots::level_of(plot, line);
-    let next = put_line(page, at, level, line == scale::ZERO);
-    put_figure(page, next, level, line, plot.step)
+    let next = put_line(rt, page, at, level, line == scale::ZERO)?;
+    put_figure(rt, page, next, level, line, plot.step)
 }
 
 // The next line, a step higher.
@@ -107,10 +148,11 @@ fn is_within(plot: Plot, line: u64) -> bool {
 }
 
 // Puts the lines of a plot. It has fewer than 32.
-pub fn put_scale(page: &mut [u8], at: usize, plot: Plot) -> usize
-    ensures { result ≤ length page.old }
+pub fn put_scale(rt: &impl Print, page: &mut [u8], at: usize, plot: Plot) -> io::Result<usize>
+    ensures { IfOk result (λ next. next ≤ length page.old) }
 {
     let mut next = svg::put_form(
+        rt,
         page,
         at,
         b"<g text-anchor=\"end\" font-size=\"@\">\n",
@@ -118,13 +160,13 @@ pub fn put_scale(page: &mut [u8], at: usize, plot: Plot) -> usize
         0,
         0,
         0,
-    );
+    )?;
     let mut line = plot.low;
     let mut left: u32 = 32;
     while 0 < left && is_within(plot, line) {
-        next = put_level(page, next, plot, raised_line(line));
+        next = put_level(rt, page, next, plot, raised_line(line))?;
         line = next_line(line, plot.step);
         left -= 1;
     }
-    svg::end_group(page, next)
+    svg::end_group(rt, page, next)
 }

@@ -1,10 +1,11 @@
 // What a drawing says on its face: the station, the date, the times' zone, the heights' unit, and what it stands on.
-ghost use Rattle.std.specs.Prelude.{◌≤◌, length};
+ghost use Rattle.std.specs.Prelude.{◌≤◌, length, IfOk};
 
 use drawing_svg::svg;
 use page::face;
 use page::face::{Face, Ground};
 use page::shown::Date;
+use std::io;
 
 // The width of a drawing, and where its text and its plots begin; ten units make a pixel.
 const WIDTH: u64 = 9_700;
@@ -12,10 +13,11 @@ const WIDTH: u64 = 9_700;
 const LEFT: u64 = 700;
 
 // Begins a drawing of a height, with its white ground.
-pub fn put_start(page: &mut [u8], at: usize, height: u64) -> usize
-    ensures { result ≤ length page.old }
+pub fn put_start(rt: &impl Print, page: &mut [u8], at: usize, height: u64) -> io::Result<usize>
+    ensures { IfOk result (λ next. next ≤ length page.old) }
 {
     svg::put_form(
+        rt,
         page,
         at,
         b"<svg xmlns=\"http://www.w3.org/2000/svg\" width=\"@\" height=\"$\" viewBox=\"0 0 ~ ^\" font-family=\"Helvetica, Arial, sans-serif\" fill=\"#111\">\n<rect width=\"100%\" height=\"100%\" fill=\"#fff\"/>\n",
@@ -27,37 +29,59 @@ pub fn put_start(page: &mut [u8], at: usize, height: u64) -> usize
 }
 
 // Puts a form with two numbers, and text behind it.
-fn put_lead<'a>(page: &mut [u8], at: usize, form: &'a [u8], a: u64, b: u64, text: &'a [u8]) -> usize
-    ensures { result ≤ length page.old }
+fn put_lead<'a>(
+    rt: &impl Print,
+    page: &mut [u8],
+    at: usize,
+    form: &'a [u8],
+    a: u64,
+    b: u64,
+    text: &'a [u8],
+) -> io::Result<usize>
+    ensures { IfOk result (λ next. next ≤ length page.old) }
 {
-    let next = svg::put_form(page, at, form, a, b, 0, 0);
-    svg::put_escaped(page, next, text)
+    let next = svg::put_form(rt, page, at, form, a, b, 0, 0)?;
+    svg::put_escaped(rt, page, next, text)
 }
 
 // Puts the day, where it is not 0.
-fn put_day(page: &mut [u8], at: usize, day: u32) -> usize {
+fn put_day(rt: &impl Print, page: &mut [u8], at: usize, day: u32) -> io::Result<usize> {
     if day == 0 {
-        return at;
+        return Ok(at);
     }
-    svg::put_form(page, at, b"@ ", day as u64, 0, 0, 0)
+    svg::put_form(rt, page, at, b"@ ", day as u64, 0, 0, 0)
 }
 
 // Puts a form with a number, and behind it the day, where it is not 0, the month, where it is not 0, and the year.
-fn put_dated(page: &mut [u8], at: usize, form: &[u8], a: u64, date: Date) -> usize {
-    let next = svg::put_form(page, at, form, a, 0, 0, 0);
-    let day = put_day(page, next, date.day);
-    face::put_month(page, day, date)
+fn put_dated(
+    rt: &impl Print,
+    page: &mut [u8],
+    at: usize,
+    form: &[u8],
+    a: u64,
+    date: Date,
+) -> io::Result<usize> {
+    let next = svg::put_form(rt, page, at, form, a, 0, 0, 0)?;
+    let day = put_day(rt, page, next, date.day)?;
+    face::put_month(rt, page, day, date)
 }
 
 // Puts the title that a reader of the file sees: the station and when.
-fn put_title(page: &mut [u8], at: usize, name: &[u8], date: Date) -> usize {
-    let next = put_lead(page, at, b"<title>", 0, 0, name);
-    put_dated(page, next, b", ", 0, date)
+fn put_title(
+    rt: &impl Print,
+    page: &mut [u8],
+    at: usize,
+    name: &[u8],
+    date: Date,
+) -> io::Result<usize> {
+    let next = put_lead(rt, page, at, b"<title>", 0, 0, name)?;
+    put_dated(rt, page, next, b", ", 0, date)
 }
 
 // Puts the title's end, and the station's name, large.
-fn put_name(page: &mut [u8], at: usize, name: &[u8]) -> usize {
+fn put_name(rt: &impl Print, page: &mut [u8], at: usize, name: &[u8]) -> io::Result<usize> {
     put_lead(
+        rt,
         page,
         at,
         b"</title>\n<text x=\"@\" y=\"400\" font-size=\"260\" font-weight=\"bold\">",
@@ -68,58 +92,73 @@ fn put_name(page: &mut [u8], at: usize, name: &[u8]) -> usize {
 }
 
 // Puts the date.
-fn put_date(page: &mut [u8], at: usize, date: Date) -> usize {
+fn put_date(rt: &impl Print, page: &mut [u8], at: usize, date: Date) -> io::Result<usize> {
     let next = put_dated(
+        rt,
         page,
         at,
         b"</text>\n<text x=\"@\" y=\"660\" font-size=\"160\">",
         LEFT,
         date,
-    );
-    svg::put_plain(page, next, b"; times ")
+    )?;
+    svg::put_plain(rt, page, next, b"; times ")
 }
 
 // Puts what the times are: GMT, or the station file's own zone.
-fn put_zone(page: &mut [u8], at: usize, zone: &[u8]) -> usize {
+fn put_zone(rt: &impl Print, page: &mut [u8], at: usize, zone: &[u8]) -> io::Result<usize> {
     if face::is_greenwich(zone) {
-        return svg::put_plain(page, at, b"GMT");
+        return svg::put_plain(rt, page, at, b"GMT");
     }
-    let next = svg::put_escaped(page, at, face::trimmed(zone));
-    svg::put_plain(page, next, b" (the station file's zone)")
+    let next = svg::put_escaped(rt, page, at, face::trimmed(zone))?;
+    svg::put_plain(rt, page, next, b" (the station file's zone)")
 }
 
 // Puts the heights' unit.
-fn put_unit(page: &mut [u8], at: usize, unit: &[u8]) -> usize
-    ensures { result ≤ length page.old }
+fn put_unit(rt: &impl Print, page: &mut [u8], at: usize, unit: &[u8]) -> io::Result<usize>
+    ensures { IfOk result (λ next. next ≤ length page.old) }
 {
-    let next = put_lead(page, at, b"; heights in ", 0, 0, unit);
-    svg::put_plain(page, next, b"</text>\n")
+    let next = put_lead(rt, page, at, b"; heights in ", 0, 0, unit)?;
+    svg::put_plain(rt, page, next, b"</text>\n")
 }
 
 // Puts the head of a drawing: its title, the station's name, the date, the times' zone and the heights' unit.
-pub fn put_head(page: &mut [u8], at: usize, face: Face, date: Date) -> usize
-    ensures { result ≤ length page.old }
+pub fn put_head(
+    rt: &impl Print,
+    page: &mut [u8],
+    at: usize,
+    face: Face,
+    date: Date,
+) -> io::Result<usize>
+    ensures { IfOk result (λ next. next ≤ length page.old) }
 {
-    let a = put_title(page, at, face::trimmed(&face.name), date);
-    let b = put_name(page, a, face::trimmed(&face.name));
-    let c = put_date(page, b, date);
-    let d = put_zone(page, c, &face.zone);
-    put_unit(page, d, face::first(&face.unit, face.unit_bytes))
+    let a = put_title(rt, page, at, face::trimmed(&face.name), date)?;
+    let b = put_name(rt, page, a, face::trimmed(&face.name))?;
+    let c = put_date(rt, page, b, date)?;
+    let d = put_zone(rt, page, c, &face.zone)?;
+    put_unit(rt, page, d, face::first(&face.unit, face.unit_bytes))
 }
 
 // Puts how the drawing is read, what it stands on, and its end.
-pub fn put_foot(page: &mut [u8], at: usize, top: u64, key: &[u8], ground: Ground) -> usize
-    ensures { result ≤ length page.old }
+pub fn put_foot(
+    rt: &impl Print,
+    page: &mut [u8],
+    at: usize,
+    top: u64,
+    key: &[u8],
+    ground: Ground,
+) -> io::Result<usize>
+    ensures { IfOk result (λ next. next ≤ length page.old) }
 {
     let a = put_lead(
+        rt,
         page,
         at,
         b"<text x=\"@\" y=\"$\" font-size=\"115\" fill=\"#444\">",
         LEFT,
         top,
         key,
-    );
-    let b = svg::put_form(page, a, b"<tspan x=\"@\" dy=\"170\">", LEFT, 0, 0, 0);
-    let c = face::put_ground(page, b, ground);
-    svg::put_plain(page, c, b"</tspan></text>\n</svg>\n")
+    )?;
+    let b = svg::put_form(rt, page, a, b"<tspan x=\"@\" dy=\"170\">", LEFT, 0, 0, 0)?;
+    let c = face::put_ground(rt, page, b, ground)?;
+    svg::put_plain(rt, page, c, b"</tspan></text>\n</svg>\n")
 }

@@ -38,14 +38,14 @@ const ROUND: [u32; 22] = [
 ];
 
 // The lowest and the highest of some raised heights.
-#[derive(Drop)]
+#[derive(Clone, Copy)]
 pub struct Extent {
     pub low: u32,
     pub high: u32,
 }
 
 // The lines of a height axis: raised heights from the lowest line to the highest, a round step apart.
-#[derive(Drop)]
+#[derive(Clone, Copy)]
 pub struct Scale {
     pub low: u64,
     pub high: u64,
@@ -54,7 +54,7 @@ pub struct Scale {
 
 // A part of the drawing, in units of the drawing: its minutes go across it from its left, raised heights up it from its foot, where its
 // lowest line is; its lines are a step apart. With the size of its text, and the first and the last minute of the month that belong to it.
-#[derive(Drop)]
+#[derive(Clone, Copy)]
 pub struct Plot {
     pub left: u16,
     pub width: u16,
@@ -70,14 +70,14 @@ pub struct Plot {
 }
 
 // From where on the two lanes for labels are free.
-#[derive(Drop)]
+#[derive(Clone, Copy)]
 pub struct Lanes {
     pub first: u64,
     pub second: u64,
 }
 
 // The lane that a label got, 0 or 1, or 2 where it got none; and the lanes after it.
-#[derive(Drop)]
+#[derive(Clone, Copy)]
 pub struct Placed {
     pub lane: u32,
     pub lanes: Lanes,

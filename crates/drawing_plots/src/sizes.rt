@@ -6,7 +6,7 @@ use crate::scale;
 use crate::scale::Plot;
 
 // The frame around a plot and its labels: where it begins, its width and its depth.
-#[derive(Drop)]
+#[derive(Clone, Copy)]
 pub struct Frame {
     pub left: u64,
     pub top: u64,

@@ -12,7 +12,7 @@ use crate::scale::{Lanes, Placed, Plot};
 use crate::sizes::{foot, half, line, right};
 
 // Where a turn stands: its mark, the end of the line that leads to its label, and the label with its lane.
-#[derive(Drop)]
+#[derive(Clone, Copy)]
 pub struct Spot {
     pub x: u64,
     pub y: u64,
@@ -23,7 +23,7 @@ pub struct Spot {
 }
 
 // Where the line of a height goes, from the left to the right and so far down, and where its figure ends and stands.
-#[derive(Drop)]
+#[derive(Clone, Copy)]
 pub struct Level {
     pub left: u64,
     pub right: u64,

@@ -14,14 +14,14 @@ mod numerals; // what stands behind the sign
 use crate::numerals::{CAP, Size, begins, fixed_size, whole_size};
 
 // 01's I and F: a whole number, and one with a point and so many decimals at the most.
-#[derive(Drop)]
+#[derive(Clone, Copy)]
 pub enum Format {
     Whole,
     Fixed(usize),
 }
 
 // What a number field holds: an F field's value is in units of its format's last decimal.
-#[derive(Drop)]
+#[derive(Clone, Copy)]
 pub enum Field {
     Value(i64),
     Malformed,
@@ -29,7 +29,7 @@ pub enum Field {
 }
 
 // The same of a field whose range goes from 0 to a number of 32 bits.
-#[derive(Drop)]
+#[derive(Clone, Copy)]
 pub enum Narrow {
     Value(u32),
     Malformed,
@@ -37,7 +37,7 @@ pub enum Narrow {
 }
 
 // What a field writes: perhaps a minus, and a size behind it.
-#[derive(Drop)]
+#[derive(Clone, Copy)]
 struct Written {
     negative: bool,
     size: Size,

@@ -6,7 +6,7 @@ ghost use Rattle.fields.specs.Numerals.{whole_good, whole_size, fixed_good, fixe
 ghost use Rattle.fields.specs.inner.Cap.{cap, kept};
 
 // A number without its sign.
-#[derive(Drop)]
+#[derive(Clone, Copy)]
 pub enum Size {
     Of(u64),
     Bad,

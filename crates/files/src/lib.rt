@@ -1,45 +1,76 @@
 // Files: read whole into a lent buffer, by name or from where the program itself lies; and the checksum by which a person compares two of them.
 #![tactic(auto)]
 
-ghost use Rattle.std.specs.Prelude.{◌≡◌, true, ◌≤◌, pos, neg_ℤ, length};
-ghost use Rattle.std.specs.Int.Signed.{le_z};
-ghost use Rattle.io.specs.Counts.{IsPrefixLen};
+ghost use Rattle.std.specs.Prelude.{◌≡◌, ◌+◌, ◌≤◌, length, take};
 
 pub mod checksum; // CRC-32
 
-// How a reading ended.
-#[derive(Drop)]
+use std::io;
+use std::io::Read;
+use std::rt::{Env, Files};
+
+// The longest path that the system takes, with a 0 behind it.
+const PATH: usize = 4096;
+
+// The system's number for text that is not UTF-8 (EILSEQ).
+const NO_TEXT: i32 = 84;
+
+// How a reading ended; a failed one with why.
+#[derive(Clone, Copy)]
 pub enum End {
     Whole,
     TooLarge,
-    Failed,
+    Failed(io::Error),
 }
 
 // How many bytes were read, and how the reading ended.
-#[derive(Drop)]
+#[derive(Clone, Copy)]
 pub struct Reading {
     pub bytes: usize,
     pub end: End,
 }
 
 // How a reading ended, by what one more read gave: a byte, the file's end or an error.
-fn end_of(more: isize) -> End {
-    if 0 < more {
-        return End::TooLarge;
+fn end_of(more: io::Result<usize>) -> End {
+    match more {
+        Ok(0) => End::Whole,
+        Ok(_) => End::TooLarge,
+        Err(error) => End::Failed(error),
     }
-    if more < 0 {
-        return End::Failed;
-    }
-    End::Whole
 }
 
-// Reads an open file to its end into the buffer: whole, or larger than the buffer, or failed, with errno set.
-pub fn read_whole(fd: i32, buffer: &mut [u8]) -> Reading
-    ensures { IsPrefixLen result.bytes buffer.new }
+// Reads once into the buffer from `done` on; gives how many bytes came, 0 at the input's end and where the read fails.
+fn read_behind(input: &mut impl Read, buffer: &mut [u8], done: usize) -> usize
+    requires { done ≤ length buffer.old }
+    ensures { done + result ≤ length buffer.new }
 {
-    let bytes = io::read_full(fd, buffer);
+    input.read(&mut buffer[done..]).unwrap_or(0)
+}
+
+// Reads until the buffer is full, the input ends or a read fails; gives how many bytes were put at the start of the buffer.
+pub fn read_full(input: &mut impl Read, buffer: &mut [u8]) -> usize
+    ensures in_bounds { result ≤ length buffer.new }
+    ensures prefix { result ≡ length (take result buffer.new) }
+{
+    let mut done = 0;
+    while done < buffer.len() {
+        let n = read_behind(input, buffer, done);
+        if n == 0 {
+            return done;
+        }
+        done += n;
+    }
+    done
+}
+
+// Reads an open file to its end into the buffer: whole, or larger than the buffer, or failed.
+pub fn read_whole(file: &mut impl Read, buffer: &mut [u8]) -> Reading
+    ensures in_bounds { result.bytes ≤ length buffer.new }
+    ensures prefix { result.bytes ≡ length (take result.bytes buffer.new) }
+{
+    let bytes = read_full(file, buffer);
     let mut byte = [0u8; 1];
-    let more = libc::read(fd, &mut byte);
+    let more = file.read(&mut byte);
     Reading {
         bytes,
         end: end_of(more),
@@ -82,36 +113,31 @@ fn put_text(path: &mut [u8], at: usize, text: &[u8]) -> usize
     next
 }
 
-// A descriptor, or -1.
-fn descriptor(fd: i32) -> i32
-    ensures { le_z (neg_ℤ (pos 1)) result ≡ true }
-{
-    if fd < 0 {
-        return -1;
+// Opens a file for reading, by the bytes of its name. The library opens by text alone: a name that is none is not opened.
+pub fn open_read<R: Files>(rt: &R, name: &[u8]) -> io::Result<R::File> {
+    match std::str::from_utf8(name) {
+        Ok(text) => std::fs::open(rt, text),
+        Err(_) => Err(io::Error::from_raw_os_error(NO_TEXT)),
     }
-    fd
 }
 
-// Opens a file that lies two folders above the program's own; a descriptor, or -1.
-fn open_above(name: &[u8]) -> i32 {
-    let mut path = io::buffer();
-    let bytes = os::arg(0, &mut path);
+// Opens a file that lies two folders above the program's own.
+fn open_above<R: Files + Env>(rt: &R, name: &[u8]) -> io::Result<R::File> {
+    let mut path = [0u8; PATH];
+    let bytes = rt.arg(0, &mut path).unwrap_or(0);
     let slash = behind_slash(&path, bytes);
     if slash == 0 {
-        return os::open_read(name);
+        return open_read(rt, name);
     }
     let above = put_text(&mut path, slash, b"../../");
     let end = put_text(&mut path, above, name);
-    os::open_read(columns::part(&path, 0, end))
+    open_read(rt, columns::part(&path, 0, end))
 }
 
-// Opens a file of the program's own data, in the current folder or else two folders above the program; a descriptor, or -1.
-pub fn open_own(name: &[u8]) -> i32
-    ensures { le_z (neg_ℤ (pos 1)) result ≡ true }
-{
-    let fd = os::open_read(name);
-    if 0 <= fd {
-        return descriptor(fd);
+// Opens a file of the program's own data, in the current folder or else two folders above the program.
+pub fn open_own<R: Files + Env>(rt: &R, name: &[u8]) -> io::Result<R::File> {
+    match open_read(rt, name) {
+        Ok(file) => Ok(file),
+        Err(_) => open_above(rt, name),
     }
-    descriptor(open_above(name))
 }

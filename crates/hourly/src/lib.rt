@@ -26,7 +26,7 @@ pub const CARD: usize = HEADING + HEIGHTS * NARROW + 1;
 pub const LONGEST: usize = 2 * 31 * CARD;
 
 // How many bytes the cards take; or a refusal.
-#[derive(Drop)]
+#[derive(Clone, Copy)]
 pub enum CardsAnswer {
     Bytes(usize),
     Refused(Refusal, usize),

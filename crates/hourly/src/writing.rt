@@ -13,7 +13,7 @@ use crate::centimetres::{HEIGHTS, centimetres};
 pub const HEADING: usize = 20;
 
 // What a month's cards have in common.
-#[derive(Drop)]
+#[derive(Clone, Copy)]
 pub struct Heading {
     pub station: u32,
     pub year: u32,

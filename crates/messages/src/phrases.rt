@@ -8,6 +8,7 @@ ghost use Rattle.messages.specs.Rows.{what_row, trouble_row, wrong_row};
 use crate::textlines::line_of;
 use card::faults::{Trouble, What};
 use commandline::Wrong;
+use digits::texts;
 
 // The row of what is at fault.
 fn what_row(what: What) -> usize
@@ -88,6 +89,17 @@ pub fn without_zeros(text: &[u8]) -> &[u8]
     ensures { result.now ≡ leading (among 1 255) text.now }
 {
     columns::part(text, 0, columns::run_end(text, 0, text.len(), 1, 255))
+}
+
+// The words of a system's error, without its number, which the library writes behind them as " (os error 2)".
+pub fn without_number(words: &[u8]) -> &[u8] {
+    let number = b" (os error ";
+    for k in 0..words.len() {
+        if texts::same(columns::part(words, k, number.len()), number) {
+            return columns::part(words, 0, k);
+        }
+    }
+    words
 }
 
 // The row of a word of the command line that cannot be followed.

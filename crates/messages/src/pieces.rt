@@ -3,6 +3,8 @@ use crate::phrases;
 use card::faults::{Trouble, What};
 use commandline::Wrong;
 use refusals::Refusal;
+use std::io;
+use std::io::Write;
 
 // The rows of what is at fault.
 fn what_text() -> [u8; 284] {
@@ -30,9 +32,9 @@ fn what_text() -> [u8; 284] {
 }
 
 // What is at fault.
-pub fn write_what(fd: i32, what: What) {
+pub fn write_what(to: &impl Print, what: What) -> io::Result<()> {
     let text = what_text();
-    io::write_all(fd, phrases::what_words(&text, what));
+    to.write_all(phrases::what_words(&text, what))
 }
 
 // The rows of what is wrong with it; ~ stands for the limit that is passed.
@@ -63,23 +65,24 @@ fn trouble_text() -> [u8; 559] {
 }
 
 // What is wrong with it.
-pub fn write_trouble(fd: i32, trouble: Trouble) {
+pub fn write_trouble(to: &impl Print, trouble: Trouble) -> io::Result<()> {
     let text = trouble_text();
     write_limited(
-        fd,
+        to,
         phrases::trouble_words(&text, trouble),
         limit_of(trouble),
-    );
+    )
 }
 
 // Words with a limit where ~ stands, the byte behind those of words.
-fn write_limited(fd: i32, words: &[u8], limit: u64) {
+fn write_limited(to: &impl Print, words: &[u8], limit: u64) -> io::Result<()> {
     let end = columns::run_end(words, 0, words.len(), 32, 125);
-    io::write_all(fd, columns::part(words, 0, end));
+    to.write_all(columns::part(words, 0, end))?;
     if end < words.len() {
-        io::print_decimal(fd, limit);
-        io::write_all(fd, columns::part(words, end + 1, words.len()));
+        to.print(limit)?;
+        to.write_all(columns::part(words, end + 1, words.len()))?;
     }
+    Ok(())
 }
 
 // The limit of which a trouble speaks; 0 where it speaks of none.
@@ -112,9 +115,9 @@ fn limit_of(trouble: Trouble) -> u64 {
 }
 
 // The general words of a refusal, which are 01's.
-pub fn write_general(fd: i32, refusal: Refusal) {
+pub fn write_general(to: &impl Print, refusal: Refusal) -> io::Result<()> {
     let text = refusal_words::text_of(refusals::number_of(refusal));
-    io::write_all(fd, phrases::without_zeros(&text));
+    to.write_all(phrases::without_zeros(&text))
 }
 
 // The rows of what is wrong with a word of the command line.
@@ -131,7 +134,15 @@ fn wrong_text() -> [u8; 216] {
 }
 
 // What is wrong with a word of the command line.
-pub fn write_wrong(fd: i32, wrong: Wrong) {
+pub fn write_wrong(to: &impl Print, wrong: Wrong) -> io::Result<()> {
     let text = wrong_text();
-    io::write_all(fd, phrases::wrong_words(&text, wrong));
+    to.write_all(phrases::wrong_words(&text, wrong))
+}
+
+// Why the system refused a file: the library's words, without the error's number.
+pub fn write_error(to: &impl Print, error: io::Error) -> io::Result<()> {
+    let mut text = [0u8; 320];
+    let mut room: &mut [u8] = &mut text;
+    write!(room, "{error}")?;
+    to.write_all(phrases::without_number(phrases::without_zeros(&text)))
 }

@@ -27,14 +27,14 @@ use table::definitions::{find, first_rows};
 use table::{Table, at_u64};
 
 // What preparing a month says: that it is ready, or the record, from 1, that is refused by 11.
-#[derive(Drop)]
+#[derive(Clone, Copy)]
 pub enum Preparation {
     Ready,
     TooLarge(usize),
 }
 
 // The answer, and the month where it is ready.
-#[derive(Drop)]
+#[derive(Clone, Copy)]
 pub struct Prepared {
     pub answer: Preparation,
     pub month: Month,

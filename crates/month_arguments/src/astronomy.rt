@@ -13,7 +13,7 @@ const CYCLE: u64 = TURN / TEN_BILLIONTH;
 const SPAN: u64 = TURN / 216;
 
 // The longitudes in ticks: the moon's, the sun's, the lunar perigee's, the negative of the ascending node's, the solar perigee's.
-#[derive(Drop)]
+#[derive(Clone, Copy)]
 pub struct Longitudes {
     pub moon: u64,
     pub sun: u64,

@@ -11,7 +11,7 @@ use angles::{floor_div, size};
 use month_satellites::satellites::Pair;
 
 // A constituent's pair, or none, by refusal 11.
-#[derive(Drop)]
+#[derive(Clone, Copy)]
 pub enum Corrected {
     TooLarge,
     Within(Pair),

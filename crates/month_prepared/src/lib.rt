@@ -11,7 +11,7 @@ use limits::RECORDS;
 
 // A station's constituents in a prepared month: V in ticks, phase lag in hundredths of a degree, frequency in 10^-10 cycle an hour,
 // weights P and Q, the first `count` places of each.
-#[derive(Drop)]
+#[derive(Clone, Copy)]
 pub struct Month {
     pub count: usize,
     pub arguments: [u64; RECORDS],

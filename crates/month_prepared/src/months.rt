@@ -7,7 +7,7 @@ pub const MONTHS: usize = 12;
 
 // How many constituents each month has, how many months there are, and the last minute of each. (Their arguments and weights stand in
 // arrays that are lent beside, a row of RECORDS places for each month.)
-#[derive(Drop)]
+#[derive(Clone, Copy)]
 pub struct Months {
     pub count: usize,
     pub many: usize,
@@ -15,7 +15,7 @@ pub struct Months {
 }
 
 // The month, from 0, that owns a minute, and the minute in it.
-#[derive(Drop)]
+#[derive(Clone, Copy)]
 pub struct InMonth {
     pub month: usize,
     pub minute: u64,

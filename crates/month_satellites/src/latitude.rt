@@ -9,7 +9,7 @@ use cosine::{ENTRIES, wave};
 use limits::LATITUDE;
 
 // Both factors of a latitude, in units of 2^-20.
-#[derive(Drop)]
+#[derive(Clone, Copy)]
 pub struct Factors {
     pub diurnal: i64,
     pub semidiurnal: i64,

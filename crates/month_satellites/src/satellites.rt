@@ -14,7 +14,7 @@ use cosine::{ENTRIES, wave};
 use table::{SATELLITE_ANGLES, SATELLITE_RATIOS, at_i8, at_u32};
 
 // The longitudes that satellites go by, in ticks: lunar perigee p, the node's negative N', solar perigee p'.
-#[derive(Drop)]
+#[derive(Clone, Copy)]
 pub struct Nodal {
     pub perigee: u64,
     pub node: u64,
@@ -22,7 +22,7 @@ pub struct Nodal {
 }
 
 // A satellite: its three differences and phase, its ratio, and its mark's byte.
-#[derive(Drop)]
+#[derive(Clone, Copy)]
 pub struct Satellite {
     pub first: i8,
     pub second: i8,
@@ -33,7 +33,7 @@ pub struct Satellite {
 }
 
 // A nodal correction X, Y, or what is added to one.
-#[derive(Drop)]
+#[derive(Clone, Copy)]
 pub struct Pair {
     pub x: i64,
     pub y: i64,

@@ -16,7 +16,7 @@ use table::{
 };
 
 // What stands at a place of the table: its V, and its pair or refusal 11.
-#[derive(Drop)]
+#[derive(Clone, Copy)]
 pub struct Worked {
     pub argument: u64,
     pub corrected: Corrected,

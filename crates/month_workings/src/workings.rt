@@ -24,7 +24,7 @@ use table::entries::natural_at;
 use table::{MAIN_ANGLES, MAIN_CARDS, SATELLITE_ANGLES, SATELLITE_RATIOS, SHALLOW_CARDS};
 
 // What every main is worked out from, besides its rows of the table: the latitude factors, the longitudes, and how many mains there are.
-#[derive(Drop)]
+#[derive(Clone, Copy)]
 pub struct Given {
     pub factors: Factors,
     pub longitudes: Longitudes,

@@ -24,7 +24,7 @@ use station::strides::Strides;
 const ENDS: usize = STRIDE as usize;
 
 // One turn, or none.
-#[derive(Drop)]
+#[derive(Clone, Copy)]
 struct Turn {
     found: bool,
     high: bool,
@@ -33,7 +33,7 @@ struct Turn {
 }
 
 // Whether a month's turns were found, or the clock's refusal; and the turns, none where it refuses.
-#[derive(Drop)]
+#[derive(Clone, Copy)]
 pub struct Found {
     pub answer: Answer,
     pub turns: Turns,

@@ -5,7 +5,7 @@ ghost use Rattle.monthturns.specs.Widths.{larger, smaller, widest_first};
 use station::strides::Strides;
 
 // Three widths in minutes.
-#[derive(Drop)]
+#[derive(Clone, Copy)]
 pub struct Widths {
     pub far: u32,
     pub near: u32,

@@ -1,34 +1,34 @@
 // Writing to standard output by pages: what is put stands in a lent page until the page is full or flushed.
 #![tactic(auto)]
 
-ghost use Rattle.std.specs.Prelude.{◌≡◌, ◌≤◌, min, length};
+ghost use Rattle.std.specs.Prelude.{◌≡◌, ◌≤◌, min, length, IfOk};
 
-use libc::STDOUT_FILENO;
+use std::io;
 
 // Writes out the first bytes of a page; the next byte goes to its start.
-pub fn flush(page: &[u8], at: usize) -> usize
-    ensures { result ≡ 0 }
+pub fn flush(rt: &impl Print, page: &[u8], at: usize) -> io::Result<usize>
+    ensures { IfOk result (λ next. next ≡ 0) }
 {
     if at <= page.len() {
-        io::write_all(STDOUT_FILENO, &page[..at]);
+        rt.write_all(&page[..at])?;
     }
-    0
+    Ok(0)
 }
 
 // Puts a byte at a place of a page, at its start once it is full and written out; gives the place after it.
-pub fn put(page: &mut [u8], at: usize, byte: u8) -> usize
-    ensures { result ≤ length page.old }
+pub fn put(rt: &impl Print, page: &mut [u8], at: usize, byte: u8) -> io::Result<usize>
+    ensures { IfOk result (λ next. next ≤ length page.old) }
 {
     if at < page.len() {
         page[at] = byte;
-        return at + 1;
+        return Ok(at + 1);
     }
-    flush(page, page.len());
+    flush(rt, page, page.len())?;
     if 0 < page.len() {
         page[0] = byte;
-        return 1;
+        return Ok(1);
     }
-    0
+    Ok(0)
 }
 
 // A place on a page of a length, or its end where the place lies behind it.
@@ -39,41 +39,46 @@ pub fn on_page(length: usize, at: usize) -> usize
 }
 
 // Puts bytes one after another; gives the place after the last.
-pub fn put_bytes(page: &mut [u8], at: usize, bytes: &[u8]) -> usize
-    ensures { result ≤ length page.old }
+pub fn put_bytes(rt: &impl Print, page: &mut [u8], at: usize, bytes: &[u8]) -> io::Result<usize>
+    ensures { IfOk result (λ next. next ≤ length page.old) }
 {
     let mut next = on_page(page.len(), at);
     let mut i = 0;
     while i < bytes.len() {
-        next = put(page, next, bytes[i]);
+        next = put(rt, page, next, bytes[i])?;
         i += 1;
     }
-    next
+    Ok(next)
 }
 
 // Puts a number in decimal; gives the place after it.
-pub fn put_number(page: &mut [u8], at: usize, number: u64) -> usize
-    ensures { result ≤ length page.old }
+pub fn put_number(rt: &impl Print, page: &mut [u8], at: usize, number: u64) -> io::Result<usize>
+    ensures { IfOk result (λ next. next ≤ length page.old) }
 {
-    let mut text = [0u8; 20];
-    let n = io::decimal(number, &mut text);
-    put_bytes(page, at, &text[..n])
+    let mut text = itoa::Buffer::new();
+    put_bytes(rt, page, at, text.format(number).as_bytes())
 }
 
 // Puts a number of a size in decimal, with a minus where it is negative; gives the place after it.
-pub fn put_size(page: &mut [u8], at: usize, negative: bool, size: u64) -> usize
-    ensures { result ≤ length page.old }
+pub fn put_size(
+    rt: &impl Print,
+    page: &mut [u8],
+    at: usize,
+    negative: bool,
+    size: u64,
+) -> io::Result<usize>
+    ensures { IfOk result (λ next. next ≤ length page.old) }
 {
     if negative {
-        let next = put(page, at, b'-');
-        return put_number(page, next, size);
+        let next = put(rt, page, at, b'-')?;
+        return put_number(rt, page, next, size);
     }
-    put_number(page, at, size)
+    put_number(rt, page, at, size)
 }
 
 // Puts a number in decimal, with a minus where it is negative; gives the place after it.
-pub fn put_signed(page: &mut [u8], at: usize, number: i64) -> usize
-    ensures { result ≤ length page.old }
+pub fn put_signed(rt: &impl Print, page: &mut [u8], at: usize, number: i64) -> io::Result<usize>
+    ensures { IfOk result (λ next. next ≤ length page.old) }
 {
-    put_size(page, at, number < 0, angles::size(number))
+    put_size(rt, page, at, number < 0, angles::size(number))
 }

@@ -8,7 +8,7 @@ pub const TURNS: usize = 512;
 pub const YEAR_TURNS: usize = 6_144;
 
 // A day of a month, or day 0 for the whole month; month 0 for the whole year.
-#[derive(Drop)]
+#[derive(Clone, Copy)]
 pub struct Date {
     pub year: u32,
     pub month: u32,
@@ -16,7 +16,7 @@ pub struct Date {
 }
 
 // A month's turns: how many there are, whether the first is high, and in order their minutes and their heights.
-#[derive(Drop)]
+#[derive(Clone, Copy)]
 pub struct Turns {
     pub count: usize,
     pub first: bool,
@@ -25,7 +25,7 @@ pub struct Turns {
 }
 
 // What is known of turns whose minutes and heights are lent in two rows: how many there are, and whether the first is high.
-#[derive(Drop)]
+#[derive(Clone, Copy)]
 pub struct Known {
     pub count: usize,
     pub first: bool,

@@ -5,7 +5,7 @@ ghost use Rattle.std.specs.Prelude.{◌≡◌};
 ghost use Rattle.refusals.specs.Outcome.{number_of};
 
 // The rows of 01's two tables of refusals, in their order, and those that 02's requests add.
-#[derive(Drop)]
+#[derive(Clone, Copy)]
 pub enum Refusal {
     BadLine,
     Malformed,
@@ -29,7 +29,7 @@ pub enum Refusal {
 }
 
 // What a call says: it is accepted, or refused, with the place that 01 gives the refusal.
-#[derive(Drop)]
+#[derive(Clone, Copy)]
 pub enum Answer {
     Accepted,
     Refused(Refusal, usize),

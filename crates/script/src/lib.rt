@@ -13,7 +13,7 @@ use station::strides;
 use station::strides::Strides;
 
 // year YEAR START STEP COUNT FIRST LAST MINUTES HEIGHTS
-#[derive(Drop)]
+#[derive(Clone, Copy)]
 pub struct YearLine {
     pub year: u32,
     pub start: u32,
@@ -26,7 +26,7 @@ pub struct YearLine {
 }
 
 // A line's call: its word and its numbers.
-#[derive(Drop)]
+#[derive(Clone, Copy)]
 pub enum Call {
     Cards(u32),
     Station(i32, u32, Strides),
@@ -41,14 +41,14 @@ pub enum Call {
 }
 
 // A word that is a number, or is not.
-#[derive(Drop)]
+#[derive(Clone, Copy)]
 pub enum Number {
     Value(u32),
     NoNumber,
 }
 
 // A line of a station.
-#[derive(Drop)]
+#[derive(Clone, Copy)]
 pub enum Entry {
     Record {
         place: u8,
@@ -284,7 +284,7 @@ fn latitude_at(line: &[u8], at: usize) -> Call
 fn is_word(word: &[u8], name: &[u8]) -> bool
     ensures { result ≡ same word.now name.now }
 {
-    check::same(word, name)
+    word == name
 }
 
 // The call of a word and of the numbers at a byte of a line.

@@ -6,14 +6,14 @@ ghost use Rattle.script.specs.inner.Left.{words_from, word_length, reading_at};
 use crate::Number;
 
 // A number in a line, and where the next word begins; past the line's end where there is none.
-#[derive(Drop)]
+#[derive(Clone, Copy)]
 pub enum Field {
     Read(u32, usize),
     NoField,
 }
 
 // Two words that are numbers, or are not.
-#[derive(Drop)]
+#[derive(Clone, Copy)]
 pub enum Two {
     Numbers(u32, u32),
     NoNumbers,

@@ -1,10 +1,11 @@
 // Heights and turns for other programs: comma separated values, a row for each, behind lines that say what they stand on.
-ghost use Rattle.std.specs.Prelude.{◌≤◌, length};
+ghost use Rattle.std.specs.Prelude.{◌≤◌, length, IfOk};
 
 use digits::{dates, texts};
 use page::face::Face;
 use page::shown::{Date, Known};
 use page::{face, figures};
+use std::io;
 use swings::months;
 
 // Whether a byte is from one to another.
@@ -27,80 +28,100 @@ fn plain(byte: u8) -> u8 {
 }
 
 // Puts text as a part of a column's name.
-fn put_plain(page: &mut [u8], at: usize, text: &[u8]) -> usize {
+fn put_plain(rt: &impl Print, page: &mut [u8], at: usize, text: &[u8]) -> io::Result<usize> {
     let mut next = at;
     let mut i = 0;
     while i < text.len() {
-        next = output::put(page, next, plain(text[i]));
+        next = output::put(rt, page, next, plain(text[i]))?;
         i += 1;
     }
-    next
+    Ok(next)
 }
 
 // Puts the name of the column of times: its zone is in it where that is not Greenwich's.
-fn put_time_name(page: &mut [u8], at: usize, zone: &[u8]) -> usize {
-    let next = output::put_bytes(page, at, b"time");
+fn put_time_name(rt: &impl Print, page: &mut [u8], at: usize, zone: &[u8]) -> io::Result<usize> {
+    let next = output::put_bytes(rt, page, at, b"time")?;
     if texts::is_greenwich(zone) {
-        return next;
+        return Ok(next);
     }
-    let word = output::put(page, next, b'_');
-    put_plain(page, word, texts::trimmed(zone))
+    let word = output::put(rt, page, next, b'_')?;
+    put_plain(rt, page, word, texts::trimmed(zone))
 }
 
 // Puts the columns' names, on a line; `between` stands between the time's and the height's.
-fn put_names(page: &mut [u8], at: usize, face: Face, between: &[u8]) -> usize
-    ensures { result ≤ length page.old }
+fn put_names(
+    rt: &impl Print,
+    page: &mut [u8],
+    at: usize,
+    face: Face,
+    between: &[u8],
+) -> io::Result<usize>
+    ensures { IfOk result (λ next. next ≤ length page.old) }
 {
-    let a = put_time_name(page, at, &face.zone);
-    let b = output::put_bytes(page, a, between);
-    let c = output::put_bytes(page, b, b"height_");
-    let d = put_plain(page, c, face::first(&face.unit, face.unit_bytes));
-    output::put(page, d, 10)
+    let a = put_time_name(rt, page, at, &face.zone)?;
+    let b = output::put_bytes(rt, page, a, between)?;
+    let c = output::put_bytes(rt, page, b, b"height_")?;
+    let d = put_plain(rt, page, c, face::first(&face.unit, face.unit_bytes))?;
+    output::put(rt, page, d, 10)
 }
 
 // Puts the lines before the rows: the station and the date, what the rows stand on, and the columns' names.
-fn put_head(page: &mut [u8], at: usize, face: Face, date: Date, between: &[u8]) -> usize
-    ensures { result ≤ length page.old }
+fn put_head(
+    rt: &impl Print,
+    page: &mut [u8],
+    at: usize,
+    face: Face,
+    date: Date,
+    between: &[u8],
+) -> io::Result<usize>
+    ensures { IfOk result (λ next. next ≤ length page.old) }
 {
-    let a = output::put_bytes(page, at, b"# ");
-    let b = face::put_title(page, a, face, date);
-    let c = output::put_bytes(page, b, b"# ");
-    let d = face::put_scales(page, c, face);
-    let e = output::put_bytes(page, d, b"\n# ");
-    let f = face::put_ground(page, e, face.ground);
-    let g = output::put(page, f, 10);
-    put_names(page, g, face, between)
+    let a = output::put_bytes(rt, page, at, b"# ")?;
+    let b = face::put_title(rt, page, a, face, date)?;
+    let c = output::put_bytes(rt, page, b, b"# ")?;
+    let d = face::put_scales(rt, page, c, face)?;
+    let e = output::put_bytes(rt, page, d, b"\n# ")?;
+    let f = face::put_ground(rt, page, e, face.ground)?;
+    let g = output::put(rt, page, f, 10)?;
+    put_names(rt, page, g, face, between)
 }
 
 // Puts what stands behind a time: the mark of Greenwich's time, and a comma.
-fn put_comma(page: &mut [u8], at: usize, greenwich: bool) -> usize {
+fn put_comma(rt: &impl Print, page: &mut [u8], at: usize, greenwich: bool) -> io::Result<usize> {
     if greenwich {
-        return output::put_bytes(page, at, b"Z,");
+        return output::put_bytes(rt, page, at, b"Z,");
     }
-    output::put(page, at, b',')
+    output::put(rt, page, at, b',')
 }
 
 // Puts the ISO time of a minute of a month, as 1976-07-01T00:00.
-fn put_iso(page: &mut [u8], at: usize, date: Date, minute: u32) -> usize {
-    let next = output::put_bytes(page, at, &dates::iso_day(date.year, date.month, minute));
-    figures::put_clock(page, next, minute)
+fn put_iso(
+    rt: &impl Print,
+    page: &mut [u8],
+    at: usize,
+    date: Date,
+    minute: u32,
+) -> io::Result<usize> {
+    let next = output::put_bytes(rt, page, at, &dates::iso_day(date.year, date.month, minute))?;
+    figures::put_clock(rt, page, next, minute)
 }
 
 // Puts a row: a time and a height.
 fn put_row(
+    rt: &impl Print,
     page: &mut [u8],
     at: usize,
     greenwich: bool,
     date: Date,
     minute: u32,
     height: i64,
-) -> usize
-    ensures { result ≤ length page.old }
+) -> io::Result<usize>
+    ensures { IfOk result (λ next. next ≤ length page.old) }
 {
-    let time = put_iso(page, at, date, minute);
-    let comma = put_comma(page, time, greenwich);
-    let next = figures::put_exact(page, comma, height);
-    output::put(page, next, 10)
+    let time = put_iso(rt, page, at, date, minute)?;
+    let comma = put_comma(rt, page, time, greenwich)?;
+    let next = figures::put_exact(rt, page, comma, height)?;
+    output::put(rt, page, next, 10)
 }
 
 // The minute a step behind another; minutes stay below 2^32.
@@ -110,6 +131,7 @@ fn step_on(minute: u32, step: u32) -> u32 {
 
 // Puts a row for each height, from a minute of the month on, a step apart.
 fn put_rows(
+    rt: &impl Print,
     page: &mut [u8],
     at: usize,
     greenwich: bool,
@@ -117,22 +139,23 @@ fn put_rows(
     start: u32,
     step: u32,
     heights: &[i64],
-) -> usize
-    ensures { result ≤ length page.old }
+) -> io::Result<usize>
+    ensures { IfOk result (λ next. next ≤ length page.old) }
 {
     let mut next = output::on_page(page.len(), at);
     let mut minute = start;
     let mut i = 0;
     while i < heights.len() {
-        next = put_row(page, next, greenwich, date, minute, heights[i]);
+        next = put_row(rt, page, next, greenwich, date, minute, heights[i])?;
         minute = step_on(minute, step);
         i += 1;
     }
-    next
+    Ok(next)
 }
 
 // Puts heights, from a minute of the month on, a step apart, with what they stand on before them.
 pub fn put_heights(
+    rt: &impl Print,
     page: &mut [u8],
     at: usize,
     face: Face,
@@ -140,24 +163,25 @@ pub fn put_heights(
     start: u32,
     step: u32,
     heights: &[i64],
-) -> usize
-    ensures { result ≤ length page.old }
+) -> io::Result<usize>
+    ensures { IfOk result (λ next. next ≤ length page.old) }
 {
-    let head = put_head(page, at, face, date, b",");
+    let head = put_head(rt, page, at, face, date, b",")?;
     let greenwich = texts::is_greenwich(&face.zone);
-    put_rows(page, head, greenwich, date, start, step, heights)
+    put_rows(rt, page, head, greenwich, date, start, step, heights)
 }
 
 // Puts high or low, and a comma.
-fn put_kind(page: &mut [u8], at: usize, high: bool) -> usize {
+fn put_kind(rt: &impl Print, page: &mut [u8], at: usize, high: bool) -> io::Result<usize> {
     if high {
-        return output::put_bytes(page, at, b"high,");
+        return output::put_bytes(rt, page, at, b"high,");
     }
-    output::put_bytes(page, at, b"low,")
+    output::put_bytes(rt, page, at, b"low,")
 }
 
 // Puts the row of a turn: a time of its month, whether it is high or low water, and its height.
 fn put_turn(
+    rt: &impl Print,
     page: &mut [u8],
     at: usize,
     greenwich: bool,
@@ -165,18 +189,19 @@ fn put_turn(
     minute: u32,
     high: bool,
     height: i64,
-) -> usize
-    ensures { result ≤ length page.old }
+) -> io::Result<usize>
+    ensures { IfOk result (λ next. next ≤ length page.old) }
 {
-    let time = put_iso(page, at, date, minute);
-    let comma = put_comma(page, time, greenwich);
-    let kind = put_kind(page, comma, high);
-    let next = figures::put_exact(page, kind, height);
-    output::put(page, next, 10)
+    let time = put_iso(rt, page, at, date, minute)?;
+    let comma = put_comma(rt, page, time, greenwich)?;
+    let kind = put_kind(rt, page, comma, high)?;
+    let next = figures::put_exact(rt, page, kind, height)?;
+    output::put(rt, page, next, 10)
 }
 
 // Puts a row for each turn of a month of the year.
 fn put_month<'a>(
+    rt: &impl Print,
     page: &mut [u8],
     at: usize,
     greenwich: bool,
@@ -184,14 +209,15 @@ fn put_month<'a>(
     known: Known,
     minutes: &'a [u32],
     heights: &'a [i64],
-) -> usize
-    ensures { result ≤ length page.old }
+) -> io::Result<usize>
+    ensures { IfOk result (λ next. next ≤ length page.old) }
 {
     let month = months::month_of(date.year, date.month, known.count, minutes, heights);
     let mut next = output::on_page(page.len(), at);
     let mut i = month.from;
     while i < month.to {
         next = put_turn(
+            rt,
             page,
             next,
             greenwich,
@@ -199,14 +225,15 @@ fn put_month<'a>(
             months::minute_in(month, digits::minute_at(minutes, i)),
             swings::is_high(known.first, i),
             digits::height_at(heights, i),
-        );
+        )?;
         i += 1;
     }
-    next
+    Ok(next)
 }
 
 // Puts the turns of a year, whose minutes are counted from 1 January, with what they stand on before them.
 pub fn put_year<'a>(
+    rt: &impl Print,
     page: &mut [u8],
     at: usize,
     face: Face,
@@ -214,11 +241,11 @@ pub fn put_year<'a>(
     known: Known,
     minutes: &'a [u32],
     heights: &'a [i64],
-) -> usize
-    ensures { result ≤ length page.old }
+) -> io::Result<usize>
+    ensures { IfOk result (λ next. next ≤ length page.old) }
 {
     let greenwich = texts::is_greenwich(&face.zone);
-    let mut next = put_head(page, at, face, date, b",water,");
+    let mut next = put_head(rt, page, at, face, date, b",water,")?;
     let mut month: u32 = 1;
     while month < 13 {
         let shown = Date {
@@ -226,8 +253,8 @@ pub fn put_year<'a>(
             month,
             day: 0,
         };
-        next = put_month(page, next, greenwich, shown, known, minutes, heights);
+        next = put_month(rt, page, next, greenwich, shown, known, minutes, heights)?;
         month += 1;
     }
-    next
+    Ok(next)
 }

@@ -1,13 +1,14 @@
 // The day at the berth: the height at a minute, the next high and low water, and the day's curve, drawn in characters.
-ghost use Rattle.std.specs.Prelude.{◌≤◌, length};
+ghost use Rattle.std.specs.Prelude.{◌≤◌, length, IfOk};
 
 use digits::dates;
 use page::face::Face;
 use page::shown::{Date, Turns};
 use page::{face, figures};
+use std::io;
 
 // The next high or low water: whether there is one, whether it lies in the month after, its minute and its height.
-#[derive(Drop)]
+#[derive(Clone, Copy)]
 pub struct Next {
     pub found: bool,
     pub later: bool,
@@ -16,7 +17,7 @@ pub struct Next {
 }
 
 // What is to be known at a minute of the month: the height, and the next high and low water.
-#[derive(Drop)]
+#[derive(Clone, Copy)]
 pub struct Water {
     pub minute: u32,
     pub height: i64,
@@ -25,7 +26,7 @@ pub struct Water {
 }
 
 // A day of the month: its first minute, its turns from one to before another, its lowest and its highest water.
-#[derive(Drop)]
+#[derive(Clone, Copy)]
 struct Day {
     start: u32,
     from: usize,
@@ -44,7 +45,7 @@ fn higher(a: i64, b: i64) -> i64 {
 }
 
 // The lowest and the highest of some heights.
-#[derive(Drop)]
+#[derive(Clone, Copy)]
 struct Range {
     low: i64,
     high: i64,
@@ -74,13 +75,14 @@ fn column_of(height: i64, low: i64, high: i64) -> u64 {
 }
 
 // Puts the curve's edge and blanks behind it, at most 48.
-fn put_gap(page: &mut [u8], at: usize, gap: u64) -> usize {
-    let edge = output::put_bytes(page, at, b"  |");
-    figures::put_blanks(page, edge, if gap < 48 { gap as usize } else { 48 })
+fn put_gap(rt: &impl Print, page: &mut [u8], at: usize, gap: u64) -> io::Result<usize> {
+    let edge = output::put_bytes(rt, page, at, b"  |")?;
+    figures::put_blanks(rt, page, edge, if gap < 48 { gap as usize } else { 48 })
 }
 
 // Puts a row of the curve: a time of a day, a height, and a mark in the height's column.
 fn put_row(
+    rt: &impl Print,
     page: &mut [u8],
     at: usize,
     day: u32,
@@ -88,13 +90,13 @@ fn put_row(
     height: i64,
     column: u64,
     mark: u8,
-) -> usize
-    ensures { result ≤ length page.old }
+) -> io::Result<usize>
+    ensures { IfOk result (λ next. next ≤ length page.old) }
 {
-    let a = figures::put_time(page, at, day, minute);
-    let b = figures::put_height(page, a, height, 3);
-    let c = put_gap(page, b, column);
-    output::put_bytes(page, c, &[mark, 10])
+    let a = figures::put_time(rt, page, at, day, minute)?;
+    let b = figures::put_height(rt, page, a, height, 3)?;
+    let c = put_gap(rt, page, b, column)?;
+    output::put_bytes(rt, page, c, &[mark, 10])
 }
 
 // The mark of a turn.
@@ -103,12 +105,21 @@ fn mark_of(high: bool) -> u8 {
 }
 
 // Puts a row for each turn from one to before another.
-fn put_turns(page: &mut [u8], at: usize, day: Day, from: usize, to: usize, turns: Turns) -> usize {
+fn put_turns(
+    rt: &impl Print,
+    page: &mut [u8],
+    at: usize,
+    day: Day,
+    from: usize,
+    to: usize,
+    turns: Turns,
+) -> io::Result<usize> {
     let mut next = at;
     let mut i = from;
     while i < to {
         let height = digits::height_at(&turns.heights, i);
         next = put_row(
+            rt,
             page,
             next,
             digits::day_of(day.start),
@@ -116,10 +127,10 @@ fn put_turns(page: &mut [u8], at: usize, day: Day, from: usize, to: usize, turns
             height,
             column_of(height, day.low, day.high),
             mark_of(swings::is_high(turns.first, i)),
-        );
+        )?;
         i += 1;
     }
-    next
+    Ok(next)
 }
 
 // The minute at an hour of the day that begins at a minute.
@@ -128,10 +139,18 @@ fn hour_minute(start: u32, hour: u32) -> u32 {
 }
 
 // Puts the row of an hour of the day.
-fn put_hour(page: &mut [u8], at: usize, day: Day, hour: u32, height: i64) -> usize
-    ensures { result ≤ length page.old }
+fn put_hour(
+    rt: &impl Print,
+    page: &mut [u8],
+    at: usize,
+    day: Day,
+    hour: u32,
+    height: i64,
+) -> io::Result<usize>
+    ensures { IfOk result (λ next. next ≤ length page.old) }
 {
     put_row(
+        rt,
         page,
         at,
         digits::day_of(day.start),
@@ -143,8 +162,15 @@ fn put_hour(page: &mut [u8], at: usize, day: Day, hour: u32, height: i64) -> usi
 }
 
 // Puts a row for each of the day's hours, and its turns between them.
-fn put_curve(page: &mut [u8], at: usize, day: Day, hourly: &[i64], turns: Turns) -> usize
-    ensures { result ≤ length page.old }
+fn put_curve(
+    rt: &impl Print,
+    page: &mut [u8],
+    at: usize,
+    day: Day,
+    hourly: &[i64],
+    turns: Turns,
+) -> io::Result<usize>
+    ensures { IfOk result (λ next. next ≤ length page.old) }
 {
     let mut next = output::on_page(page.len(), at);
     let mut turn = day.from;
@@ -152,13 +178,13 @@ fn put_curve(page: &mut [u8], at: usize, day: Day, hourly: &[i64], turns: Turns)
     while hour < 25 {
         let minute = hour_minute(day.start, hour);
         let end = swings::turn_from(&turns.minutes, turn, day.to, minute as u64);
-        next = put_turns(page, next, day, turn, end, turns);
+        next = put_turns(rt, page, next, day, turn, end, turns)?;
         turn = end;
         let height = digits::height_at(hourly, hour as usize);
-        next = put_hour(page, next, day, hour, height);
+        next = put_hour(rt, page, next, day, hour, height)?;
         hour += 1;
     }
-    next
+    Ok(next)
 }
 
 // The day that begins at a minute, of its heights at the hours and the month's turns.
@@ -182,10 +208,10 @@ fn day_of(start: u32, hourly: &[i64], turns: Turns) -> Day {
 }
 
 // Puts a day and its month, as 1 July 1976.
-fn put_day(page: &mut [u8], at: usize, date: Date) -> usize {
-    let a = output::put_number(page, at, date.day as u64);
-    let b = output::put(page, a, 32);
-    face::put_month(page, b, date)
+fn put_day(rt: &impl Print, page: &mut [u8], at: usize, date: Date) -> io::Result<usize> {
+    let a = output::put_number(rt, page, at, date.day as u64)?;
+    let b = output::put(rt, page, a, 32)?;
+    face::put_month(rt, page, b, date)
 }
 
 // The date of a turn in the month of a date, or in the month behind it.
@@ -206,45 +232,79 @@ fn date_of(date: Date, turn: Next) -> Date {
 }
 
 // Puts a height behind a label, and its time.
-fn put_height_at(page: &mut [u8], at: usize, label: &[u8], minute: u32, height: i64) -> usize {
-    let a = output::put_bytes(page, at, label);
-    let b = figures::put_height(page, a, height, 3);
-    let c = output::put_bytes(page, b, b"  at ");
-    figures::put_clock(page, c, minute)
+fn put_height_at(
+    rt: &impl Print,
+    page: &mut [u8],
+    at: usize,
+    label: &[u8],
+    minute: u32,
+    height: i64,
+) -> io::Result<usize> {
+    let a = output::put_bytes(rt, page, at, label)?;
+    let b = figures::put_height(rt, page, a, height, 3)?;
+    let c = output::put_bytes(rt, page, b, b"  at ")?;
+    figures::put_clock(rt, page, c, minute)
 }
 
 // Puts the line of the next high or low water.
-fn put_next(page: &mut [u8], at: usize, label: &[u8], date: Date, next: Next) -> usize {
+fn put_next(
+    rt: &impl Print,
+    page: &mut [u8],
+    at: usize,
+    label: &[u8],
+    date: Date,
+    next: Next,
+) -> io::Result<usize> {
     if !next.found {
-        let none = output::put_bytes(page, at, label);
-        return output::put_bytes(page, none, b"  none\n");
+        let none = output::put_bytes(rt, page, at, label)?;
+        return output::put_bytes(rt, page, none, b"  none\n");
     }
-    let time = put_height_at(page, at, label, next.minute, next.height);
-    let on = output::put_bytes(page, time, b" on ");
-    let day = put_day(page, on, date_of(date, next));
-    output::put(page, day, 10)
+    let time = put_height_at(rt, page, at, label, next.minute, next.height)?;
+    let on = output::put_bytes(rt, page, time, b" on ")?;
+    let day = put_day(rt, page, on, date_of(date, next))?;
+    output::put(rt, page, day, 10)
 }
 
 // Puts the sheet's head: the station and the day, the scales, what it stands on.
-fn put_head(page: &mut [u8], at: usize, face: Face, date: Date) -> usize {
-    let name = face::put_name(page, at, face);
-    let day = put_day(page, name, date);
-    let title = output::put(page, day, 10);
-    let next = face::put_stand(page, title, face);
-    output::put_bytes(page, next, b"\n\n")
+fn put_head(
+    rt: &impl Print,
+    page: &mut [u8],
+    at: usize,
+    face: Face,
+    date: Date,
+) -> io::Result<usize> {
+    let name = face::put_name(rt, page, at, face)?;
+    let day = put_day(rt, page, name, date)?;
+    let title = output::put(rt, page, day, 10)?;
+    let next = face::put_stand(rt, page, title, face)?;
+    output::put_bytes(rt, page, next, b"\n\n")
 }
 
 // Puts what is to be known at a minute: the height, and the next high and low water.
-fn put_water(page: &mut [u8], at: usize, date: Date, water: Water) -> usize {
-    let time = put_height_at(page, at, b"water           ", water.minute, water.height);
-    let a = output::put(page, time, 10);
-    let b = put_next(page, a, b"next high water ", date, water.high);
-    let c = put_next(page, b, b"next low water  ", date, water.low);
-    output::put(page, c, 10)
+fn put_water(
+    rt: &impl Print,
+    page: &mut [u8],
+    at: usize,
+    date: Date,
+    water: Water,
+) -> io::Result<usize> {
+    let time = put_height_at(
+        rt,
+        page,
+        at,
+        b"water           ",
+        water.minute,
+        water.height,
+    )?;
+    let a = output::put(rt, page, time, 10)?;
+    let b = put_next(rt, page, a, b"next high water ", date, water.high)?;
+    let c = put_next(rt, page, b, b"next low water  ", date, water.low)?;
+    output::put(rt, page, c, 10)
 }
 
 // Puts a day's sheet for a minute of it: of the heights at the day's hours and of the month's turns.
 pub fn put_sheet(
+    rt: &impl Print,
     page: &mut [u8],
     at: usize,
     face: Face,
@@ -252,11 +312,11 @@ pub fn put_sheet(
     water: Water,
     hourly: &[i64],
     turns: Turns,
-) -> usize
-    ensures { result ≤ length page.old }
+) -> io::Result<usize>
+    ensures { IfOk result (λ next. next ≤ length page.old) }
 {
-    let a = put_head(page, at, face, date);
-    let b = put_water(page, a, date, water);
+    let a = put_head(rt, page, at, face, date)?;
+    let b = put_water(rt, page, a, date, water)?;
     let start = water.minute / 1_440 * 1_440;
-    put_curve(page, b, day_of(start, hourly, turns), hourly, turns)
+    put_curve(rt, page, b, day_of(start, hourly, turns), hourly, turns)
 }

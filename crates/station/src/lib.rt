@@ -20,7 +20,7 @@ use refusals::{Answer, Refusal};
 
 // An accepted station: amplitudes in tenths of a millimetre, phase lags in hundredths of a degree.
 #[repr(C)]
-#[derive(Drop)]
+#[derive(Clone, Copy)]
 pub struct Station {
     pub latitude: i32,
     pub strides: Strides,
@@ -31,7 +31,7 @@ pub struct Station {
 }
 
 // What a station call says, and the station where it is accepted.
-#[derive(Drop)]
+#[derive(Clone, Copy)]
 pub struct Taken {
     pub answer: Answer,
     pub station: Station,

@@ -7,7 +7,7 @@ use limits::RECORDS;
 
 // One of a station's constituents, as it is lent: its place in the table, its amplitude and its phase lag.
 #[repr(C)]
-#[derive(Drop)]
+#[derive(Clone, Copy)]
 pub struct Record {
     pub place: u8,
     pub amplitude: u32,
@@ -15,7 +15,7 @@ pub struct Record {
 }
 
 // The records taken apart: an array for each field.
-#[derive(Drop)]
+#[derive(Clone, Copy)]
 pub struct Rows {
     pub places: [u8; RECORDS],
     pub amplitudes: [u32; RECORDS],
@@ -52,7 +52,7 @@ pub fn at_most(n: usize) -> usize
     if n < RECORDS { n } else { RECORDS }
 }
 
-// The records taken apart, the first 146 of them: the thin function over the lent slice of structs. Its proof is a walk by hand.
+// The records taken apart, the first 146 of them: the thin function over the lent slice of structs.
 pub fn rows_of(rs: &[Record]) -> Rows
     ensures { result ≡ rows_of rs.now }
 {

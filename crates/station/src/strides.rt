@@ -6,7 +6,7 @@ use limits::STRIDE;
 
 // The length of a stride in minutes, for semidiurnal, mixed and diurnal tides.
 #[repr(C)]
-#[derive(Drop)]
+#[derive(Clone, Copy)]
 pub struct Strides {
     pub semidiurnal: u32,
     pub mixed: u32,

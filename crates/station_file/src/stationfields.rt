@@ -16,21 +16,21 @@ use columns::names;
 use limits::{FREQUENCIES, RECORDS};
 
 // Whether the latitude is south, or what is wrong with its mark.
-#[derive(Drop)]
+#[derive(Clone, Copy)]
 enum Side {
     South(bool),
     Bad(Fault),
 }
 
 // The station card's latitude in minutes, or what is wrong with the card.
-#[derive(Drop)]
+#[derive(Clone, Copy)]
 pub enum Latitude {
     At(i32),
     Bad(Fault),
 }
 
 // What the next constituent card comes to: the end, a record's place, amplitude and phase lag, or what is wrong with it.
-#[derive(Drop)]
+#[derive(Clone, Copy)]
 pub enum RecordStep {
     Ends,
     Gives(u8, u32, u32),

@@ -17,7 +17,7 @@ use station::records::{Rows, no_rows, put};
 
 // What a station file comes to: its latitude in minutes, and its records in the clock's order; a refused one has what is wrong with it, latitude 0
 // and no records.
-#[derive(Drop)]
+#[derive(Clone, Copy)]
 pub struct StationCards {
     pub answer: Answer,
     pub fault: Fault,

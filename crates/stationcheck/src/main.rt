@@ -9,40 +9,41 @@ use card::formats::NumberField;
 use card::{Natural, natural_field};
 use fields::Format;
 use files::checksum;
-use libc::STDOUT_FILENO;
 use limits::RECORDS;
 use refusals::Answer;
 use station::records::Rows;
 use station_file::stationfile::StationCards;
 use station_file::{stationcards, stationfile};
+use std::io;
 
 // A text as it stands.
-fn put(text: &[u8]) {
-    io::write_all(STDOUT_FILENO, text);
+fn put(rt: &impl Print, text: &[u8]) -> io::Result<()> {
+    rt.write_all(text)
 }
 
 // A number in decimal.
-fn put_number(n: u64) {
-    io::print_decimal(STDOUT_FILENO, n);
+fn put_number(rt: &impl Print, n: u64) -> io::Result<()> {
+    rt.print(n)
 }
 
 // PLACE AMPLITUDE PHASE
-fn put_record(place: u8, amplitude: u32, phase: u32) {
-    put_number(place as u64);
-    put(b" ");
-    put_number(amplitude as u64);
-    put(b" ");
-    put_number(phase as u64);
-    put(b"\n");
+fn put_record(rt: &impl Print, place: u8, amplitude: u32, phase: u32) -> io::Result<()> {
+    put_number(rt, place as u64)?;
+    put(rt, b" ")?;
+    put_number(rt, amplitude as u64)?;
+    put(rt, b" ")?;
+    put_number(rt, phase as u64)?;
+    put(rt, b"\n")
 }
 
 // The records, a line each.
-fn put_records(count: usize, rows: Rows) {
+fn put_records(rt: &impl Print, count: usize, rows: Rows) -> io::Result<()> {
     let mut k = 0;
     while k < RECORDS && k < count {
-        put_record(rows.places[k], rows.amplitudes[k], rows.phases[k]);
+        put_record(rt, rows.places[k], rows.amplitudes[k], rows.phases[k])?;
         k += 1;
     }
+    Ok(())
 }
 
 // A latitude as a wider number.
@@ -51,53 +52,53 @@ fn widened(latitude: i32) -> i64 {
 }
 
 // latitude MINUTES
-fn put_latitude(latitude: i32) {
-    put(b"latitude ");
+fn put_latitude(rt: &impl Print, latitude: i32) -> io::Result<()> {
+    put(rt, b"latitude ")?;
     if latitude < 0 {
-        put(b"-");
+        put(rt, b"-")?;
     }
-    put_number(angles::size(widened(latitude)));
-    put(b"\n");
+    put_number(rt, angles::size(widened(latitude)))?;
+    put(rt, b"\n")
 }
 
 // refused NUMBER LINE
-fn put_refused(number: u32, line: usize) {
-    put(b"refused ");
-    put_number(number as u64);
-    put(b" ");
-    put_number(line as u64);
-    put(b"\n");
+fn put_refused(rt: &impl Print, number: u32, line: usize) -> io::Result<()> {
+    put(rt, b"refused ")?;
+    put_number(rt, number as u64)?;
+    put(rt, b" ")?;
+    put_number(rt, line as u64)?;
+    put(rt, b"\n")
 }
 
 // The latitude and the records, or the refusal.
-fn put_station(told: StationCards) {
+fn put_station(rt: &impl Print, told: StationCards) -> io::Result<()> {
     let answer = told.answer;
     match answer {
         Answer::Accepted => {
-            put_latitude(told.latitude);
+            put_latitude(rt, told.latitude)?;
             let rows = told.rows;
-            put_records(told.count, rows);
+            put_records(rt, told.count, rows)
         }
-        Answer::Refused(r, line) => put_refused(refusals::number_of(r), line),
+        Answer::Refused(r, line) => put_refused(rt, refusals::number_of(r), line),
     }
 }
 
 // A word, a text, and LF.
-fn put_text<'a>(word: &'a [u8], text: &'a [u8]) {
-    put(word);
-    put(text);
-    put(b"\n");
+fn put_text<'a>(rt: &impl Print, word: &'a [u8], text: &'a [u8]) -> io::Result<()> {
+    put(rt, word)?;
+    put(rt, text)?;
+    put(rt, b"\n")
 }
 
 // Checksums, name and time zone.
-fn put_face<'a>(names: &'a [u8], station: &'a [u8]) {
-    put(b"crc ");
-    put_number(checksum::crc32(names) as u64);
-    put(b" ");
-    put_number(checksum::crc32(station) as u64);
-    put(b"\n");
-    put_text(b"name ", stationcards::station_name(station));
-    put_text(b"zone ", stationcards::time_zone(station));
+fn put_face<'a>(rt: &impl Print, names: &'a [u8], station: &'a [u8]) -> io::Result<()> {
+    put(rt, b"crc ")?;
+    put_number(rt, checksum::crc32(names) as u64)?;
+    put(rt, b" ")?;
+    put_number(rt, checksum::crc32(station) as u64)?;
+    put(rt, b"\n")?;
+    put_text(rt, b"name ", stationcards::station_name(station))?;
+    put_text(rt, b"zone ", stationcards::time_zone(station))
 }
 
 // The size of the names, on the first line.
@@ -116,22 +117,22 @@ fn size_field() -> NumberField
 }
 
 // What the input comes to; nothing where it has no size.
-fn put_input(input: &[u8]) {
+fn put_input(rt: &impl Print, input: &[u8]) -> io::Result<()> {
     let rest = columns::rest_lines(input);
     match natural_field(columns::first_line(input), size_field()) {
         Natural::Value(bytes) => {
             let k = bytes as usize;
             let names = columns::part(rest, 0, k);
             let station = columns::part(rest, k, 65_536);
-            put_face(names, station);
-            put_station(stationfile::read_station(station, names, k / 5));
+            put_face(rt, names, station)?;
+            put_station(rt, stationfile::read_station(station, names, k / 5))
         }
-        Natural::Bad(_) => {}
+        Natural::Bad(_) => Ok(()),
     }
 }
 
-fn main() {
-    let mut file = io::large_buffer();
-    let n = io::read_full(0, &mut file);
-    put_input(&file[..n]);
+fn main(rt: HostRuntime) -> io::Result<()> {
+    let mut file = [0u8; 65536];
+    let n = files::read_full(&mut rt.stdin(), &mut file);
+    put_input(&rt, &file[..n])
 }

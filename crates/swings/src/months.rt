@@ -9,7 +9,7 @@ use drawing_plots::scale;
 
 // A month of a year: how many days of the year lie before it and how many it has, its turns from one to before another, and which of these are the highest
 // and the lowest.
-#[derive(Drop)]
+#[derive(Clone, Copy)]
 pub struct Month {
     pub before: u32,
     pub days: u32,

@@ -7,7 +7,7 @@ use crate::entries::natural_at;
 use limits::PLACES;
 
 // The row of a main or of a shallow-water constituent, or neither.
-#[derive(Drop)]
+#[derive(Clone, Copy)]
 pub enum Found {
     Main(usize),
     Shallow(usize),

@@ -29,7 +29,7 @@ pub const COEFFICIENTS: usize = 4 * SHALLOWS;
 
 // 01's table; `specs/inner/View.antt` says what each row holds.
 #[repr(C)]
-#[derive(Drop)]
+#[derive(Clone, Copy)]
 pub struct Table {
     pub frequencies: usize,
     pub names: [u8; NAMES],

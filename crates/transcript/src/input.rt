@@ -2,11 +2,11 @@
 ghost use Rattle.std.specs.Prelude.{◌≡◌, ◌+◌, ◌-◌, ◌%◌, ◌^◌, ◌<◌, ◌≤◌, length, ◌==◌};
 ghost use Rattle.transcript.specs.inner.Window.{Within, Ends, one_if, feeds_from};
 
-use libc::STDIN_FILENO;
+use std::io::Read;
 use std::num::wrapping_add_u64;
 
 // What is read and not yet taken: the bytes of the buffer from `from` to `to`. `line` is the input line, from 1, on which the first of them stands.
-#[derive(Drop)]
+#[derive(Clone, Copy)]
 pub struct Window {
     pub from: usize,
     pub to: usize,
@@ -15,7 +15,7 @@ pub struct Window {
 }
 
 // A line ends at `end`, where its LF stands; where `end` is the window's end it has none, for the input ended or the buffer is full.
-#[derive(Drop)]
+#[derive(Clone, Copy)]
 pub struct Line {
     pub end: usize,
     pub window: Window,
@@ -46,24 +46,22 @@ fn to_front(buffer: &mut [u8], from: usize, to: usize) -> usize
     to - from
 }
 
-// Reads once into the buffer from `to` on; gives how many bytes came.
-fn read_behind(buffer: &mut [u8], to: usize) -> usize
+// Reads once into the buffer from `to` on; gives how many bytes came: none where the read fails.
+fn read_behind(input: &mut impl Read, buffer: &mut [u8], to: usize) -> usize
     requires { to ≤ length buffer.old }
     ensures { to + result ≤ length buffer.old }
 {
-    let room = &mut buffer[to..];
-    let got = libc::read(STDIN_FILENO, room);
-    io::count(got, room)
+    input.read(&mut buffer[to..]).unwrap_or(0)
 }
 
 // The window with what one more read brings. Where that is nothing, the input has ended or the buffer is full.
-pub fn more(buffer: &mut [u8], window: Window) -> Window
+pub fn more(input: &mut impl Read, buffer: &mut [u8], window: Window) -> Window
     requires { Within (length buffer.old) window }
     ensures within { Within (length buffer.old) result }
     ensures line_value { result.line ≡ window.line }
 {
     let to = to_front(buffer, window.from, window.to);
-    let got = read_behind(buffer, to);
+    let got = read_behind(input, buffer, to);
     Window {
         from: 0,
         to: to + got,
@@ -88,7 +86,7 @@ fn line_feed(buffer: &[u8], from: usize, to: usize) -> usize
 }
 
 // The line that begins where the window does, with as much read as it takes.
-pub fn next_line(buffer: &mut [u8], window: Window) -> Line
+pub fn next_line(input: &mut impl Read, buffer: &mut [u8], window: Window) -> Line
     requires { Within (length buffer.old) window }
     ensures ends { Ends (length buffer.old) result }
     ensures line_value { result.window.line ≡ window.line }
@@ -101,7 +99,7 @@ pub fn next_line(buffer: &mut [u8], window: Window) -> Line
         if end < held.to || held.ended {
             return Line { end, window: held };
         }
-        held = more(buffer, held);
+        held = more(input, buffer, held);
         end = line_feed(buffer, held.from, held.to);
         turns -= 1;
     }
@@ -109,7 +107,7 @@ pub fn next_line(buffer: &mut [u8], window: Window) -> Line
 }
 
 // The window with at least so many bytes, unless the input ends before or the buffer is full.
-pub fn gather(buffer: &mut [u8], window: Window, bytes: usize) -> Window
+pub fn gather(input: &mut impl Read, buffer: &mut [u8], window: Window, bytes: usize) -> Window
     requires { Within (length buffer.old) window }
     ensures { Within (length buffer.old) result }
 {
@@ -119,7 +117,7 @@ pub fn gather(buffer: &mut [u8], window: Window, bytes: usize) -> Window
         if bytes <= held.to - held.from || held.ended {
             return held;
         }
-        held = more(buffer, held);
+        held = more(input, buffer, held);
         turns -= 1;
     }
     held

@@ -9,13 +9,14 @@ use limits::RECORDS;
 use script::{Call, Entry, Number, YearLine};
 use station::records::{Rows, no_rows, put};
 use station::strides::Strides;
+use std::io::Read;
 use std::num::wrapping_add_u64;
 
 // What a call asks. A card file stands in the buffer from the first place to the second; a station has a latitude, so many records and its strides; a series,
 // a search and a year's sheet end with how many places they are lent; bookings have so many minutes, which stand in the lent places, and so many places for heights;
 // hourly cards have a station number and so many bytes.
 // Stop: the input is not of the form.
-#[derive(Drop)]
+#[derive(Clone, Copy)]
 pub enum Asked {
     Cards(usize, usize),
     Station(i32, usize, Strides),
@@ -31,7 +32,7 @@ pub enum Asked {
 }
 
 // What a call asks, the input line of the call or of what is wrong, a station's first 146 records, and the window behind it all.
-#[derive(Drop)]
+#[derive(Clone, Copy)]
 pub struct Heard {
     pub asked: Asked,
     pub line: u64,
@@ -40,7 +41,7 @@ pub struct Heard {
 }
 
 // The call of a line, the number of that line, and the window behind it.
-#[derive(Drop)]
+#[derive(Clone, Copy)]
 struct CallLine {
     call: Call,
     line: u64,
@@ -48,7 +49,7 @@ struct CallLine {
 }
 
 // Whether a card file came whole, where it stands, the line of its last byte or of what is wrong, and the window behind it.
-#[derive(Drop)]
+#[derive(Clone, Copy)]
 struct CardFile {
     good: bool,
     from: usize,
@@ -58,14 +59,14 @@ struct CardFile {
 }
 
 // A station's line; where it is bad the window still begins with it.
-#[derive(Drop)]
+#[derive(Clone, Copy)]
 struct Told {
     entry: Entry,
     window: Window,
 }
 
 // Whether a station's lines were all of the form, the first 146 records, and the window behind them, or at the bad line.
-#[derive(Drop)]
+#[derive(Clone, Copy)]
 struct Records {
     good: bool,
     rows: Rows,
@@ -73,25 +74,25 @@ struct Records {
 }
 
 // A minute's line; where it is bad the window still begins with it.
-#[derive(Drop)]
+#[derive(Clone, Copy)]
 struct MinuteLine {
     number: Number,
     window: Window,
 }
 
 // Whether minutes' lines were all of the form, and the window behind them, or at the bad line.
-#[derive(Drop)]
+#[derive(Clone, Copy)]
 struct Minutes {
     good: bool,
     window: Window,
 }
 
 // The next line as a call. A line without LF is bad.
-fn read_call(buffer: &mut [u8], window: Window) -> CallLine
+fn read_call(input: &mut impl Read, buffer: &mut [u8], window: Window) -> CallLine
     requires { Within (length buffer.old) window }
     ensures { Within (length buffer.old) result.window }
 {
-    let line = input::next_line(buffer, window);
+    let line = input::next_line(input, buffer, window);
     let held = line.window;
     let from = held.from;
     let end = line.end;
@@ -112,12 +113,12 @@ fn read_call(buffer: &mut [u8], window: Window) -> CallLine
 }
 
 // So many bytes and LF. Line feeds inside the card file count as input lines.
-fn read_file(buffer: &mut [u8], window: Window, bytes: usize) -> CardFile
+fn read_file(input: &mut impl Read, buffer: &mut [u8], window: Window, bytes: usize) -> CardFile
     requires bytes_in_bounds { bytes < length buffer.old }
     requires within { Within (length buffer.old) window }
     ensures { FilePost (length buffer.old) bytes buffer.new result }
 {
-    let held = input::gather(buffer, window, bytes + 1);
+    let held = input::gather(input, buffer, window, bytes + 1);
     let from = held.from;
     let to = held.to;
     if to - from <= bytes {
@@ -144,11 +145,11 @@ fn read_file(buffer: &mut [u8], window: Window, bytes: usize) -> CardFile
 }
 
 // The next line as a station's.
-fn read_record(buffer: &mut [u8], window: Window) -> Told
+fn read_record(input: &mut impl Read, buffer: &mut [u8], window: Window) -> Told
     requires { Within (length buffer.old) window }
     ensures { Within (length buffer.old) result.window }
 {
-    let line = input::next_line(buffer, window);
+    let line = input::next_line(input, buffer, window);
     let held = line.window;
     let from = held.from;
     let end = line.end;
@@ -189,7 +190,7 @@ fn with_row(rows: Rows, k: usize, place: u8, amplitude: u32, phase: u32) -> Rows
 }
 
 // A station's lines, all of them, or up to the first that is bad.
-fn read_records(buffer: &mut [u8], window: Window, count: u32) -> Records
+fn read_records(input: &mut impl Read, buffer: &mut [u8], window: Window, count: u32) -> Records
     requires { Within (length buffer.old) window }
     ensures { Within (length buffer.old) result.window }
 {
@@ -197,7 +198,7 @@ fn read_records(buffer: &mut [u8], window: Window, count: u32) -> Records
     let mut held = window;
     let mut k: u32 = 0;
     while k < count {
-        let told = read_record(buffer, held);
+        let told = read_record(input, buffer, held);
         held = told.window;
         let entry = told.entry;
         match entry {
@@ -226,11 +227,11 @@ fn read_records(buffer: &mut [u8], window: Window, count: u32) -> Records
 }
 
 // The next line as a minute.
-fn read_minute(buffer: &mut [u8], window: Window) -> MinuteLine
+fn read_minute(input: &mut impl Read, buffer: &mut [u8], window: Window) -> MinuteLine
     requires { Within (length buffer.old) window }
     ensures { MinutePost (length buffer.old) window result }
 {
-    let line = input::next_line(buffer, window);
+    let line = input::next_line(input, buffer, window);
     let held = line.window;
     let from = held.from;
     let end = line.end;
@@ -257,14 +258,19 @@ fn read_minute(buffer: &mut [u8], window: Window) -> MinuteLine
 }
 
 // Minutes' lines, one for each of the lent places, or up to the first that is bad.
-fn read_minutes(buffer: &mut [u8], window: Window, minutes: &mut [u32]) -> Minutes
+fn read_minutes(
+    input: &mut impl Read,
+    buffer: &mut [u8],
+    window: Window,
+    minutes: &mut [u32],
+) -> Minutes
     requires { Within (length buffer.old) window }
     ensures { MinutesPost (length buffer.old) (length minutes.old) window result }
 {
     let mut held = window;
     let mut k = 0;
     while k < minutes.len() {
-        let told = read_minute(buffer, held);
+        let told = read_minute(input, buffer, held);
         held = told.window;
         let number = told.number;
         let Number::Value(minute) = number else {
@@ -295,14 +301,20 @@ fn heard_line(asked: Asked, line: u64, window: Window) -> Heard
 }
 
 // cards BYTES, and the file behind its line. One that the buffer cannot hold is not of the form.
-fn hear_cards(buffer: &mut [u8], window: Window, line: u64, bytes: usize) -> Heard
+fn hear_cards(
+    input: &mut impl Read,
+    buffer: &mut [u8],
+    window: Window,
+    line: u64,
+    bytes: usize,
+) -> Heard
     requires { Within (length buffer.old) window }
     ensures { HeardPost (length buffer.old) 0 0 result }
 {
     if buffer.len() <= bytes {
         return heard_line(Asked::Stop, line, window);
     }
-    let file = read_file(buffer, window, bytes);
+    let file = read_file(input, buffer, window, bytes);
     if file.good {
         return heard_line(Asked::Cards(file.from, file.end), line, file.window);
     }
@@ -311,6 +323,7 @@ fn hear_cards(buffer: &mut [u8], window: Window, line: u64, bytes: usize) -> Hea
 
 // station LATITUDE COUNT with its strides, and the records behind its line.
 fn hear_station(
+    input: &mut impl Read,
     buffer: &mut [u8],
     window: Window,
     line: u64,
@@ -321,7 +334,7 @@ fn hear_station(
     requires { Within (length buffer.old) window }
     ensures { HeardPost (length buffer.old) 0 0 result }
 {
-    let records = read_records(buffer, window, count);
+    let records = read_records(input, buffer, window, count);
     let next = records.window;
     if !records.good {
         return heard_line(Asked::Stop, next.line, next);
@@ -373,6 +386,7 @@ fn asked_year(minutes: usize, heights: usize, line: YearLine) -> Asked
 
 // bookings COUNT HEIGHTS, where so many places can be lent, and the minutes behind its line.
 fn hear_bookings(
+    input: &mut impl Read,
     buffer: &mut [u8],
     told: CallLine,
     minutes: &mut [u32],
@@ -388,7 +402,7 @@ fn hear_bookings(
     if minutes.len() < n || heights < places {
         return heard_line(Asked::Stop, told.line, told.window);
     }
-    let read = read_minutes(buffer, told.window, &mut minutes[..n]);
+    let read = read_minutes(input, buffer, told.window, &mut minutes[..n]);
     let next = read.window;
     if read.good {
         return heard_line(Asked::Bookings(n, places), told.line, next);
@@ -397,7 +411,13 @@ fn hear_bookings(
 }
 
 // What a line's call asks, with what stands behind the line, for a program that lends these places for minutes and so many for heights.
-fn hear(buffer: &mut [u8], told: CallLine, minutes: &mut [u32], heights: usize) -> Heard
+fn hear(
+    input: &mut impl Read,
+    buffer: &mut [u8],
+    told: CallLine,
+    minutes: &mut [u32],
+    heights: usize,
+) -> Heard
     requires { Within (length buffer.old) told.window }
     ensures { HeardPost (length buffer.old) (length minutes.old) heights result }
 {
@@ -405,10 +425,10 @@ fn hear(buffer: &mut [u8], told: CallLine, minutes: &mut [u32], heights: usize) 
     let call = told.call;
     match call {
         Call::Cards(bytes) => {
-            return hear_cards(buffer, told.window, line, bytes as usize);
+            return hear_cards(input, buffer, told.window, line, bytes as usize);
         }
         Call::Station(latitude, count, strides) => {
-            return hear_station(buffer, told.window, line, latitude, count, strides);
+            return hear_station(input, buffer, told.window, line, latitude, count, strides);
         }
         Call::Date(year, month) => {
             return heard_line(Asked::Date(year, month), line, told.window);
@@ -430,7 +450,7 @@ fn hear(buffer: &mut [u8], told: CallLine, minutes: &mut [u32], heights: usize) 
             return heard_line(asked_year(minutes.len(), heights, year), line, told.window);
         }
         Call::Bookings(count, h) => {
-            return hear_bookings(buffer, told, minutes, heights, count, h);
+            return hear_bookings(input, buffer, told, minutes, heights, count, h);
         }
         Call::Hourly(station, bytes) => {
             return heard_line(Asked::Hourly(station, bytes), line, told.window);
@@ -443,14 +463,20 @@ fn hear(buffer: &mut [u8], told: CallLine, minutes: &mut [u32], heights: usize) 
 
 // The next call, for a program that lends these places for minutes and so many for heights. Only the minutes of bookings are read into the places. At the end of
 // the input there is no call.
-pub fn next_call(buffer: &mut [u8], window: Window, minutes: &mut [u32], heights: usize) -> Heard
+pub fn next_call(
+    input: &mut impl Read,
+    buffer: &mut [u8],
+    window: Window,
+    minutes: &mut [u32],
+    heights: usize,
+) -> Heard
     requires { Within (length buffer.old) window }
     ensures { HeardPost (length buffer.old) (length minutes.old) heights result }
 {
-    let held = input::gather(buffer, window, 1);
+    let held = input::gather(input, buffer, window, 1);
     if held.to <= held.from {
         return heard_line(Asked::End, held.line, held);
     }
-    let told = read_call(buffer, held);
-    hear(buffer, told, minutes, heights)
+    let told = read_call(input, buffer, held);
+    hear(input, buffer, told, minutes, heights)
 }

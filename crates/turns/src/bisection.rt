@@ -11,7 +11,7 @@ use limits::RECORDS;
 use month_prepared::months::Months;
 
 // A turn's minute; the later of the two ends that hold the change, and the slope there.
-#[derive(Drop)]
+#[derive(Clone, Copy)]
 pub struct Turned {
     pub turn: u64,
     pub later: u64,
@@ -19,7 +19,7 @@ pub struct Turned {
 }
 
 // A bracket: its start, its length, and the slopes at its two ends.
-#[derive(Drop)]
+#[derive(Clone, Copy)]
 pub struct Bracket {
     pub start: u64,
     pub length: u64,

@@ -28,7 +28,7 @@ pub use search::Reach;
 const KEPT: usize = MINUTES;
 
 // What a search returns: what it found, or that there are more turns than a lent buffer holds.
-#[derive(Drop)]
+#[derive(Clone, Copy)]
 pub enum Searched {
     Found(Summary),
     TooMany,

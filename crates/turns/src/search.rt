@@ -13,14 +13,14 @@ use limits::RECORDS;
 use month_prepared::months::Months;
 
 // How many turns were found, and whether the first is high.
-#[derive(Drop)]
+#[derive(Clone, Copy)]
 pub struct Summary {
     pub count: usize,
     pub high: bool,
 }
 
 // What is searched: the length of the strides, the first minute and the last.
-#[derive(Drop)]
+#[derive(Clone, Copy)]
 pub struct Reach {
     pub stride: u64,
     pub first: u64,
@@ -28,7 +28,7 @@ pub struct Reach {
 }
 
 // A turn, whether it is high, the minute from which the search resumes and the slope there.
-#[derive(Drop)]
+#[derive(Clone, Copy)]
 struct Next {
     found: bool,
     turn: u64,

@@ -19,35 +19,37 @@ use refusals::{Answer, Refusal};
 use sheets::daysheet::{Next, Water};
 use sheets::{daysheet, monthsheet};
 use station::strides::Strides;
+use std::io;
 pub use tabulated::{heights, series};
 pub use yearly::{year, year_table};
 
 // Says that the clock refused the day.
-fn say_day(date: Date, refusal: Refusal) {
-    messages::refused_day(date.year, date.month, date.day, refusal)
+fn say_day(rt: HostRuntime, date: Date, refusal: Refusal) -> io::Result<()> {
+    messages::refused_day(rt, date.year, date.month, date.day, refusal)
 }
 
 // Says that the clock refused the month's turns.
-fn say_turns(date: Date, refusal: Refusal) {
-    messages::refused_turns(b"month", date.month as u64, TURNS, refusal)
+fn say_turns(rt: HostRuntime, date: Date, refusal: Refusal) -> io::Result<()> {
+    messages::refused_turns(rt, b"month", date.month as u64, TURNS, refusal)
 }
 
 // Writes the sheet of a month's turns.
-fn write_month(face: Face, date: Date, turns: Turns) {
-    let mut page = io::buffer();
-    let at = monthsheet::put_month(&mut page, 0, face, date, turns);
-    output::flush(&page, at);
+fn write_month(rt: &impl Print, face: Face, date: Date, turns: Turns) -> io::Result<()> {
+    let mut page = [0u8; 4096];
+    let at = monthsheet::put_month(rt, &mut page, 0, face, date, turns)?;
+    output::flush(rt, &page, at)?;
+    Ok(())
 }
 
 // month YEAR MONTH: the high and low waters of each day.
-pub fn month(clock: Clock, face: Face, date: Date)
+pub fn month(rt: HostRuntime, clock: Clock, face: Face, date: Date) -> io::Result<()>
     requires { Made clock }
 {
     let found = monthturns::turns_of(clock, shown::last_minute(date), face.ground.strides);
     let answer = found.answer;
     match answer {
-        Answer::Accepted => write_month(face, date, found.turns),
-        Answer::Refused(refusal, _) => say_turns(date, refusal),
+        Answer::Accepted => write_month(&rt, face, date, found.turns),
+        Answer::Refused(refusal, _) => say_turns(rt, date, refusal),
     }
 }
 
@@ -148,20 +150,37 @@ fn water_at(
 }
 
 // Writes the sheet of a day, of what is to be known at a minute, its hourly heights and its month's turns.
-fn write_day(face: Face, date: Date, water: Water, hourly: &[i64], turns: Turns) {
-    let mut page = io::buffer();
-    let at = daysheet::put_sheet(&mut page, 0, face, date, water, hourly, turns);
-    output::flush(&page, at);
+fn write_day(
+    rt: &impl Print,
+    face: Face,
+    date: Date,
+    water: Water,
+    hourly: &[i64],
+    turns: Turns,
+) -> io::Result<()> {
+    let mut page = [0u8; 4096];
+    let at = daysheet::put_sheet(rt, &mut page, 0, face, date, water, hourly, turns)?;
+    output::flush(rt, &page, at)?;
+    Ok(())
 }
 
 // The sheet of a day whose hourly heights and height at a minute are there.
-fn day_turns(clock: Clock, face: Face, date: Date, minute: u32, height: i64, hourly: &[i64])
+fn day_turns(
+    rt: HostRuntime,
+    clock: Clock,
+    face: Face,
+    date: Date,
+    minute: u32,
+    height: i64,
+    hourly: &[i64],
+) -> io::Result<()>
     requires { Made clock }
 {
     let found = monthturns::turns_of(clock, shown::last_minute(date), face.ground.strides);
     let answer = found.answer;
     match answer {
         Answer::Accepted => write_day(
+            &rt,
             face,
             date,
             water_at(
@@ -175,23 +194,30 @@ fn day_turns(clock: Clock, face: Face, date: Date, minute: u32, height: i64, hou
             hourly,
             found.turns,
         ),
-        Answer::Refused(refusal, _) => say_turns(date, refusal),
+        Answer::Refused(refusal, _) => say_turns(rt, date, refusal),
     }
 }
 
 // The sheet of a day whose hourly heights are there, for a minute of its month.
-fn day_height(clock: Clock, face: Face, date: Date, minute: u32, hourly: &[i64])
+fn day_height(
+    rt: HostRuntime,
+    clock: Clock,
+    face: Face,
+    date: Date,
+    minute: u32,
+    hourly: &[i64],
+) -> io::Result<()>
     requires { Made clock }
 {
     let answer = clock::height(clock, minute);
     match answer {
-        HeightAnswer::Height(height) => day_turns(clock, face, date, minute, height, hourly),
-        HeightAnswer::Refused(refusal, _) => say_day(date, refusal),
+        HeightAnswer::Height(height) => day_turns(rt, clock, face, date, minute, height, hourly),
+        HeightAnswer::Refused(refusal, _) => say_day(rt, date, refusal),
     }
 }
 
 // day YEAR MONTH DAY HH:MM: the next high and low water, and the day's curve.
-pub fn day(clock: Clock, face: Face, date: Date, minute: u32)
+pub fn day(rt: HostRuntime, clock: Clock, face: Face, date: Date, minute: u32) -> io::Result<()>
     requires { Made clock }
 {
     let mut hourly = [0i64; 25];
@@ -199,12 +225,13 @@ pub fn day(clock: Clock, face: Face, date: Date, minute: u32)
     let answer = clock::series(clock, start, 60, &mut hourly);
     match answer {
         Answer::Accepted => day_height(
+            rt,
             clock,
             face,
             date,
             dates::minute_of_month(date.day, minute),
             &hourly,
         ),
-        Answer::Refused(refusal, _) => say_day(date, refusal),
+        Answer::Refused(refusal, _) => say_day(rt, date, refusal),
     }
 }

@@ -11,6 +11,7 @@ use page::face::Face;
 use page::shown::Date;
 use refusals::{Answer, Refusal};
 use sheets::csv;
+use std::io;
 
 // A place for each minute of the longest month, and one more, so that a series that is as long as that is refused by the clock.
 fn height_places() -> [i64; 44642]
@@ -20,10 +21,18 @@ fn height_places() -> [i64; 44642]
 }
 
 // Writes heights as rows.
-fn write_rows(face: Face, date: Date, start: u32, step: u32, heights: &[i64]) {
-    let mut page = io::buffer();
-    let at = csv::put_heights(&mut page, 0, face, date, start, step, heights);
-    output::flush(&page, at);
+fn write_rows(
+    rt: &impl Print,
+    face: Face,
+    date: Date,
+    start: u32,
+    step: u32,
+    heights: &[i64],
+) -> io::Result<()> {
+    let mut page = [0u8; 4096];
+    let at = csv::put_heights(rt, &mut page, 0, face, date, start, step, heights)?;
+    output::flush(rt, &page, at)?;
+    Ok(())
 }
 
 // A count of at most the places.
@@ -36,17 +45,25 @@ fn at_most(count: u32, places: usize) -> usize {
 }
 
 // Says that the clock refused a series, by the question that turned it down.
-fn say_series(date: Date, step: u32, count: u32, reason: Reason, refusal: Refusal) {
+fn say_series(
+    rt: HostRuntime,
+    date: Date,
+    step: u32,
+    count: u32,
+    reason: Reason,
+    refusal: Refusal,
+) -> io::Result<()> {
     match reason {
-        Reason::Within => messages::refused_number(b"step", step as u64, refusal),
-        Reason::Start => messages::refused_day(date.year, date.month, date.day, refusal),
-        Reason::Step => messages::refused_step(step, refusal),
-        Reason::End => messages::refused_count(date.year, date.month, count, refusal),
+        Reason::Within => messages::refused_number(rt, b"step", step as u64, refusal),
+        Reason::Start => messages::refused_day(rt, date.year, date.month, date.day, refusal),
+        Reason::Step => messages::refused_step(rt, step, refusal),
+        Reason::End => messages::refused_count(rt, date.year, date.month, count, refusal),
     }
 }
 
 // So many heights of the month that a clock has prepared, into lent places.
 fn lent_series(
+    rt: HostRuntime,
     clock: Clock,
     face: Face,
     date: Date,
@@ -54,18 +71,19 @@ fn lent_series(
     step: u32,
     count: u32,
     places: &mut [i64],
-)
+) -> io::Result<()>
     requires { Made clock }
 {
     let n = at_most(count, places.len());
     if places.len() < n {
-        return;
+        return Ok(());
     }
     let lent = &mut places[..n];
     let answer = clock::series(clock, start, step, lent);
     match answer {
-        Answer::Accepted => write_rows(face, date, start, step, lent),
+        Answer::Accepted => write_rows(&rt, face, date, start, step, lent),
         Answer::Refused(refusal, _) => say_series(
+            rt,
             date,
             step,
             count,
@@ -76,18 +94,35 @@ fn lent_series(
 }
 
 // So many heights from a minute of the month on, a step apart.
-fn heights_from(clock: Clock, face: Face, date: Date, start: u32, step: u32, count: u32)
+fn heights_from(
+    rt: HostRuntime,
+    clock: Clock,
+    face: Face,
+    date: Date,
+    start: u32,
+    step: u32,
+    count: u32,
+) -> io::Result<()>
     requires { Made clock }
 {
     let mut places = height_places();
-    lent_series(clock, face, date, start, step, count, &mut places)
+    lent_series(rt, clock, face, date, start, step, count, &mut places)
 }
 
 // series YEAR MONTH DAY HH:MM STEP COUNT: so many heights from a minute of a day on, a step apart.
-pub fn series(clock: Clock, face: Face, date: Date, minute: u32, step: u32, count: u32)
+pub fn series(
+    rt: HostRuntime,
+    clock: Clock,
+    face: Face,
+    date: Date,
+    minute: u32,
+    step: u32,
+    count: u32,
+) -> io::Result<()>
     requires { Made clock }
 {
     heights_from(
+        rt,
         clock,
         face,
         date,
@@ -110,8 +145,8 @@ fn month_count(date: Date, step: u32) -> u32 {
 }
 
 // heights YEAR MONTH STEP: the heights of a whole month, a step apart.
-pub fn heights(clock: Clock, face: Face, date: Date, step: u32)
+pub fn heights(rt: HostRuntime, clock: Clock, face: Face, date: Date, step: u32) -> io::Result<()>
     requires { Made clock }
 {
-    heights_from(clock, face, date, 0, step, month_count(date, step))
+    heights_from(rt, clock, face, date, 0, step, month_count(date, step))
 }

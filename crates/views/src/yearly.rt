@@ -9,19 +9,36 @@ use page::shown::{Date, Known};
 use refusals::Answer;
 use sheets::{csv, yearsheet};
 use station::strides::Strides;
+use std::io;
 
 // Writes a year's sheet.
-fn write_sheet<'a>(face: Face, date: Date, known: Known, minutes: &'a [u32], heights: &'a [i64]) {
-    let mut page = io::buffer();
-    let at = yearsheet::put_year(&mut page, 0, face, date, known, minutes, heights);
-    output::flush(&page, at);
+fn write_sheet<'a>(
+    rt: &impl Print,
+    face: Face,
+    date: Date,
+    known: Known,
+    minutes: &'a [u32],
+    heights: &'a [i64],
+) -> io::Result<()> {
+    let mut page = [0u8; 4096];
+    let at = yearsheet::put_year(rt, &mut page, 0, face, date, known, minutes, heights)?;
+    output::flush(rt, &page, at)?;
+    Ok(())
 }
 
 // Writes a year's turns as rows.
-fn write_rows<'a>(face: Face, date: Date, known: Known, minutes: &'a [u32], heights: &'a [i64]) {
-    let mut page = io::buffer();
-    let at = csv::put_year(&mut page, 0, face, date, known, minutes, heights);
-    output::flush(&page, at);
+fn write_rows<'a>(
+    rt: &impl Print,
+    face: Face,
+    date: Date,
+    known: Known,
+    minutes: &'a [u32],
+    heights: &'a [i64],
+) -> io::Result<()> {
+    let mut page = [0u8; 4096];
+    let at = csv::put_year(rt, &mut page, 0, face, date, known, minutes, heights)?;
+    output::flush(rt, &page, at)?;
+    Ok(())
 }
 
 // A year's turns into lent places; no height beside them.
@@ -39,7 +56,7 @@ fn turns_of(
 }
 
 // year YEAR: the high and low waters of each day, or the clock's refusal.
-pub fn year(clock: Clock, face: Face, date: Date) -> Answer
+pub fn year(rt: HostRuntime, clock: Clock, face: Face, date: Date) -> io::Result<Answer>
     requires { Made clock }
 {
     let mut minutes = shown::minute_places();
@@ -48,15 +65,15 @@ pub fn year(clock: Clock, face: Face, date: Date) -> Answer
     let answer = turns_of(clock, date.year, strides, &mut minutes, &mut heights);
     match answer {
         TurnsAnswer::Turns(count, first) => {
-            write_sheet(face, date, Known { count, first }, &minutes, &heights);
-            Answer::Accepted
+            write_sheet(&rt, face, date, Known { count, first }, &minutes, &heights)?;
+            Ok(Answer::Accepted)
         }
-        TurnsAnswer::Refused(refusal, place) => Answer::Refused(refusal, place),
+        TurnsAnswer::Refused(refusal, place) => Ok(Answer::Refused(refusal, place)),
     }
 }
 
 // year YEAR --csv: the year's turns as rows, or the clock's refusal.
-pub fn year_table(clock: Clock, face: Face, date: Date) -> Answer
+pub fn year_table(rt: HostRuntime, clock: Clock, face: Face, date: Date) -> io::Result<Answer>
     requires { Made clock }
 {
     let mut minutes = shown::minute_places();
@@ -65,9 +82,9 @@ pub fn year_table(clock: Clock, face: Face, date: Date) -> Answer
     let answer = turns_of(clock, date.year, strides, &mut minutes, &mut heights);
     match answer {
         TurnsAnswer::Turns(count, first) => {
-            write_rows(face, date, Known { count, first }, &minutes, &heights);
-            Answer::Accepted
+            write_rows(&rt, face, date, Known { count, first }, &minutes, &heights)?;
+            Ok(Answer::Accepted)
         }
-        TurnsAnswer::Refused(refusal, place) => Answer::Refused(refusal, place),
+        TurnsAnswer::Refused(refusal, place) => Ok(Answer::Refused(refusal, place)),
     }
 }

@@ -17,7 +17,7 @@ fits n h = record { sfits = omega arith }
 pub returns-in-Of : goal.returns-in-Of
 returns-in-Of c =
     let e = written-gives (pos 0) (pos c.args.high) (fits 0 (omega arith)) (fits c.args.high (omega arith)) c.args.format (columns c.args.line.now c.args.from c.args.width) c.written_in-written.result c.written_in-written.ensures in record {
-      result_value = c.narrowed.ensures.result_value ∙ (rw c.size-1.given.1 at e);
+      result_value = c.narrowed.ensures.result_value ∙ (rw c.in-Of.is at e);
       narrow_within = c.narrowed.ensures.narrow_within;
     }
 
@@ -25,6 +25,6 @@ pub returns-in-Bad : goal.returns-in-Bad
 unfolding ranged
 returns-in-Bad c =
     let e = written-gives (pos 0) (pos c.args.high) (fits 0 (omega arith)) (fits c.args.high (omega arith)) c.args.format (columns c.args.line.now c.args.from c.args.width) c.written_in-written.result c.written_in-written.ensures in record {
-      result_value = rw c.enum_told-1.given.1 at e;
+      result_value = rw c.in-Bad.is at e;
       narrow_within = tt;
     }

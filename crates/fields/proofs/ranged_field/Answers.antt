@@ -11,10 +11,10 @@ use Rattle.fields.proofs.ranged_field.Goals as goal
 pub returns-in-Of : goal.returns-in-Of
 returns-in-Of c =
     let e = written-gives c.args.low c.args.high c.ranges.low c.ranges.high c.args.format (columns c.args.line.now c.args.from c.args.width) c.written_in-written.result c.written_in-written.ensures in
-    (simp (to_z-of_z w64 c.args.low c.ranges.low, to_z-of_z w64 c.args.high c.ranges.high) at c.ranged.ensures) ∙ (rw c.size-1.given.1 at e)
+    (simp (to_z-of_z w64 c.args.low c.ranges.low, to_z-of_z w64 c.args.high c.ranges.high) at c.ranged.ensures) ∙ (rw c.in-Of.is at e)
 
 pub returns-in-Bad : goal.returns-in-Bad
 unfolding ranged
 returns-in-Bad c =
     let e = written-gives c.args.low c.args.high c.ranges.low c.ranges.high c.args.format (columns c.args.line.now c.args.from c.args.width) c.written_in-written.result c.written_in-written.ensures in
-    rw c.enum_told-1.given.1 at e
+    rw c.in-Bad.is at e

@@ -6,9 +6,9 @@ use Rattle.fields.proofs.size_of.Goals as goal
 pub returns-in-Whole : goal.returns-in-Whole
 unfolding kept_of
 returns-in-Whole c =
-    rw c.enum_told-1.given.1 c.whole_size.ensures
+    rw c.in-Whole.is c.whole_size.ensures
 
 pub returns-in-Fixed : goal.returns-in-Fixed
 unfolding kept_of
 returns-in-Fixed c =
-    rw c.format-1.given.1 c.fixed_size.ensures
+    rw c.in-Fixed.is c.fixed_size.ensures

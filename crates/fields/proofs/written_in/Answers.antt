@@ -16,7 +16,7 @@ pub returns-then-begins : goal.returns-then-begins
 unfolding written_in
 returns-then-begins c =
     let e = field-behind c.args.line.now c.part-field.result.now c.args.from c.args.width c.run_end-start.result c.part-field.ensures c.run_end-start.ensures in
-    rw (e, ← c.begins.ensures, c.if-begins.true, padded-next 32 c.part-field.result.now c.run_end-start.result c.args.width, c.type_size.ensures)
+    rw (e, ← c.begins.ensures, c.if-begins.true, padded-next 32 c.part-field.result.now c.run_end-start.result c.args.width, c.size_of.ensures)
 
 pub returns : goal.returns
 unfolding written_in
