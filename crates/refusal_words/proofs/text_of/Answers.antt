@@ -4,7 +4,6 @@ use Prim.Native.Nat.{ℕ}
 use Prim.Native.String.{String}
 use mathlib.Core.Path.{◌≡◌, refl}
 use mathlib.Core.List.{List, [], ◌∷◌}
-use borrow.Author.Rules.{rules}
 use borrow.Author.Tests.{ne_eqb}
 use Rattle.refusal_words.specs.Words.{refusal_rows, words_in, bytes_of, zeros_behind}
 use Rattle.refusal_words.proofs.text_of.Goals as goal
@@ -24,162 +23,102 @@ no_words T [] number l = refl
 no_words T ((n, words) ∷ rows) number l =
     rw (ne_eqb number n (known (T × (number ≡ n → ⊥)) rows number l).1) (no_words (T × (number ≡ n → ⊥)) rows number l)
 
-slice-aggregate-with-zeros : tie.Need-slice-aggregate-with-zeros
-slice-aggregate-with-zeros c = search rules
-
-with-zeros-requires : tie.Need-with-zeros-requires
-with-zeros-requires c κs = search rules
-
-slice-aggregate-with-zeros-2 : tie.Need-slice-aggregate-with-zeros-2
-slice-aggregate-with-zeros-2 c = search rules
-
-with-zeros-requires-2 : tie.Need-with-zeros-requires-2
-with-zeros-requires-2 c κs = search rules
-
-slice-aggregate-with-zeros-3 : tie.Need-slice-aggregate-with-zeros-3
-slice-aggregate-with-zeros-3 c = search rules
-
-with-zeros-requires-3 : tie.Need-with-zeros-requires-3
-with-zeros-requires-3 c κs = search rules
-
-slice-aggregate-with-zeros-4 : tie.Need-slice-aggregate-with-zeros-4
-slice-aggregate-with-zeros-4 c = search rules
-
-with-zeros-requires-4 : tie.Need-with-zeros-requires-4
-with-zeros-requires-4 c κs = search rules
-
-slice-aggregate-with-zeros-5 : tie.Need-slice-aggregate-with-zeros-5
-slice-aggregate-with-zeros-5 c = search rules
-
-with-zeros-requires-5 : tie.Need-with-zeros-requires-5
-with-zeros-requires-5 c κs = search rules
-
-slice-aggregate-with-zeros-6 : tie.Need-slice-aggregate-with-zeros-6
-slice-aggregate-with-zeros-6 c = search rules
-
-with-zeros-requires-6 : tie.Need-with-zeros-requires-6
-with-zeros-requires-6 c κs = search rules
-
-slice-aggregate-with-zeros-7 : tie.Need-slice-aggregate-with-zeros-7
-slice-aggregate-with-zeros-7 c = search rules
-
-with-zeros-requires-7 : tie.Need-with-zeros-requires-7
-with-zeros-requires-7 c κs = search rules
-
-slice-aggregate-with-zeros-8 : tie.Need-slice-aggregate-with-zeros-8
-slice-aggregate-with-zeros-8 c = search rules
-
-with-zeros-requires-8 : tie.Need-with-zeros-requires-8
-with-zeros-requires-8 c κs = search rules
-
-slice-aggregate-with-zeros-9 : tie.Need-slice-aggregate-with-zeros-9
-slice-aggregate-with-zeros-9 c = search rules
-
-with-zeros-requires-9 : tie.Need-with-zeros-requires-9
-with-zeros-requires-9 c κs = search rules
-
-slice-aggregate-with-zeros-10 : tie.Need-slice-aggregate-with-zeros-10
-slice-aggregate-with-zeros-10 c = search rules
-
-with-zeros-requires-10 : tie.Need-with-zeros-requires-10
-with-zeros-requires-10 c κs = search rules
-
 pub returns-in-1 : goal.returns-in-1
 unfolding refusal_rows words_in bytes_of zeros_behind
 returns-in-1 c =
-    rw c.in-1.keys1 c.with_zeros.ensures
+    rw c.in-1.is c.with_zeros.ensures
 
 pub returns-in-2 : goal.returns-in-2
 unfolding refusal_rows words_in bytes_of zeros_behind
 returns-in-2 c =
-    rw c.in-2.keys2 c.with_zeros-in-2.ensures
+    rw c.in-2.is c.with_zeros-in-2.ensures
 
 pub returns-in-3 : goal.returns-in-3
 unfolding refusal_rows words_in bytes_of zeros_behind
 returns-in-3 c =
-    rw c.in-3.keys3 c.with_zeros-in-3.ensures
+    rw c.in-3.is c.with_zeros-in-3.ensures
 
 pub returns-in-4 : goal.returns-in-4
 unfolding refusal_rows words_in bytes_of zeros_behind
 returns-in-4 c =
-    rw c.in-4.keys4 c.with_zeros-in-4.ensures
+    rw c.in-4.is c.with_zeros-in-4.ensures
 
 pub returns-in-5 : goal.returns-in-5
 unfolding refusal_rows words_in bytes_of zeros_behind
 returns-in-5 c =
-    rw c.in-5.keys5 c.with_zeros-in-5.ensures
+    rw c.in-5.is c.with_zeros-in-5.ensures
 
 pub returns-in-6 : goal.returns-in-6
 unfolding refusal_rows words_in bytes_of zeros_behind
 returns-in-6 c =
-    rw c.in-6.keys6 c.with_zeros-in-6.ensures
+    rw c.in-6.is c.with_zeros-in-6.ensures
 
 pub returns-in-7 : goal.returns-in-7
 unfolding refusal_rows words_in bytes_of zeros_behind
 returns-in-7 c =
-    rw c.in-7.keys7 c.with_zeros-in-7.ensures
+    rw c.in-7.is c.with_zeros-in-7.ensures
 
 pub returns-in-8 : goal.returns-in-8
 unfolding refusal_rows words_in bytes_of zeros_behind
 returns-in-8 c =
-    rw c.in-8.keys8 c.with_zeros-in-8.ensures
+    rw c.in-8.is c.with_zeros-in-8.ensures
 
 pub returns-in-9 : goal.returns-in-9
 unfolding refusal_rows words_in bytes_of zeros_behind
 returns-in-9 c =
-    rw c.in-9.keys9 c.with_zeros-in-9.ensures
+    rw c.in-9.is c.with_zeros-in-9.ensures
 
 pub returns-in-10 : goal.returns-in-10
 unfolding refusal_rows words_in bytes_of zeros_behind
 returns-in-10 c =
-    rw c.in-10.keys10 c.with_zeros-in-10.ensures
+    rw c.in-10.is c.with_zeros-in-10.ensures
 
 pub returns-in-11 : goal.returns-in-11
 unfolding refusal_rows words_in bytes_of zeros_behind
 returns-in-11 c =
-    rw c.in-11.keys11 c.with_zeros-in-11.ensures
+    rw c.in-11.is c.with_zeros-in-11.ensures
 
 pub returns-in-21 : goal.returns-in-21
 unfolding refusal_rows words_in bytes_of zeros_behind
 returns-in-21 c =
-    rw c.in-21.keys12 c.with_zeros-in-21.ensures
+    rw c.in-21.is c.with_zeros-in-21.ensures
 
 pub returns-in-22 : goal.returns-in-22
 unfolding refusal_rows words_in bytes_of zeros_behind
 returns-in-22 c =
-    rw c.in-22.keys13 c.with_zeros-in-22.ensures
+    rw c.in-22.is c.with_zeros-in-22.ensures
 
 pub returns-in-23 : goal.returns-in-23
 unfolding refusal_rows words_in bytes_of zeros_behind
 returns-in-23 c =
-    rw c.in-23.keys14 c.with_zeros-in-23.ensures
+    rw c.in-23.is c.with_zeros-in-23.ensures
 
 pub returns-in-31 : goal.returns-in-31
 unfolding refusal_rows words_in bytes_of zeros_behind
 returns-in-31 c =
-    rw c.in-31.keys15 c.with_zeros-in-31.ensures
+    rw c.in-31.is c.with_zeros-in-31.ensures
 
 pub returns-in-32 : goal.returns-in-32
 unfolding refusal_rows words_in bytes_of zeros_behind
 returns-in-32 c =
-    rw c.in-32.keys16 c.with_zeros-in-32.ensures
+    rw c.in-32.is c.with_zeros-in-32.ensures
 
 pub returns-in-33 : goal.returns-in-33
 unfolding refusal_rows words_in bytes_of zeros_behind
 returns-in-33 c =
-    rw c.in-33.keys17 c.with_zeros-in-33.ensures
+    rw c.in-33.is c.with_zeros-in-33.ensures
 
 pub returns-in-34 : goal.returns-in-34
 unfolding refusal_rows words_in bytes_of zeros_behind
 returns-in-34 c =
-    rw c.in-34.keys18 c.with_zeros-in-34.ensures
+    rw c.in-34.is c.with_zeros-in-34.ensures
 
 pub returns-in-35 : goal.returns-in-35
 unfolding refusal_rows words_in bytes_of zeros_behind
 returns-in-35 c =
-    rw c.in-35.keys19 c.with_zeros-in-35.ensures
+    rw c.in-35.is c.with_zeros-in-35.ensures
 
 pub returns-in_default : goal.returns-in_default
 unfolding refusal_rows bytes_of zeros_behind
 returns-in_default c =
-    rw (no_words (Unit {0}) refusal_rows c.args.number c.in_default.rest) c.with_zeros-in_default.ensures
+    rw (no_words (Unit {0}) refusal_rows c.args.number c.in_default.in_default-own.rest) c.with_zeros-in_default.ensures

@@ -1,18 +1,14 @@
 -- `refusal_words::with_zeros` meets its contract: the zeros, with the words pasted over them one by one. Assumes nothing.
-use borrow.Author.Rules.{rules}
 use mathlib.Core.Path.{◌≡◌, refl, sym, ap, ◌∙◌}
 use Prim.Native.Nat.{ℕ, zero, suc, ◌+◌, ◌-◌, ◌≤◌, ◌<◌}
-use mathlib.Core.List.{List, [], ◌∷◌, ◌++◌}
+use mathlib.Core.List.{List, ◌++◌}
 use native.Mathlib.Omega.{arith}
 use native.Mathlib.Numerals.{add-one}
 use lib.ListN.{length, get_or, set, replicate, drop, length-replicate}
-use lib.Seq.{paste, paste-suc, take-length}
+use lib.Seq.{paste-suc, take-length}
 use Rattle.refusal_words.specs.Words.{zeros_behind}
+use Rattle.refusal_words.proofs.with_zeros.Invariants.{over}
 use Rattle.refusal_words.proofs.with_zeros.Goals as goal
-
--- n zeros, with the words over the first of them: the next word's byte, and all of them
-abbrev over : ℕ → List ℕ → ℕ → List ℕ
-over n words k = paste (replicate n 0) 0 words k
 
 over-more : (n : ℕ) (words : List ℕ) (k : ℕ) → k < length words → length words ≤ n → set (over n words k) k (get_or words k 0) ≡ over n words (k + 1)
 over-more n words k h m =

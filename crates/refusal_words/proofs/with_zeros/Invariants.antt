@@ -1,13 +1,13 @@
-use borrow.Author.Rules.{rules}
-use mathlib.Core.Path.{◌≡◌, refl, sym, ap, ◌∙◌}
-use Prim.Native.Nat.{ℕ, zero, suc, ◌+◌, ◌-◌, ◌≤◌, ◌<◌}
-use mathlib.Core.List.{List, [], ◌∷◌, ◌++◌}
-use native.Mathlib.Omega.{arith}
-use native.Mathlib.Numerals.{add-one}
-use lib.ListN.{length, get_or, set, replicate, drop, length-replicate}
-use lib.Seq.{paste, paste-suc, take-length}
-use Rattle.refusal_words.specs.Words.{zeros_behind}
+use mathlib.Core.Path.{◌≡◌}
+use Prim.Native.Nat.{ℕ, ◌-◌, ◌≤◌}
+use mathlib.Core.List.{List}
+use lib.ListN.{length, replicate}
+use lib.Seq.{paste}
 use Rattle.refusal_words.proofs.with_zeros.Given as goal
+
+-- n zeros, with the first k words over them
+abbrev pub over : ℕ → List ℕ → ℕ → List ℕ
+over n words k = paste (replicate n 0) 0 words k
 
 abbrev pub invariant-loop-k : goal.invariant-loop-k
 invariant-loop-k l = (l.k ≤ length l.words) × (l.text ≡ over 64 l.words l.k)
