@@ -1,5 +1,4 @@
 -- `month::weight_of` meets its contract: the product fits 64 bits, and its floor, at most 2^30 in size, fits 32.
-use borrow.Author.Rules.{rules}
 use mathlib.Core.Path.{◌≡◌, sym, ◌∙◌, ap, subst}
 use Prim.Native.Nat.{ℕ, ◌*◌, ◌^◌, ◌≤◌}
 use native.Mathlib.Nat.{lt_of_le_of_lt, le_trans}
@@ -15,8 +14,7 @@ use Rattle.angles.proofs.Ints.{mag-nat_abs}
 use Rattle.angles.proofs.Machine.{through, fits_below}
 use Rattle.angles.proofs.Known.{Known, read, cast, fits, kept, times}
 use Rattle.month.specs.Month.{weight}
-use Rattle.month.proofs.weight_of.Statement.{statement}
-use Rattle.month.proofs.weight_of.Tie as tie
+use Rattle.month.proofs.weight_of.Goals as goal
 
 module _ (m : ℕ) (x : ℤ) (most : m ≤ 65535) (within : nat_abs x ≤ 2 ^ 22) where
   product : Known (to_z w64 m *ℤ to_z w64 (of_z w64 x)) (pos m *ℤ x) (65535 * 2 ^ 22)
@@ -34,28 +32,18 @@ module _ (m : ℕ) (x : ℤ) (most : m ≤ 65535) (within : nat_abs x ≤ 2 ^ 22
   unfolding weight
   quotient q e = through (e ∙ ap (λ (z : ℤ). floor_div z 256) (kept product (lit< tt)).is) (fits_below (weight m x) (omega (arith, size)))
 
-cast-floor-div : tie.Need-overflow-cast-floor-div
-cast-floor-div c = search rules
+pub overflow_mul-amplitude : goal.overflow_mul-amplitude
+overflow_mul-amplitude c =
+    fits (product c.args.amplitude c.args.x (omega arith) c.requires) (lit< tt)
 
-mul-floor-div : tie.Need-overflow-mul-floor-div
-mul-floor-div c = fits (product c.args.amplitude c.args.x (omega arith) c.requires) (lit< tt)
+pub overflow_cast-result : goal.overflow_cast-result
+overflow_cast-result c =
+    let most : c.args.amplitude ≤ 65535 = omega arith in
+    subst (SFits w32) (sym (quotient c.args.amplitude c.args.x most c.requires c.floor_div.result c.floor_div.ensures))
+    (fits-32 c.args.amplitude c.args.x most c.requires)
 
-floor-div-requires : tie.Need-floor-div-requires
-floor-div-requires c κs = search rules
-
-cast-result : tie.Need-overflow-cast-result
-cast-result c =
-    let a = c.before.args in
-    let most : a.amplitude ≤ 65535 = omega arith in
-    subst (SFits w32) (sym (quotient a.amplitude a.x most c.before.requires c.floor-div.result c.floor-div.ensures))
-    (fits-32 a.amplitude a.x most c.before.requires)
-
-returns : tie.Need-returns
+pub returns : goal.returns
 returns c =
-    let a = c.before.args in
-    let most : a.amplitude ≤ 65535 = omega arith in
-    rw (quotient a.amplitude a.x most c.before.requires c.floor-div.result c.floor-div.ensures)
-    (to_z-of_z w32 (weight a.amplitude a.x) (fits-32 a.amplitude a.x most c.before.requires))
-
-pub weight-of-spec : {M : Type 1} → statement M
-weight-of-spec = tie.close (tie.spec cast-floor-div mul-floor-div floor-div-requires cast-result returns)
+    let most : c.args.amplitude ≤ 65535 = omega arith in
+    rw (quotient c.args.amplitude c.args.x most c.requires c.floor_div.result c.floor_div.ensures)
+    (to_z-of_z w32 (weight c.args.amplitude c.args.x) (fits-32 c.args.amplitude c.args.x most c.requires))

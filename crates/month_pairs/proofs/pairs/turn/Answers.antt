@@ -11,8 +11,7 @@ use Rattle.angles.proofs.Known.{read, fits, kept, says, negated}
 use Rattle.month_satellites.specs.Satellites.{Pair}
 use Rattle.month_pairs.specs.Pairs.{turned}
 use Rattle.month_satellites.specs.inner.View.{pair_of}
-use Rattle.month_pairs.proofs.pairs.turn.Statement.{statement}
-use Rattle.month_pairs.proofs.pairs.turn.Tie as tie
+use Rattle.month_pairs.proofs.pairs.turn.Goals as goal
 
 turned_down_lem : (p : Pair) (n : ℤ) → lt_z n (pos 0) ≡ true → record { x = p.x; y = neg_ℤ p.y } ≡ turned n p
 unfolding turned
@@ -25,22 +24,21 @@ as-it-is p = if-not-negative (λ n. p ≡ turned n p) (λ k. refl)
 pair-as : {x y u v : ℤ} → x ≡ u → y ≡ v → ◌≡◌ {A = Pair} (record { x = x; y = y }) (record { x = u; y = v })
 pair-as e d = ap₂ (λ (m n : ℤ). record { x = m; y = n }) e d
 
-sub-t4 : tie.Need-overflow-sub-t4
-sub-t4 c = fits (negated (read c.before.before.before.args.p.y c.before.before.before.requires.y (lit< tt))) (lit< tt)
+pub overflow_sub-result : goal.overflow_sub-result
+overflow_sub-result c =
+    fits (negated (read c.args.p.y c.requires.y (lit< tt))) (lit< tt)
 
-returns : tie.Need-returns
+pub returns-then-coefficient-lt0 : goal.returns-then-coefficient-lt0
+returns-then-coefficient-lt0 c =
+    let x = says (read c.args.p.x c.requires.x (lit< tt)) in
+    let y = says (kept (negated (read c.args.p.y c.requires.y (lit< tt))) (lit< tt)) in record {
+      result_value = pair-as x.0 y.0 ∙ turned_down_lem (pair_of c.args.p) c.args.coefficient (rw (to_z-of_z w8 c.args.coefficient c.ranges.coefficient) at c.if-coefficient-lt0.true);
+      sized = record { x = x.1; y = y.1 };
+    }
+
+pub returns : goal.returns
 returns c =
-    let s = c.before.before.before.before in
-    let p = s.args.p in
-    let n = s.args.coefficient in
-    let x = says (read p.x s.requires.x (lit< tt)) in
-    let y = says (kept (negated (read p.y s.requires.y (lit< tt))) (lit< tt)) in
-    (pair-as x.0 y.0 ∙ turned_down_lem (pair_of p) n (rw (to_z-of_z w8 n s.ranges.coefficient) at c.before.before.before.if1.true), record { x = x.1; y = y.1 })
-
-returns-2 : tie.Need-returns-2
-returns-2 c =
-    let s = c.before in
-    (as-it-is (pair_of s.args.p) s.args.coefficient (rw (to_z-of_z w8 s.args.coefficient s.ranges.coefficient) at c.if1.false), s.requires)
-
-pub turn_spec : {M : Type 1} → statement M
-turn_spec = tie.close (tie.spec sub-t4 returns returns-2)
+    record {
+      result_value = as-it-is (pair_of c.args.p) c.args.coefficient (rw (to_z-of_z w8 c.args.coefficient c.ranges.coefficient) at c.if-coefficient-lt0.false);
+      sized = c.requires;
+    }

@@ -9,8 +9,7 @@ use Rattle.angles.proofs.Machine.{held}
 use Rattle.angles.proofs.Known.{read, says}
 use Rattle.month_pairs.specs.Pairs.{times_pair}
 use Rattle.month_satellites.proofs.latitude.Sizes.{named}
-use Rattle.month_pairs.proofs.pairs.multiplied.Statement.{statement}
-use Rattle.month_pairs.proofs.pairs.multiplied.Tie as tie
+use Rattle.month_pairs.proofs.pairs.multiplied.Goals as goal
 
 -- a number that a function of the two pairs gave, in a register
 given : (f : ℤ → ℤ → ℤ → ℤ → ℤ) (a b x y r : ℤ) → nat_abs a ≤ 2 ^ 22 → nat_abs b ≤ 2 ^ 22 → nat_abs x ≤ 2 ^ 22 → nat_abs y ≤ 2 ^ 22
@@ -19,22 +18,11 @@ given f a b x y r ha hb hx hy e =
     let back : (z : ℤ) → nat_abs z ≤ 2 ^ 22 → held z ≡ z = λ z h. (read z h (lit< tt)).is in
     says (named (read r e.1 (lit< tt)) (e.0 ∙ (ap₂ (λ (m n : ℤ). f m n (held x) (held y)) (back a ha) (back b hb) ∙ ap₂ (λ (m n : ℤ). f a b m n) (back x hx) (back y hy))))
 
-new-x-requires : tie.Need-new-x-requires
-new-x-requires c κs = search rules
-
-new-y-requires : tie.Need-new-y-requires
-new-y-requires c κs = search rules
-
-returns : tie.Need-returns
+pub returns : goal.returns
 unfolding times_pair
 returns c =
-    let p = c.before.before.before.before.before.before.before.before.before.before.args.p in
-    let by = c.before.before.before.before.before.before.before.before.before.before.args.by in
-    let h = c.before.before.before.before.before.before.before.before.before.before.requires.0 in
-    let k = c.before.before.before.before.before.before.before.before.before.before.requires.1 in
-    let x = given (λ a b x y. floor_div (a *ℤ x -ℤ b *ℤ y) (2 ^ 20)) p.x p.y by.x by.y c.before.before.before.before.before.new-x.result h.x h.y k.x k.y c.before.before.before.before.before.new-x.ensures in
-    let y = given (λ a b x y. floor_div (a *ℤ y +ℤ b *ℤ x) (2 ^ 20)) p.x p.y by.x by.y c.new-y.result h.x h.y k.x k.y c.new-y.ensures in
-    (rw (x.0, y.0), record { x = x.1; y = y.1 })
-
-pub multiplied-spec : {M : Type 1} → statement M
-multiplied-spec = tie.close (tie.spec new-x-requires new-y-requires returns)
+    let x = given (λ a b x y. floor_div (a *ℤ x -ℤ b *ℤ y) (2 ^ 20)) c.args.p.x c.args.p.y c.args.by.x c.args.by.y c.new_x-x.result c.requires.sized.x c.requires.sized.y c.requires.sized_2.x c.requires.sized_2.y (c.new_x-x.ensures.value, c.new_x-x.ensures.result_bound) in
+    let y = given (λ a b x y. floor_div (a *ℤ y +ℤ b *ℤ x) (2 ^ 20)) c.args.p.x c.args.p.y c.args.by.x c.args.by.y c.new_y-y.result c.requires.sized.x c.requires.sized.y c.requires.sized_2.x c.requires.sized_2.y (c.new_y-y.ensures.value, c.new_y-y.ensures.result_bound) in record {
+      result_value = rw (x.0, y.0);
+      sized_3 = record { x = x.1; y = y.1 };
+    }
