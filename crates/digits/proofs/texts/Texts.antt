@@ -1,14 +1,15 @@
 -- What a byte at a text's end does to the text without its last blanks, and what it is for two texts to be the same.
 -- By induction on the text. Assumes nothing.
-use Prim.Native.Nat.{ℕ, suc, ◌-◌, ◌≤◌, ◌<◌}
+use Prim.Native.Nat.{ℕ, zero, suc, ◌-◌, ◌≤◌, ◌<◌}
 use mathlib.Core.Path.{◌≡◌, refl, sym}
 use mathlib.Core.List.{List, [], ◌∷◌, ◌++◌}
 use mathlib.Core.Bool.{Bool, true, false, ◌&&◌, false≢true}
 use lib.Dec.{eqb, leb}
+use lib.Pointwise.{pointwise}
 use lib.ListN.{length, take, get_or}
 use lib.Seq.{take-suc}
 use native.Mathlib.Omega.{arith}
-use borrow.Author.Tests.{eq-eqb, eqb-true, leb-true}
+use borrow.Author.Tests.{leb-true}
 use Rattle.columns.specs.Bytes.{blank, every}
 use Rattle.columns.specs.Names.{same}
 use Rattle.digits.specs.Texts.{trimmed}
@@ -42,34 +43,17 @@ unfolding trimmed every
 trimmed-other [] b h = rw h
 trimmed-other (x ∷ l) b h = rw (every-snoc blank l b, h, and-false (every blank l), and-false (blank x), trimmed-other l b h)
 
-same_self : (a : List ℕ) → same a a ≡ true
+-- the library's answer whether two texts are equal is `same`
+pub pointwise-same : (a b : List ℕ) → pointwise eqb a b ≡ same a b
 unfolding same
-same_self [] = refl
-same_self (x ∷ a) = rw (eq-eqb x x refl) (same_self a)
+pointwise-same [] [] = refl
+pointwise-same [] (y ∷ b) = refl
+pointwise-same (x ∷ a) [] = refl
+pointwise-same (x ∷ a) (y ∷ b) = rw (pointwise-same a b)
 
 both : (s t : Bool) → (s && t) ≡ true → (s ≡ true) × (t ≡ true)
 both true t e = (refl, e)
 both false t e = absurd (false≢true e)
-
-same-equal : (a b : List ℕ) → same a b ≡ true → a ≡ b
-unfolding same
-same-equal [] [] e = refl
-same-equal [] (y ∷ b) e = absurd (false≢true e)
-same-equal (x ∷ a) [] e = absurd (false≢true e)
-same-equal (x ∷ a) (y ∷ b) e =
-    let h = both (eqb x y) (same a b) e in
-    let head : x ≡ y = eqb-true x y h.0 in
-    let tail : a ≡ b = same-equal a b h.1 in
-    cc
-
--- an answer that is true just where two texts are equal is `same`
-pub same-is : (a b : List ℕ) (r : Bool) → (r ≡ true → a ≡ b) → (a ≡ b → r ≡ true) → r ≡ same a b
-same-is a b true e h = rw (e refl) (sym (same_self b))
-same-is a b false e h = differs (same a b) refl
-  where
-    differs : (s : Bool) → same a b ≡ s → false ≡ s
-    differs true p = h (same-equal a b p)
-    differs false p = refl
 
 not-blank : (b : ℕ) → (b ≡ 32 → ⊥) → blank b ≡ false
 not-blank b h = go (blank b) refl
@@ -82,11 +66,13 @@ not-blank b h = go (blank b) refl
 
 -- the first n bytes of a text end in a blank, or are whole without their last blanks
 pub take-blank : (l : List ℕ) (n : ℕ) → 0 < n → n ≤ length l → get_or l (n - 1) 32 ≡ 32 → trimmed (take n l) ≡ trimmed (take (n - 1) l)
+take-blank l zero p h e = absurd (omega arith)
 take-blank l (suc m) p h e =
     let less : suc m - 1 ≡ m = omega arith in
     rw (less, take-suc l m 32 (omega arith)) (trimmed-blank (take m l) (get_or l m 32) (rw (rw less at e)))
 
 pub take-other : (l : List ℕ) (n : ℕ) → 0 < n → n ≤ length l → (get_or l (n - 1) 32 ≡ 32 → ⊥) → take n l ≡ trimmed (take n l)
+take-other l zero p h e = absurd (omega arith)
 take-other l (suc m) p h e =
     let less : suc m - 1 ≡ m = omega arith in
     rw (take-suc l m 32 (omega arith)) (sym (trimmed-other (take m l) (get_or l m 32) (not-blank (get_or l m 32) (rw less at e))))
