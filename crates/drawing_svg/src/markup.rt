@@ -13,6 +13,7 @@ pub struct Character {
 }
 
 // Whether a byte is from one to another.
+#[tactic(auto, unfolding(crate::specs::Utf8::is_from))]
 fn is_from(low: u8, high: u8, byte: u8) -> bool
     ensures { result ≡ is_from low high byte }
 {
@@ -20,6 +21,7 @@ fn is_from(low: u8, high: u8, byte: u8) -> bool
 }
 
 // How many bytes a character of UTF-8 has that begins with a byte; 0 where it is ASCII or no character begins so.
+#[tactic(auto, unfolding(crate::specs::Utf8::size_from))]
 fn sequence_size(byte: u8) -> usize
     ensures { result ≡ size_from byte }
 {
@@ -33,6 +35,7 @@ fn sequence_size(byte: u8) -> usize
 }
 
 // The least second byte after a first.
+#[tactic(auto, unfolding(crate::specs::Utf8::second_low))]
 fn second_low(first: u8) -> u8
     ensures { result ≡ second_low first }
 {
@@ -43,6 +46,7 @@ fn second_low(first: u8) -> u8
 }
 
 // The greatest second byte after a first.
+#[tactic(auto, unfolding(crate::specs::Utf8::second_high))]
 fn second_high(first: u8) -> u8
     ensures { result ≡ second_high first }
 {
@@ -60,6 +64,7 @@ fn byte_at(text: &[u8], i: usize) -> u8
 }
 
 // Whether the second byte of a text goes with the first.
+#[tactic(auto, unfolding(crate::specs::Utf8::is_second))]
 fn is_second(text: &[u8]) -> bool
     ensures { result ≡ is_second text.now }
 {
@@ -68,6 +73,7 @@ fn is_second(text: &[u8]) -> bool
 }
 
 // Whether the byte at a place goes with a character of so many bytes, where it has one there.
+#[tactic(auto, unfolding(crate::specs::Utf8::is_later))]
 fn is_later(text: &[u8], size: usize, i: usize) -> bool
     ensures { result ≡ is_later text.now size i }
 {
@@ -78,6 +84,7 @@ fn is_later(text: &[u8], size: usize, i: usize) -> bool
 }
 
 // Whether the bytes behind the first of a text are those of a character of so many.
+#[tactic(auto, unfolding(crate::specs::Utf8::goes_on))]
 fn goes_on(text: &[u8], size: usize) -> bool
     ensures { result ≡ goes_on text.now size }
 {
@@ -91,6 +98,7 @@ fn goes_on(text: &[u8], size: usize) -> bool
 }
 
 // The bytes of the character beyond ASCII with which a text begins; 0 where it begins with none.
+#[tactic(auto, unfolding(crate::specs::Utf8::sequence_of))]
 pub fn sequence(text: &[u8]) -> usize
     ensures { result ≡ sequence_of text.now }
 {
@@ -99,6 +107,7 @@ pub fn sequence(text: &[u8]) -> usize
 }
 
 // How XML has a character of ASCII: by its name where XML keeps it for itself, and a question mark where XML has it not.
+#[tactic(auto, unfolding(crate::specs::Escapes::written_of))]
 pub fn written(byte: u8) -> Character
     ensures is { take result.size result.bytes ≡ written_of byte }
     ensures within { (result.size ≤ 6) × (length result.bytes ≡ 6) }
@@ -134,6 +143,7 @@ pub fn written(byte: u8) -> Character
 }
 
 // A character that can be seen, as it is; a question mark for any other.
+#[tactic(auto, unfolding(crate::specs::Escapes::shown_as))]
 fn shown(byte: u8) -> u8
     ensures { result ≡ shown_as byte }
 {
@@ -141,6 +151,7 @@ fn shown(byte: u8) -> u8
 }
 
 // Whether a byte of a form is a blank.
+#[tactic(auto, unfolding(crate::specs::Forms::is_blank))]
 pub fn is_blank(byte: u8) -> bool
     ensures { result ≡ is_blank byte }
 {
@@ -157,6 +168,7 @@ pub fn is_blank(byte: u8) -> bool
 }
 
 // The number that stands for a blank of a form.
+#[tactic(auto, unfolding(crate::specs::Forms::number_for))]
 pub fn number_for(byte: u8, a: u64, b: u64, c: u64, d: u64) -> u64
     ensures { result ≡ number_for byte a b c d }
 {

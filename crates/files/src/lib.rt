@@ -1,7 +1,7 @@
 // Files: read whole into a lent buffer, by name or from where the program itself lies; and the checksum by which a person compares two of them.
 #![tactic(auto)]
 
-ghost use Rattle.std.specs.Prelude.{◌≡◌, ◌≤◌, length, take};
+ghost use Rattle.std.specs.Prelude.{◌≡◌, ◌+◌, ◌≤◌, length, take};
 
 pub mod checksum; // CRC-32
 

@@ -94,12 +94,10 @@ pub fn without_zeros(text: &[u8]) -> &[u8]
 // The words of a system's error, without its number, which the library writes behind them as " (os error 2)".
 pub fn without_number(words: &[u8]) -> &[u8] {
     let number = b" (os error ";
-    let mut k = 0;
-    while k < words.len() {
+    for k in 0..words.len() {
         if texts::same(columns::part(words, k, number.len()), number) {
             return columns::part(words, 0, k);
         }
-        k += 1;
     }
     words
 }

@@ -1,7 +1,7 @@
 // What every sheet says on its face, and the pieces of text that all views share.
 //
 // A function that puts text takes a lent page and a place on it, as those of `output` do, and gives the place behind the text.
-ghost use Rattle.std.specs.Prelude.{◌&&◌, ◌≡◌, ◌≤◌, eqb, length, take, IfOk};
+ghost use Rattle.std.specs.Prelude.{◌&&◌, ◌<◌, ◌≡◌, ◌≤◌, eqb, length, take, IfOk};
 ghost use Rattle.columns.specs.Columns.{columns};
 ghost use Rattle.station.specs.Strides.{usual_strides};
 

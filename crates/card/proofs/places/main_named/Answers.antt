@@ -1,0 +1,22 @@
+-- `card::places::main_named` meets its contract: the place of the name first, then the main with that place.
+use borrow.Author.Rules.{rules}
+use mathlib.Core.Path.{sym, ◌∙◌}
+use Prim.Native.Nat.{◌<◌}
+use Rattle.card.specs.Places.{main_named}
+use Rattle.card.proofs.places.Defined.{place-within}
+use Rattle.card.proofs.places.main_named.Goals as goal
+
+pub overflow_cast-place : goal.overflow_cast-place
+overflow_cast-place c =
+    let h : c.in-At.place < c.args.frequencies = place-within _ c.args.names.now c.args.frequencies _ (sym c.find_name.ensures ∙ c.in-At.is) in
+    search rules
+
+pub returns-in-At : goal.returns-in-At
+unfolding main_named
+returns-in-At c =
+    rw (← c.part_name.ensures, ← c.name_part.ensures.result_value_2, ← c.find_name.ensures, c.in-At.is) c.main_at.ensures
+
+pub returns-in-Nothing : goal.returns-in-Nothing
+unfolding main_named
+returns-in-Nothing c =
+    rw (c.not_main.ensures, ← c.part_name.ensures, ← c.name_part.ensures.result_value_2, ← c.find_name.ensures, c.in-Nothing.is)

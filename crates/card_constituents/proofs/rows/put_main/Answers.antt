@@ -1,0 +1,12 @@
+-- `card_constituents::rows::put_main` meets its contract: what the table's stores leave.
+use borrow.Author.Rules.{rules}
+use mir.Syntax.{w8}
+use mir.ValLaws.{to_z-of_z}
+use Rattle.card_constituents.proofs.rows.put_main.Goals as goal
+
+pub returns : goal.returns
+returns c =
+    record {
+      cards_after = c.put_u16.ensures;
+      angles_after = rw (to_z-of_z w8 c.args.phase c.ranges.phase, c.put_i8.ensures);
+    }

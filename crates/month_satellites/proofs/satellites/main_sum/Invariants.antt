@@ -1,0 +1,27 @@
+use mathlib.Core.Path.{◌≡◌, ◌∙◌, ap}
+use mathlib.Core.List.{List}
+use Prim.Native.Nat.{ℕ, ◌+◌, ◌-◌, ◌^◌, ◌≤◌, ◌<◌}
+use native.Mathlib.Omega.{arith}
+use native.Mathlib.Nat.{le_trans, add-sub_cancel_left}
+use borrow.Author.Rules.{rules}
+use lib.Dec.{lit≤}
+use lib.IntN.{ℤ, pos, ◌+ℤ◌, +ℤ_idl}
+use mir.Syntax.{w64}
+use mir.Val.{to_z}
+use Rattle.cosine.specs.Fixed.{fixed_cosine, fixed_sine}
+use Rattle.table.specs.inner.View.{satellite_of, listed}
+use Rattle.table.specs.Table.{Satellite}
+use Rattle.month_satellites.specs.inner.Factors.{factors_of}
+use Rattle.month_satellites.specs.inner.View.{longitudes_of}
+use Rattle.month_satellites.specs.Satellites.{satellite_term, main_pair, Pair, sum_over}
+use Rattle.month_satellites.specs.Latitude.{Factors}
+use Rattle.month_satellites.proofs.satellites.Running.{Running, begin, done, room, added-fits, added-runs}
+use Rattle.month_satellites.proofs.satellites.main_sum.Given as goal
+
+abbrev pub invariant-loop-k : goal.invariant-loop-k
+invariant-loop-k l = (l.start ≤ l.k) × (l.k ≤ l.end) × (l.end < l.start + 2 ^ 16)
+    × Running (satellite_term fixed_cosine (factors_of l.g) (longitudes_of l.l)) (satellite_of l.angles l.ratios) (pos (2 ^ 20)) l.start l.end l.k l.x
+    × Running (satellite_term fixed_sine (factors_of l.g) (longitudes_of l.l)) (satellite_of l.angles l.ratios) (pos 0) l.start l.end l.k l.y
+
+abbrev pub decreases-loop-k : goal.decreases-loop-k
+decreases-loop-k l = l.end - l.k
