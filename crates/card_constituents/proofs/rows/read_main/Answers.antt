@@ -28,8 +28,8 @@ returns-in-Ends c =
 
 pub returns-in-Gives : goal.returns-in-Gives
 returns-in-Gives c =
-    let six : length c.next_main-card.result.doodson ≡ 6 = search rules in
-    let small : SFits w8 c.next_main-card.result.phase = let c.next_main-card.type_inv.1.1.1.1.0 = c.next_main-card.type_inv.1.1.1.1.1.0 in search rules in record {
+    let six : length c.next_main-card.result.doodson ≡ 6 = let o = c.next_main-card.type_inv.1.1.1.1.0 in search rules in
+    let small : SFits w8 c.next_main-card.result.phase = let o = c.next_main-card.type_inv.1.1.1.1.1.0 in search rules in record {
       main_stored = (stored-begun c.args.cards.now c.put_main.new.cards c.args.angles.now c.put_main.new.angles c.args.here.mains c.args.here.satellites c.next_main-card.result.place c.in-Gives.count c.next_main-card.result.doodson c.next_main-card.result.phase _ six
     (step_room (names_from c.args.names.now 0 c.args.known) c.args.cards.now c.args.here.mains c.args.here.satellites c.args.line.now c.next_main-card.result c.in-Gives.count c.next_main-card.ensures c.in-Gives.is) c.requires.3 c.requires.4
     c.put_main.ensures.cards_after (rw (to_z-of_z w8 c.next_main-card.result.phase small) at c.put_main.ensures.angles_after)

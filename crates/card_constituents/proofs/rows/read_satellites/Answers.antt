@@ -21,41 +21,22 @@ pub returns-in-Clear : goal.returns-in-Clear
 returns-in-Clear c =
     let k = min c.args.due satellites_a_card in
     let fits : 3 * c.args.here.mains + 3 ≤ length c.args.cards.now = omega (arith, c.requires.0, c.requires.4) in
-    let read : good (listed (satellite_of c.satellite_card.new.1.1.1.0 c.satellite_card.new.1.1.1.1.0) c.args.here.satellites k) ≡ satellite_card c.args.due c.args.line.now =
-    ap (λ f. check_gives f (listed (satellite_of c.satellite_card.new.1.1.1.0 c.satellite_card.new.1.1.1.1.0) c.args.here.satellites k)) (sym c.in-Clear.is) ∙ c.satellite_card.ensures.satellites_acard_after in record {
-      satellites_stored = (rw (c.add_satellites.ensures, c.at_most_three.ensures, ← read) (
-      (λ angles. (
-        ap good (main-grown c.args.cards.now c.args.here.mains k c.args.here.satellites fits angles c.args.sat.now c.satellite_card.new.1.1.1.0 c.args.ratios.now c.satellite_card.new.1.1.1.1.0 c.satellite_card.ensures.as_before.0 c.requires.2),
-        mains-kept-grown c.args.cards.now c.args.here.mains k c.args.here.satellites fits angles c.args.sat.now c.satellite_card.new.1.1.1.0 c.args.ratios.now c.satellite_card.new.1.1.1.1.0 c.satellite_card.ensures.as_before.0 c.requires.3,
-      )),
-      (
+    let read : good (listed (satellite_of c.satellite_card.new.angles c.satellite_card.new.ratios) c.args.here.satellites k) ≡ satellite_card c.args.due c.args.line.now =
+    ap (λ f. check_gives f (listed (satellite_of c.satellite_card.new.angles c.satellite_card.new.ratios) c.args.here.satellites k)) (sym c.in-Clear.is) ∙ c.satellite_card.ensures.satellites_acard_after in record {
+      satellites_stored = rw (c.add_satellites.ensures, c.at_most_three.ensures, ← read) ((λ angles. (
+        ap good (main-grown c.args.cards.now c.args.here.mains k c.args.here.satellites fits angles c.args.sat.now c.satellite_card.new.angles c.args.ratios.now c.satellite_card.new.ratios c.satellite_card.ensures.as_before.0 c.requires.2),
+        mains-kept-grown c.args.cards.now c.args.here.mains k c.args.here.satellites fits angles c.args.sat.now c.satellite_card.new.angles c.args.ratios.now c.satellite_card.new.ratios c.satellite_card.ensures.as_before.0 c.requires.3,
+      )));
+      grown = rw (c.add_satellites.ensures, c.at_most_three.ensures) (
         (grown-end c.args.cards.now c.args.here.mains k c.args.here.satellites fits c.requires.2, grown-stored c.args.cards.now c.args.here.mains k c.args.here.satellites fits c.args.here.satellites (omega arith) c.requires.3, grown-count c.args.cards.now c.args.here.mains k c.args.here.satellites fits),
         length-set c.args.cards.now (3 * c.args.here.mains + 2) (get_or c.args.cards.now (3 * c.args.here.mains + 2) 0 + k) ∙ c.requires.4,
         c.satellite_card.ensures.as_before.1,
-      ),
-    )).0;
-      grown = (rw (c.add_satellites.ensures, c.at_most_three.ensures, ← read) (
-      (λ angles. (
-        ap good (main-grown c.args.cards.now c.args.here.mains k c.args.here.satellites fits angles c.args.sat.now c.satellite_card.new.1.1.1.0 c.args.ratios.now c.satellite_card.new.1.1.1.1.0 c.satellite_card.ensures.as_before.0 c.requires.2),
-        mains-kept-grown c.args.cards.now c.args.here.mains k c.args.here.satellites fits angles c.args.sat.now c.satellite_card.new.1.1.1.0 c.args.ratios.now c.satellite_card.new.1.1.1.1.0 c.satellite_card.ensures.as_before.0 c.requires.3,
-      )),
-      (
-        (grown-end c.args.cards.now c.args.here.mains k c.args.here.satellites fits c.requires.2, grown-stored c.args.cards.now c.args.here.mains k c.args.here.satellites fits c.args.here.satellites (omega arith) c.requires.3, grown-count c.args.cards.now c.args.here.mains k c.args.here.satellites fits),
-        length-set c.args.cards.now (3 * c.args.here.mains + 2) (get_or c.args.cards.now (3 * c.args.here.mains + 2) 0 + k) ∙ c.requires.4,
-        c.satellite_card.ensures.as_before.1,
-      ),
-    )).1;
+      );
     }
 
 pub returns-in-Bad : goal.returns-in-Bad
 returns-in-Bad c =
-    let read = ap (λ f. check_gives f (listed (satellite_of c.satellite_card.new.1.1.1.0 c.satellite_card.new.1.1.1.1.0) c.args.here.satellites (min c.args.due satellites_a_card))) (sym c.in-Bad.is) ∙ c.satellite_card.ensures.satellites_acard_after in record {
-      satellites_stored = (rw (← read) (
-      (λ angles. (refl, mains-kept c.args.cards.now c.args.ratios.now c.satellite_card.new.1.1.1.1.0 angles c.args.sat.now c.satellite_card.new.1.1.1.0 c.args.here.mains c.args.here.satellites c.requires.3 c.satellite_card.ensures.as_before.0)),
-      (tt, c.requires.4, c.satellite_card.ensures.as_before.1),
-    )).0;
-      grown = (rw (← read) (
-      (λ angles. (refl, mains-kept c.args.cards.now c.args.ratios.now c.satellite_card.new.1.1.1.1.0 angles c.args.sat.now c.satellite_card.new.1.1.1.0 c.args.here.mains c.args.here.satellites c.requires.3 c.satellite_card.ensures.as_before.0)),
-      (tt, c.requires.4, c.satellite_card.ensures.as_before.1),
-    )).1;
+    let read = ap (λ f. check_gives f (listed (satellite_of c.satellite_card.new.angles c.satellite_card.new.ratios) c.args.here.satellites (min c.args.due satellites_a_card))) (sym c.in-Bad.is) ∙ c.satellite_card.ensures.satellites_acard_after in record {
+      satellites_stored = rw (← read) ((λ angles. (refl, mains-kept c.args.cards.now c.args.ratios.now c.satellite_card.new.ratios angles c.args.sat.now c.satellite_card.new.angles c.args.here.mains c.args.here.satellites c.requires.3 c.satellite_card.ensures.as_before.0)));
+      grown = (tt, c.requires.4, c.satellite_card.ensures.as_before.1);
     }

@@ -29,7 +29,7 @@ pub returns-in-Ends : goal.returns-in-Ends
 returns-in-Ends c =
     let names = names_from c.args.names.now 0 c.args.frequencies in
     let mains = places_in 3 c.args.maincards.now c.args.mains in record {
-      count_value = rw (shallows-step names mains c.args.file.now c.loop-here.here c.loop-here.line-number c.loop-here.cards c.loop-here.coefficients c.loop-here.count c.after_line-next.result c.line_at-line.result.now c.next_shallow-read.result c.loop-here-test.true c.line_at-line.ensures c.after_line-next.ensures.2 c.next_shallow-read.ensures, c.in-Ends.is) at c.loop-here.invariant.5;
+      count_value = rw (shallows-step names mains c.args.file.now c.loop-here.here c.loop-here.line_number c.loop-here.cards c.loop-here.coefficients c.loop-here.count c.after_line-next.result c.line_at-line.result.now c.next_shallow-read.result c.loop-here-test.true c.line_at-line.ensures c.after_line-next.ensures.2 c.next_shallow-read.ensures, c.in-Ends.is) at c.loop-here.invariant.5;
       count_le_most_shallows = c.loop-here.invariant.2;
     }
 
@@ -43,7 +43,7 @@ pub returns-in-Fails : goal.returns-in-Fails
 returns-in-Fails c =
     let names = names_from c.args.names.now 0 c.args.frequencies in
     let mains = places_in 3 c.args.maincards.now c.args.mains in record {
-      count_value = rw (shallows-step names mains c.args.file.now c.loop-here.here c.loop-here.line-number c.loop-here.cards c.loop-here.coefficients c.loop-here.count c.after_line-next.result c.line_at-line.result.now c.next_shallow-read.result c.loop-here-test.true c.line_at-line.ensures c.after_line-next.ensures.2 c.next_shallow-read.ensures, c.in-Fails.is) at c.loop-here.invariant.5;
+      count_value = rw (shallows-step names mains c.args.file.now c.loop-here.here c.loop-here.line_number c.loop-here.cards c.loop-here.coefficients c.loop-here.count c.after_line-next.result c.line_at-line.result.now c.next_shallow-read.result c.loop-here-test.true c.line_at-line.ensures c.after_line-next.ensures.2 c.next_shallow-read.ensures, c.in-Fails.is) at c.loop-here.invariant.5;
       count_le_most_shallows = c.loop-here.invariant.2;
     }
 
@@ -66,13 +66,13 @@ loop-here-preserved c =
       ap length put ∙ length-sets c.loop-here.cards (6 * c.loop-here.count) c.next_shallow-read.result.card ∙ c.loop-here.invariant.3,
       ap length put' ∙ length-sets c.loop-here.coefficients (4 * c.loop-here.count) c.next_shallow-read.result.coefficients ∙ c.loop-here.invariant.4,
       rw (put, put', shallow-put c.loop-here.cards c.loop-here.coefficients c.next_shallow-read.result.card c.next_shallow-read.result.coefficients c.loop-here.count wide wide' (omega arith) (omega arith))
-          (rw (shallows-step names mains c.args.file.now c.loop-here.here c.loop-here.line-number c.loop-here.cards c.loop-here.coefficients c.loop-here.count c.after_line-next.result c.line_at-line.result.now c.next_shallow-read.result c.loop-here-test.true c.line_at-line.ensures c.after_line-next.ensures.2 c.next_shallow-read.ensures, c.in-Gives.is) at c.loop-here.invariant.5),
+          (rw (shallows-step names mains c.args.file.now c.loop-here.here c.loop-here.line_number c.loop-here.cards c.loop-here.coefficients c.loop-here.count c.after_line-next.result c.line_at-line.result.now c.next_shallow-read.result c.loop-here-test.true c.line_at-line.ensures c.after_line-next.ensures.2 c.next_shallow-read.ensures, c.in-Gives.is) at c.loop-here.invariant.5),
     )
 
 pub returns : goal.returns
 returns c =
     let names = names_from c.args.names.now 0 c.args.frequencies in
     let mains = places_in 3 c.args.maincards.now c.args.mains in record {
-      count_value = rw c.only.ensures (rw (shallows-end names mains c.args.file.now c.loop-here.here c.loop-here.line-number c.loop-here.cards c.loop-here.coefficients c.loop-here.count c.loop-here-test.false) at c.loop-here.invariant.5);
+      count_value = rw c.only.ensures (rw (shallows-end names mains c.args.file.now c.loop-here.here c.loop-here.line_number c.loop-here.cards c.loop-here.coefficients c.loop-here.count c.loop-here-test.false) at c.loop-here.invariant.5);
       count_le_most_shallows = c.loop-here.invariant.2;
     }

@@ -1,0 +1,51 @@
+-- `month_pairs::nodal::shallow_pair` meets its contract. The invariant: the parts that are left, from the pair so far, give what all give from (2^20, 0) (`Multiplying`).
+use mathlib.Core.Path.{◌≡◌, sym, ◌∙◌, ap, subst}
+use Prim.Native.Nat.{◌-◌, ◌<◌, ◌^◌}
+use native.Mathlib.Omega.{arith}
+use native.Mathlib.Nat.{sub-zero}
+use lib.Dec.{lit≤}
+use Rattle.table.specs.inner.View.{listed, naturals, integers, part_of, shallow_of}
+use Rattle.month_satellites.specs.inner.Ranges.{Sized}
+use Rattle.month_satellites.specs.inner.View.{pair_of}
+use Rattle.refusals.specs.Checked.{good, bad}
+use Rattle.month_pairs.specs.inner.Ranges.{Small}
+use Rattle.month_pairs.specs.inner.Corrected.{corrected_of}
+use Rattle.month_pairs.specs.Shallow.{times_parts, pair_from_parts}
+use Rattle.month_pairs.specs.inner.Rows.{pairs_of}
+use Rattle.month_pairs.proofs.nodal.Multiplying.{parts_next, parts_none}
+use borrow.Author.Rules.{rules}
+use Rattle.month_pairs.proofs.nodal.shallow_pair.Goals as goal
+
+pub loop-j-init : goal.loop-j-init
+unfolding pair_from_parts shallow_of
+loop-j-init c =
+    (rw (sub-zero, c.index-count.ensures.value ∙ c.natural_at.ensures), record { x = lit≤ tt; y = lit≤ tt }, c.index-count.ensures.upper_bound)
+
+pub times_row_part-c-requires : goal.times_row_part-c-requires
+times_row_part-c-requires c =
+    (omega (arith, c.loop-j.invariant.2, c.loop-j-test.true), c.loop-j.invariant.1)
+
+pub returns-in-TooLarge : goal.returns-in-TooLarge
+returns-in-TooLarge c =
+    record {
+      result_value = parts_next (pairs_of c.args.kept.now) (part_of (naturals 6 c.args.cards.now c.args.k) (integers 4 c.args.coefficients.now c.args.k))
+          c.loop-j.j c.index-count.result (pair_of c.loop-j.p) (bad 11) c.loop-j-test.true
+          (sym (ap corrected_of c.in-TooLarge.is) ∙ c.times_row_part-c.ensures.result_value) ∙ c.loop-j.invariant.0;
+      small = tt;
+    }
+
+pub loop-j-preserved : goal.loop-j-preserved
+loop-j-preserved c = (
+  parts_next (pairs_of c.args.kept.now) (part_of (naturals 6 c.args.cards.now c.args.k) (integers 4 c.args.coefficients.now c.args.k))
+      c.loop-j.j c.index-count.result (pair_of c.loop-j.p) (good (pair_of c.in-Within.q)) c.loop-j-test.true
+      (sym (ap corrected_of c.in-Within.is) ∙ c.times_row_part-c.ensures.result_value) ∙ c.loop-j.invariant.0,
+  subst Small c.in-Within.is c.times_row_part-c.ensures.small,
+  c.loop-j.invariant.2,
+)
+
+pub returns : goal.returns
+returns c =
+    record {
+      result_value = parts_none (pairs_of c.args.kept.now) (part_of (naturals 6 c.args.cards.now c.args.k) (integers 4 c.args.coefficients.now c.args.k)) c.loop-j.j c.index-count.result (pair_of c.loop-j.p) c.loop-j-test.false ∙ c.loop-j.invariant.0;
+      small = c.loop-j.invariant.1;
+    }

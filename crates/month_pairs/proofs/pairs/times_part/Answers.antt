@@ -1,0 +1,31 @@
+-- `month_pairs::pairs::times_part` meets its contract: the part's pair, turned, as often as the coefficient's size.
+use mathlib.Core.Path.{sym, ◌∙◌, ap, ap₂, subst}
+use Prim.Native.Nat.{ℕ}
+use borrow.Author.Rules.{rules}
+use lib.Dec.{lit<}
+use lib.IntN.{ℤ}
+use mir.Syntax.{w8}
+use mir.ValLaws.{to_z-of_z}
+use Rattle.angles.proofs.Known.{fits}
+use Rattle.month_satellites.specs.Satellites.{Pair}
+use Rattle.month_pairs.specs.Pairs.{times_often, turned, times_main}
+use Rattle.month_pairs.specs.inner.Ranges.{Small}
+use Rattle.month_satellites.specs.inner.View.{pair_of}
+use Rattle.month_pairs.specs.inner.Corrected.{corrected_of}
+use Rattle.month_satellites.proofs.latitude.Sizes.{size-through}
+use Rattle.month_pairs.proofs.pairs.times_part.Goals as goal
+
+pub turn-requires : goal.turn-requires
+turn-requires c =
+    subst Small c.in-Within.is c.requires.small
+
+pub returns-in-Within : goal.returns-in-Within
+returns-in-Within c =
+    let P = pair_of c.args.p in
+    let here = to_z-of_z w8 c.args.coefficient c.ranges.coefficient in
+    let often = size-through w8 c.args.coefficient c.widened.result c.size.result (lit< tt) c.ranges.coefficient (c.widened.ensures.value, c.widened.ensures.result_bound) c.size.ensures in
+    let by = c.turn.ensures.result_value ∙ ap (λ (z : ℤ). turned z (pair_of c.in-Within.q)) here in record {
+      result_value = c.times_often.ensures.result_value ∙ ap₂ (λ (k : ℕ) (p : Pair). times_often k P p) often by
+          ∙ sym (ap (λ m. times_main P (corrected_of m) c.args.coefficient) c.in-Within.is);
+      small_2 = c.times_often.ensures.small;
+    }

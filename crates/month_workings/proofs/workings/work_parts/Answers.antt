@@ -1,0 +1,34 @@
+-- `month_workings::workings::work_parts` meets its contract. The invariant: the mains of the parts so far are worked out.
+use mathlib.Core.Path.{◌∙◌}
+use Prim.Native.Nat.{ℕ, ◌+◌, ◌-◌, ◌<◌, ◌^◌}
+use native.Mathlib.Nat.{not-suc-le-zero}
+use native.Mathlib.Omega.{arith}
+use lib.ListN.{get_or}
+use Rattle.table.specs.inner.View.{naturals}
+use Rattle.month_workings.specs.inner.Kept.{Has}
+use Rattle.month_workings.specs.inner.Given.{KeptBy}
+use Rattle.month_workings.proofs.workings.Storing.{one-part-more}
+use borrow.Author.Rules.{rules}
+use Rattle.month_workings.proofs.workings.work_parts.Goals as goal
+
+pub loop-j-init : goal.loop-j-init
+loop-j-init c =
+    (c.requires.kept_by, λ i h. absurd (not-suc-le-zero h), c.index-count.ensures.upper_bound)
+
+pub work_main-requires : goal.work_main-requires
+work_main-requires c =
+    record {
+      table = c.requires.table;
+      given = c.requires.given;
+      kept_by = c.loop-j.invariant.0;
+    }
+
+pub loop-j-preserved : goal.loop-j-preserved
+loop-j-preserved c =
+    let main = c.index-main.ensures.value ∙ c.natural_at-in-loop-j.ensures in
+    (c.work_main.ensures.kept, one-part-more _ _ c.index-main.result c.loop-j.kept _ (naturals 6 c.args.shallowcards.now c.args.row) c.loop-j.j main c.loop-j.invariant.1 c.work_main.ensures, c.loop-j.invariant.2)
+
+pub returns : goal.returns
+returns c =
+    let count = c.index-count.ensures.value ∙ c.natural_at.ensures in
+    record { kept = c.loop-j.invariant.0; has = λ j h. c.loop-j.invariant.1 j (omega (arith, h, count, c.loop-j-test.false)) }
