@@ -1,9 +1,8 @@
 -- `year::months_of` meets its contract: the minutes of one more month while there are any, and those of twelve make the year's.
-use borrow.Author.Rules.{rules}
 use mathlib.Core.Path.{◌≡◌, refl, ◌∙◌}
-use Prim.Native.Nat.{ℕ, ◌+◌, ◌-◌, ◌≤◌, ◌<◌}
+use Prim.Native.Nat.{ℕ, ◌+◌, ◌<◌}
 use native.Mathlib.Omega.{arith}
-use lib.ListN.{length, get_or, length-set}
+use lib.ListN.{get_or, length-set}
 use Rattle.calendar.specs.Calendar.{month_minutes, months_a_year}
 use Rattle.calendar.proofs.Months.{minutes-short}
 use Rattle.year.proofs.Minutes.{put_last, year-minutes}

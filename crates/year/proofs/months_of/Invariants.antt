@@ -1,11 +1,7 @@
-use borrow.Author.Rules.{rules}
-use mathlib.Core.Path.{◌≡◌, refl, ◌∙◌}
+use mathlib.Core.Path.{◌≡◌}
 use Prim.Native.Nat.{ℕ, ◌+◌, ◌-◌, ◌≤◌, ◌<◌}
-use native.Mathlib.Omega.{arith}
-use lib.ListN.{length, get_or, length-set}
+use lib.ListN.{length, get_or}
 use Rattle.calendar.specs.Calendar.{month_minutes, months_a_year}
-use Rattle.calendar.proofs.Months.{minutes-short}
-use Rattle.year.proofs.Minutes.{put_last, year-minutes}
 use Rattle.year.proofs.months_of.Given as goal
 
 abbrev pub invariant-loop-m : goal.invariant-loop-m

@@ -1,12 +1,11 @@
 -- `year::prepare` meets its contract: the months done so far stand in their rows; each arm of the match cites what its month says (`Prepared`).
 use borrow.Author.Rules.{rules}
 use mathlib.Core.Path.{◌≡◌}
-use Prim.Native.Nat.{◌-◌}
 use native.Mathlib.Omega.{arith}
 use lib.ListN.{length}
 use Rattle.limits.specs.Limits.{most_records}
 use Rattle.calendar.specs.Calendar.{months_a_year}
-use Rattle.year.proofs.Prepared.{Done, month-in-range, one_more, refused-at, all_done}
+use Rattle.year.proofs.Prepared.{month-in-range, one_more, refused-at, all_done}
 use Rattle.year.proofs.prepare.Goals as goal
 
 pub loop-m-init : goal.loop-m-init

@@ -1,11 +1,6 @@
-use borrow.Author.Rules.{rules}
-use mathlib.Core.Path.{◌≡◌}
 use Prim.Native.Nat.{◌-◌}
-use native.Mathlib.Omega.{arith}
-use lib.ListN.{length}
-use Rattle.limits.specs.Limits.{most_records}
 use Rattle.calendar.specs.Calendar.{months_a_year}
-use Rattle.year.proofs.Prepared.{Done, month-in-range, one_more, refused-at, all_done}
+use Rattle.year.proofs.Prepared.{Done}
 use Rattle.year.proofs.prepare.Given as goal
 
 abbrev pub invariant-loop-m : goal.invariant-loop-m

@@ -1,9 +1,8 @@
 -- `year::put_arguments` meets its contract: the row is pasted number by number.
-use borrow.Author.Rules.{rules}
 use mathlib.Core.Path.{◌≡◌, refl}
-use Prim.Native.Nat.{◌*◌, ◌-◌, ◌≤◌}
+use Prim.Native.Nat.{◌*◌}
 use native.Mathlib.Omega.{arith}
-use lib.Seq.{paste, paste-zero}
+use lib.Seq.{paste-zero}
 use Rattle.limits.specs.Limits.{most_records}
 use Rattle.year.proofs.Put.{put-more}
 use Rattle.year.proofs.put_arguments.Goals as goal

@@ -1,10 +1,7 @@
-use borrow.Author.Rules.{rules}
-use mathlib.Core.Path.{◌≡◌, refl}
+use mathlib.Core.Path.{◌≡◌}
 use Prim.Native.Nat.{◌*◌, ◌-◌, ◌≤◌}
-use native.Mathlib.Omega.{arith}
-use lib.Seq.{paste, paste-zero}
+use lib.Seq.{paste}
 use Rattle.limits.specs.Limits.{most_records}
-use Rattle.year.proofs.Put.{put-more}
 use Rattle.year.proofs.put_arguments.Given as goal
 
 abbrev pub invariant-loop-k : goal.invariant-loop-k

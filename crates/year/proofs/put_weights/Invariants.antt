@@ -1,15 +1,7 @@
-use borrow.Author.Rules.{rules}
-use mathlib.Core.Path.{◌≡◌, refl}
+use mathlib.Core.Path.{◌≡◌}
 use Prim.Native.Nat.{◌*◌, ◌-◌, ◌≤◌}
-use native.Mathlib.Omega.{arith}
-use lib.IntN.{pos}
-use lib.ListN.{get_or}
-use lib.Seq.{paste, paste-zero}
-use mir.Syntax.{w32}
-use mir.Val.{SFits}
-use mir.ValLaws.{to_z-of_z}
+use lib.Seq.{paste}
 use Rattle.limits.specs.Limits.{most_records}
-use Rattle.year.proofs.Put.{put-more}
 use Rattle.year.proofs.put_weights.Given as goal
 
 abbrev pub invariant-loop-k : goal.invariant-loop-k
