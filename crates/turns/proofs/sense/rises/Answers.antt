@@ -5,16 +5,13 @@ use lib.IntN.{ℤ, pos, negsuc}
 use lib.Signed.{le_z}
 use mir.ValLaws.{to_z-of_z}
 use Rattle.turns.specs.Sense.{rising}
-use Rattle.turns.proofs.sense.rises.Statement.{statement}
-use Rattle.turns.proofs.sense.rises.Tie as tie
+use Rattle.turns.proofs.sense.rises.Goals as goal
 
 rising-is : (z : ℤ) → le_z (pos 0) z ≡ rising z
 unfolding rising
 rising-is (pos n) = leb-zero n
 rising-is (negsuc n) = refl
 
-returns : tie.Need-returns
-returns c = let f = c.ranges.slope in rw to_z-of_z (rising-is c.args.slope)
-
-pub rises-spec : {M : Type 1} → statement M
-rises-spec = tie.close (tie.spec returns)
+pub returns : goal.returns
+returns c =
+    let f = c.ranges.slope in rw to_z-of_z (rising-is c.args.slope)
