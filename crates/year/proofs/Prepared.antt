@@ -9,7 +9,6 @@ use native.Mathlib.Nat.{zero-add}
 use borrow.Author.Tests.{ltb-true, ltb-false, le-leb}
 use lib.Dec.{ltb}
 use lib.IntN.{ℤ}
-use lib.ListN.{length}
 use lib.Seq.{paste}
 use Rattle.limits.specs.Limits.{most_records}
 use Rattle.refusals.specs.Outcome.{accepted}

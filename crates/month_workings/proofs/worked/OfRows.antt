@@ -6,7 +6,7 @@ use Prim.Native.Nat.{ℕ}
 use lib.IntN.{ℤ}
 use Rattle.table.specs.inner.View.{listed, naturals, main_of, shallow_of}
 use Rattle.table.proofs.entries.Beyond.{entry_at}
-use Rattle.table.specs.Definitions.{Definition, main, shallow}
+use Rattle.table.specs.Definitions.{Definition}
 use Rattle.table.proofs.definitions.OfRows.{definition_of, IsRow, found_at, found-row, found-is}
 use Rattle.table.specs.declared.definitions.Found.{Found}
 use Rattle.table.specs.declared.definitions.Found.TheVariants as found

@@ -9,7 +9,6 @@ use Rattle.angles.specs.Ticks.{turn}
 use Rattle.angles.specs.Floor.{mod_turn}
 use Rattle.angles.proofs.Known.{read, fits, kept, plus}
 use Rattle.month_arguments.proofs.arguments.Reduced.{joined}
-use borrow.Author.Rules.{rules}
 use Rattle.month_arguments.proofs.arguments.advanced.Goals as goal
 
 pub overflow_add-multiple : goal.overflow_add-multiple

@@ -1,6 +1,6 @@
 -- `month_arguments::arguments::main_argument` meets its contract: seven terms, added step by step in registers, are the sum that V is (`Chain`).
 use mathlib.Core.Path.{◌≡◌, ap, ◌∙◌}
-use Prim.Native.Nat.{◌+◌, ◌*◌, ◌^◌, ◌≤◌}
+use Prim.Native.Nat.{◌*◌, ◌^◌, ◌≤◌}
 use lib.Dec.{lit<}
 use lib.IntN.{ℤ, nat_abs, ◌+ℤ◌}
 use Rattle.angles.specs.Floor.{mod_turn}
@@ -10,7 +10,6 @@ use Rattle.table.specs.inner.View.{row_of, listed}
 use Rattle.month_arguments.specs.inner.Longitudes.{longitudes_of}
 use Rattle.month_arguments.specs.inner.Rows.{row_argument}
 use Rattle.month_arguments.proofs.arguments.Chain.{seven-terms}
-use borrow.Author.Rules.{rules}
 use Rattle.month_arguments.proofs.arguments.main_argument.Goals as goal
 
 -- seven terms, put together one after the other

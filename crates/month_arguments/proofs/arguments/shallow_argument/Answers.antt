@@ -9,8 +9,8 @@ use mir.ValLaws.{to_z-of_z}
 use Rattle.angles.specs.Ticks.{turn}
 use Rattle.angles.specs.Floor.{mod_turn}
 use Rattle.angles.proofs.Angles.{below-turn}
-use Rattle.table.specs.inner.View.{listed, part_of, naturals, integers, shallow_of}
-use Rattle.month_arguments.specs.Arguments.{sum_of_parts, argument_from_parts}
+use Rattle.table.specs.inner.View.{listed, part_of, naturals, integers}
+use Rattle.month_arguments.specs.Arguments.{sum_of_parts}
 use Rattle.month_arguments.specs.inner.Rows.{arguments_in}
 use Rattle.month_arguments.proofs.arguments.Chain.{parts_more, parts_none, parts_all}
 use borrow.Author.Rules.{rules}

@@ -1,18 +1,11 @@
-use mathlib.Core.Path.{◌≡◌, sym, ap, subst, ◌∙◌}
-use Prim.Native.Nat.{ℕ, ◌+◌, ◌-◌, ◌<◌}
-use lib.IntN.{pos, ◌+ℤ◌, ◌*ℤ◌}
-use lib.ListN.{get_or}
-use mir.Syntax.{w8}
-use mir.Val.{SFits}
-use mir.ValLaws.{to_z-of_z}
+use mathlib.Core.Path.{◌≡◌}
+use Prim.Native.Nat.{◌-◌, ◌<◌}
+use lib.IntN.{pos, ◌+ℤ◌}
 use Rattle.angles.specs.Ticks.{turn}
 use Rattle.angles.specs.Floor.{mod_turn}
-use Rattle.angles.proofs.Angles.{below-turn}
 use Rattle.table.specs.inner.View.{listed, part_of, naturals, integers, shallow_of}
 use Rattle.month_arguments.specs.Arguments.{sum_of_parts, argument_from_parts}
 use Rattle.month_arguments.specs.inner.Rows.{arguments_in}
-use Rattle.month_arguments.proofs.arguments.Chain.{parts_more, parts_none, parts_all}
-use borrow.Author.Rules.{rules}
 use Rattle.month_arguments.proofs.arguments.shallow_argument.Given as goal
 
 abbrev pub invariant-loop-part : goal.invariant-loop-part

@@ -1,5 +1,4 @@
 -- `month_arguments::astronomy::longitude_on` meets its contract: card one counts modulo a cycle, days times card two modulo T / 216.
-use borrow.Author.Rules.{rules}
 use mathlib.Core.Path.{ap, ◌∙◌, ◌≡◌}
 use Prim.Native.Nat.{ℕ, ◌+◌, ◌*◌, ◌%◌, ◌<◌}
 use native.Mathlib.Nat.{le_refl}

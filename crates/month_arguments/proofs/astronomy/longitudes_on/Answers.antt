@@ -1,9 +1,8 @@
 -- `month_arguments::astronomy::longitudes_on` meets its contract: each longitude in its place.
 use Rattle.std.specs.Prelude.{◌≡◌, ℕ, ℤ, List, get_or}
-use borrow.Author.Rules.{rules}
 use mir.Syntax.{w64}
 use mir.ValLaws.{to_z-of_z}
-use Rattle.month_arguments.specs.Longitudes.{Longitudes, longitude, longitudes_on}
+use Rattle.month_arguments.specs.Longitudes.{longitude, longitudes_on}
 use Rattle.month_arguments.proofs.astronomy.longitudes_on.Goals as goal
 
 -- five longitudes, on a day that went through a register

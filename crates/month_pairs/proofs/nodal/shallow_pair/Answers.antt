@@ -1,19 +1,16 @@
 -- `month_pairs::nodal::shallow_pair` meets its contract. The invariant: the parts that are left, from the pair so far, give what all give from (2^20, 0) (`Multiplying`).
-use mathlib.Core.Path.{◌≡◌, sym, ◌∙◌, ap, subst}
-use Prim.Native.Nat.{◌-◌, ◌<◌, ◌^◌}
+use mathlib.Core.Path.{sym, ◌∙◌, ap, subst}
 use native.Mathlib.Omega.{arith}
 use native.Mathlib.Nat.{sub-zero}
 use lib.Dec.{lit≤}
-use Rattle.table.specs.inner.View.{listed, naturals, integers, part_of, shallow_of}
-use Rattle.month_satellites.specs.inner.Ranges.{Sized}
+use Rattle.table.specs.inner.View.{naturals, integers, part_of, shallow_of}
 use Rattle.month_satellites.specs.inner.View.{pair_of}
 use Rattle.refusals.specs.Checked.{good, bad}
 use Rattle.month_pairs.specs.inner.Ranges.{Small}
 use Rattle.month_pairs.specs.inner.Corrected.{corrected_of}
-use Rattle.month_pairs.specs.Shallow.{times_parts, pair_from_parts}
+use Rattle.month_pairs.specs.Shallow.{pair_from_parts}
 use Rattle.month_pairs.specs.inner.Rows.{pairs_of}
 use Rattle.month_pairs.proofs.nodal.Multiplying.{parts_next, parts_none}
-use borrow.Author.Rules.{rules}
 use Rattle.month_pairs.proofs.nodal.shallow_pair.Goals as goal
 
 pub loop-j-init : goal.loop-j-init

@@ -1,18 +1,10 @@
-use mathlib.Core.Path.{◌≡◌, sym, ◌∙◌, ap, subst}
+use mathlib.Core.Path.{◌≡◌}
 use Prim.Native.Nat.{◌-◌, ◌<◌, ◌^◌}
-use native.Mathlib.Omega.{arith}
-use native.Mathlib.Nat.{sub-zero}
-use lib.Dec.{lit≤}
 use Rattle.table.specs.inner.View.{listed, naturals, integers, part_of, shallow_of}
 use Rattle.month_satellites.specs.inner.Ranges.{Sized}
 use Rattle.month_satellites.specs.inner.View.{pair_of}
-use Rattle.refusals.specs.Checked.{good, bad}
-use Rattle.month_pairs.specs.inner.Ranges.{Small}
-use Rattle.month_pairs.specs.inner.Corrected.{corrected_of}
 use Rattle.month_pairs.specs.Shallow.{times_parts, pair_from_parts}
 use Rattle.month_pairs.specs.inner.Rows.{pairs_of}
-use Rattle.month_pairs.proofs.nodal.Multiplying.{parts_next, parts_none}
-use borrow.Author.Rules.{rules}
 use Rattle.month_pairs.proofs.nodal.shallow_pair.Given as goal
 
 abbrev pub invariant-loop-j : goal.invariant-loop-j

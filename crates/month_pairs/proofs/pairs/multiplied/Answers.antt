@@ -1,7 +1,6 @@
 -- `month_pairs::pairs::multiplied` meets its contract: X and Y by `new_x` and `new_y`, each from the old pair.
 use mathlib.Core.Path.{◌≡◌, ◌∙◌, ap₂}
 use Prim.Native.Nat.{◌^◌, ◌≤◌}
-use borrow.Author.Rules.{rules}
 use lib.IntN.{ℤ, nat_abs, ◌+ℤ◌, ◌-ℤ◌, ◌*ℤ◌}
 use lib.Dec.{lit<}
 use Rattle.angles.specs.Floor.{floor_div}

@@ -1,6 +1,5 @@
 -- `month_pairs::pairs::new_x` meets its contract: two products within 2^44, and the floor of their difference.
 use Prim.Native.Nat.{◌^◌, ◌≤◌}
-use borrow.Author.Rules.{rules}
 use lib.Dec.{lit≤, lit<}
 use lib.IntN.{◌*ℤ◌, ℤ, nat_abs, ◌-ℤ◌}
 use Rattle.angles.proofs.Machine.{held}

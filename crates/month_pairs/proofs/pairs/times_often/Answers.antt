@@ -1,10 +1,7 @@
 -- `month_pairs::pairs::times_often` meets its contract. The invariant: the multiplications that are left, from the pair so far, give what all give from the first (`Multiplying`).
-use mathlib.Core.Path.{◌≡◌, refl, sym, ◌∙◌, ap, subst}
-use Prim.Native.Nat.{◌^◌}
-use borrow.Author.Rules.{rules}
+use mathlib.Core.Path.{refl, sym, ◌∙◌, ap, subst}
 use Rattle.refusals.specs.Checked.{good, bad}
-use Rattle.month_pairs.specs.Pairs.{checked, times_often}
-use Rattle.month_satellites.specs.inner.Ranges.{Sized}
+use Rattle.month_pairs.specs.Pairs.{checked}
 use Rattle.month_pairs.specs.inner.Ranges.{Small}
 use Rattle.month_satellites.specs.inner.View.{pair_of}
 use Rattle.month_pairs.specs.inner.Corrected.{corrected_of}

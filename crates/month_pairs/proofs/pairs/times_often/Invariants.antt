@@ -1,13 +1,8 @@
-use mathlib.Core.Path.{◌≡◌, refl, sym, ◌∙◌, ap, subst}
+use mathlib.Core.Path.{◌≡◌}
 use Prim.Native.Nat.{◌^◌}
-use borrow.Author.Rules.{rules}
-use Rattle.refusals.specs.Checked.{good, bad}
-use Rattle.month_pairs.specs.Pairs.{checked, times_often}
+use Rattle.month_pairs.specs.Pairs.{times_often}
 use Rattle.month_satellites.specs.inner.Ranges.{Sized}
-use Rattle.month_pairs.specs.inner.Ranges.{Small}
 use Rattle.month_satellites.specs.inner.View.{pair_of}
-use Rattle.month_pairs.specs.inner.Corrected.{corrected_of}
-use Rattle.month_pairs.proofs.pairs.Multiplying.{often-next, often-none}
 use Rattle.month_pairs.proofs.pairs.times_often.Given as goal
 
 abbrev pub invariant-loop-left : goal.invariant-loop-left

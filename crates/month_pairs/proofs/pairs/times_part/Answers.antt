@@ -1,12 +1,10 @@
 -- `month_pairs::pairs::times_part` meets its contract: the part's pair, turned, as often as the coefficient's size.
 use mathlib.Core.Path.{sym, ◌∙◌, ap, ap₂, subst}
 use Prim.Native.Nat.{ℕ}
-use borrow.Author.Rules.{rules}
 use lib.Dec.{lit<}
 use lib.IntN.{ℤ}
 use mir.Syntax.{w8}
 use mir.ValLaws.{to_z-of_z}
-use Rattle.angles.proofs.Known.{fits}
 use Rattle.month_satellites.specs.Satellites.{Pair}
 use Rattle.month_pairs.specs.Pairs.{times_often, turned, times_main}
 use Rattle.month_pairs.specs.inner.Ranges.{Small}

@@ -1,14 +1,13 @@
 -- `month_satellites::latitude::latitude_factors` meets its contract: both factors are what `by_side` makes of the factors in the north.
 use mathlib.Core.Path.{◌≡◌, ◌∙◌, ap, ap₂}
 use Prim.Native.Nat.{ℕ, ◌^◌, ◌≤◌}
-use borrow.Author.Rules.{rules}
 use lib.IntN.{ℤ, pos, nat_abs}
 use lib.Dec.{lit<}
 use mir.Syntax.{w32}
 use mir.Val.{SFits, to_z, of_z}
 use mir.ValLaws.{to_z-of_z}
 use Rattle.angles.proofs.Machine.{held}
-use Rattle.angles.proofs.Known.{read, fits, says}
+use Rattle.angles.proofs.Known.{read, says}
 use Rattle.month_satellites.specs.Latitude.{by_side, s20, diurnal_north, semidiurnal_north, diurnal_factor, semidiurnal_factor}
 use Rattle.month_satellites.proofs.latitude.Sizes.{named}
 use Rattle.month_satellites.proofs.latitude.latitude_factors.Goals as goal

@@ -1,9 +1,7 @@
 -- `month_satellites::latitude::minutes` meets its contract: each return is one case of the size's `min` and `max`.
 use native.Mathlib.Omega.{arith}
-use borrow.Author.Rules.{rules}
 use lib.Dec.{lit<}
 use mir.Syntax.{w32}
-use Rattle.angles.proofs.Known.{fits}
 use Rattle.month_satellites.specs.Latitude.{latitude_size}
 use Rattle.month_satellites.proofs.latitude.Sizes.{size-through}
 use Rattle.month_satellites.proofs.latitude.minutes.Goals as goal

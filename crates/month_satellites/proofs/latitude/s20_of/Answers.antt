@@ -3,7 +3,6 @@ use mathlib.Core.Path.{◌≡◌, sym, ◌∙◌, ap}
 use Prim.Native.Nat.{ℕ, ◌-◌, ◌*◌, ◌/◌, ◌^◌, ◌≤◌}
 use native.Mathlib.Omega.{arith}
 use native.Mathlib.Nat.{le_refl}
-use borrow.Author.Rules.{rules}
 use lib.IntN.{ℤ, pos, nat_abs}
 use lib.Dec.{lit<}
 use mir.Syntax.{w32}
@@ -12,7 +11,7 @@ use mir.ValLaws.{to_z-of_z}
 use Rattle.angles.specs.Ticks.{arc_minute}
 use Rattle.angles.specs.Floor.{floor_div}
 use Rattle.angles.proofs.Machine.{held}
-use Rattle.angles.proofs.Known.{Known, read, fits, kept, says}
+use Rattle.angles.proofs.Known.{Known, read, kept, says}
 use Rattle.cosine.specs.Fraction.{quarter}
 use Rattle.cosine.specs.Fixed.{step, fixed_sine}
 use Rattle.cosine.proofs.Natural.{fixed_base_ℕ}

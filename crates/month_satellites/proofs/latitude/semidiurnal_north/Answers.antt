@@ -1,7 +1,6 @@
 -- `month_satellites::latitude::semidiurnal_north` meets its contract: S20 is at most 2^20.
 use Prim.Native.Nat.{◌*◌, ◌^◌, ◌≤◌}
 use native.Mathlib.Omega.{arith}
-use borrow.Author.Rules.{rules}
 use lib.Dec.{lit≤, lit<}
 use Rattle.angles.proofs.Known.{cast, kept, says}
 use Rattle.month_satellites.specs.Latitude.{semidiurnal_north}

@@ -1,7 +1,6 @@
 -- `month_satellites::satellites::angle_of` meets its contract: four products, added step by step in registers, modulo T.
 use mathlib.Core.Path.{◌≡◌, sym, ◌∙◌, ap, ap₂}
 use Prim.Native.Nat.{ℕ, ◌^◌, ◌≤◌, ◌+◌}
-use borrow.Author.Rules.{rules}
 use lib.IntN.{ℤ, pos, nat_abs, ◌+ℤ◌, ◌*ℤ◌, +ℤ_idr}
 use lib.Dec.{lit<}
 use mir.Syntax.{w8}

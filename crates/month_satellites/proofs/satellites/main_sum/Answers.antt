@@ -1,10 +1,9 @@
 -- `month_satellites::satellites::main_sum` meets its contract. The invariant is a running sum for X and one for Y (`Running`); what is left of the satellites falls.
 use mathlib.Core.Path.{◌≡◌, ◌∙◌, ap}
 use mathlib.Core.List.{List}
-use Prim.Native.Nat.{ℕ, ◌+◌, ◌-◌, ◌^◌, ◌≤◌, ◌<◌}
+use Prim.Native.Nat.{ℕ, ◌+◌, ◌-◌, ◌^◌}
 use native.Mathlib.Omega.{arith}
 use native.Mathlib.Nat.{le_trans, add-sub_cancel_left}
-use borrow.Author.Rules.{rules}
 use lib.Dec.{lit≤}
 use lib.IntN.{ℤ, pos, ◌+ℤ◌, +ℤ_idl}
 use mir.Syntax.{w64}
@@ -16,7 +15,7 @@ use Rattle.month_satellites.specs.inner.Factors.{factors_of}
 use Rattle.month_satellites.specs.inner.View.{longitudes_of}
 use Rattle.month_satellites.specs.Satellites.{satellite_term, main_pair, Pair, sum_over}
 use Rattle.month_satellites.specs.Latitude.{Factors}
-use Rattle.month_satellites.proofs.satellites.Running.{Running, begin, done, room, added-fits, added-runs}
+use Rattle.month_satellites.proofs.satellites.Running.{begin, done, room, added-fits, added-runs}
 use Rattle.month_satellites.proofs.satellites.main_sum.Goals as goal
 
 -- both sums make the pair of the satellites `first` to `first + count`

@@ -1,21 +1,11 @@
-use mathlib.Core.Path.{◌≡◌, ◌∙◌, ap}
-use mathlib.Core.List.{List}
-use Prim.Native.Nat.{ℕ, ◌+◌, ◌-◌, ◌^◌, ◌≤◌, ◌<◌}
-use native.Mathlib.Omega.{arith}
-use native.Mathlib.Nat.{le_trans, add-sub_cancel_left}
-use borrow.Author.Rules.{rules}
-use lib.Dec.{lit≤}
-use lib.IntN.{ℤ, pos, ◌+ℤ◌, +ℤ_idl}
-use mir.Syntax.{w64}
-use mir.Val.{to_z}
+use Prim.Native.Nat.{◌+◌, ◌-◌, ◌^◌, ◌≤◌, ◌<◌}
+use lib.IntN.{pos}
 use Rattle.cosine.specs.Fixed.{fixed_cosine, fixed_sine}
-use Rattle.table.specs.inner.View.{satellite_of, listed}
-use Rattle.table.specs.Table.{Satellite}
+use Rattle.table.specs.inner.View.{satellite_of}
 use Rattle.month_satellites.specs.inner.Factors.{factors_of}
 use Rattle.month_satellites.specs.inner.View.{longitudes_of}
-use Rattle.month_satellites.specs.Satellites.{satellite_term, main_pair, Pair, sum_over}
-use Rattle.month_satellites.specs.Latitude.{Factors}
-use Rattle.month_satellites.proofs.satellites.Running.{Running, begin, done, room, added-fits, added-runs}
+use Rattle.month_satellites.specs.Satellites.{satellite_term}
+use Rattle.month_satellites.proofs.satellites.Running.{Running}
 use Rattle.month_satellites.proofs.satellites.main_sum.Given as goal
 
 abbrev pub invariant-loop-k : goal.invariant-loop-k

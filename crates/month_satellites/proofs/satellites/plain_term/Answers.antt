@@ -2,7 +2,6 @@
 use Prim.Native.Nat.{◌^◌, ℕ, ◌≤◌, ◌<◌}
 use native.Mathlib.Omega.{arith}
 use native.Mathlib.Nat.{le_of_lt}
-use borrow.Author.Rules.{rules}
 use lib.Dec.{lit≤, lit<}
 use lib.IntN.{pos, ℤ, nat_abs, ◌*ℤ◌}
 use mir.Syntax.{w64}

@@ -1,6 +1,5 @@
 -- `month_satellites::satellites::times_factor` meets its contract: a term within 2^39 times a factor within 2^23.
 use Prim.Native.Nat.{◌^◌, ◌≤◌}
-use borrow.Author.Rules.{rules}
 use lib.Dec.{lit≤, lit<}
 use lib.IntN.{ℤ, nat_abs, ◌*ℤ◌}
 use Rattle.angles.proofs.Machine.{held}

@@ -1,6 +1,5 @@
 -- `month_workings::worked::work_mains` meets its contract: a case for each that can be found.
 use Rattle.month_workings.proofs.worked.OfRows.{ready-main, ready-shallow, ready-nothing}
-use borrow.Author.Rules.{rules}
 use Rattle.month_workings.proofs.worked.work_mains.Goals as goal
 
 pub work_main-requires : goal.work_main-requires

@@ -13,7 +13,6 @@ use Rattle.month_arguments.specs.Longitudes.{Longitudes, times}
 use Rattle.month_arguments.specs.inner.Longitudes.{longitudes_of}
 use Rattle.month_arguments.specs.Arguments.{astronomical, argument}
 use Rattle.month_arguments.specs.inner.Rows.{row_argument}
-use borrow.Author.Rules.{rules}
 use Rattle.month_workings.proofs.workings.argument_of.Goals as goal
 
 row_below : (l : Longitudes) (angles : List ℤ) (k : ℕ) → row_argument l angles k < turn

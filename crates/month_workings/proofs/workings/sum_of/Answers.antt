@@ -10,7 +10,6 @@ use Rattle.month_arguments.specs.inner.Longitudes.{longitudes_of}
 use Rattle.refusals.specs.Checked.{good}
 use Rattle.month_pairs.specs.Pairs.{checked, start_pair}
 use Rattle.month_pairs.specs.inner.Rows.{row_satellites, row_corrected}
-use borrow.Author.Rules.{rules}
 use Rattle.month_workings.proofs.workings.sum_of.Goals as goal
 
 pub returns-then-given-k : goal.returns-then-given-k

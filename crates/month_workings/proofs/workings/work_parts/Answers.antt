@@ -1,14 +1,9 @@
 -- `month_workings::workings::work_parts` meets its contract. The invariant: the mains of the parts so far are worked out.
 use mathlib.Core.Path.{◌∙◌}
-use Prim.Native.Nat.{ℕ, ◌+◌, ◌-◌, ◌<◌, ◌^◌}
 use native.Mathlib.Nat.{not-suc-le-zero}
 use native.Mathlib.Omega.{arith}
-use lib.ListN.{get_or}
 use Rattle.table.specs.inner.View.{naturals}
-use Rattle.month_workings.specs.inner.Kept.{Has}
-use Rattle.month_workings.specs.inner.Given.{KeptBy}
 use Rattle.month_workings.proofs.workings.Storing.{one-part-more}
-use borrow.Author.Rules.{rules}
 use Rattle.month_workings.proofs.workings.work_parts.Goals as goal
 
 pub loop-j-init : goal.loop-j-init

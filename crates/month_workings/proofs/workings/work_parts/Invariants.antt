@@ -1,13 +1,8 @@
-use mathlib.Core.Path.{◌∙◌}
 use Prim.Native.Nat.{ℕ, ◌+◌, ◌-◌, ◌<◌, ◌^◌}
-use native.Mathlib.Nat.{not-suc-le-zero}
-use native.Mathlib.Omega.{arith}
 use lib.ListN.{get_or}
 use Rattle.table.specs.inner.View.{naturals}
 use Rattle.month_workings.specs.inner.Kept.{Has}
 use Rattle.month_workings.specs.inner.Given.{KeptBy}
-use Rattle.month_workings.proofs.workings.Storing.{one-part-more}
-use borrow.Author.Rules.{rules}
 use Rattle.month_workings.proofs.workings.work_parts.Given as goal
 
 abbrev pub invariant-loop-j : goal.invariant-loop-j

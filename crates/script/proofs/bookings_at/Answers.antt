@@ -1,0 +1,14 @@
+-- `script::bookings_at` meets its contract, by what `two_at` says. Assumes nothing.
+use borrow.Author.Rules.{rules}
+use Rattle.script.specs.Script.{bookings_of}
+use Rattle.script.proofs.bookings_at.Goals as goal
+
+pub returns-in_default : goal.returns-in_default
+unfolding bookings_of
+returns-in_default c =
+    rw (← c.two_at-two.ensures, c.in_default.is)
+
+pub returns : goal.returns
+unfolding bookings_of
+returns c =
+    rw (← c.two_at-two.ensures, c.in-Numbers.is)

@@ -1,0 +1,24 @@
+-- `script::series_at` meets its contract, by what is read of each number in turn. Assumes nothing.
+use borrow.Author.Rules.{rules}
+use Rattle.script.specs.Script.{series_of}
+use Rattle.script.proofs.series_at.Goals as goal
+
+pub returns-in_default : goal.returns-in_default
+unfolding series_of
+returns-in_default c =
+    rw (← c.field_at-first.ensures, c.in_default.is)
+
+pub returns-in_default-second : goal.returns-in_default-second
+unfolding series_of
+returns-in_default-second c =
+    rw (← c.field_at-first.ensures, c.in-Read.is, ← c.field_at-second.ensures, c.in_default-second.is)
+
+pub returns-in_default-last : goal.returns-in_default-last
+unfolding series_of
+returns-in_default-last c =
+    rw (← c.field_at-first.ensures, c.in-Read.is, ← c.field_at-second.ensures, c.in-Read-second.is, ← c.last_at-last.ensures, c.in_default-last.is)
+
+pub returns : goal.returns
+unfolding series_of
+returns c =
+    rw (← c.field_at-first.ensures, c.in-Read.is, ← c.field_at-second.ensures, c.in-Read-second.is, ← c.last_at-last.ensures, c.in-Value.is)

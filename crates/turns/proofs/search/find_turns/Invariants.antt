@@ -1,0 +1,20 @@
+use borrow.Author.Rules.{rules}
+use lib.ListN.{length}
+use mir.Syntax.{w64}
+use mir.Val.{SFits}
+use Rattle.month_prepared.proofs.Owners.{last-most}
+use Rattle.turns.specs.inner.Lists.{slopes_in}
+use Rattle.turns.specs.inner.Search.{onwards}
+use Rattle.turns.proofs.bisection.Halves.{kept, kept_result}
+use Rattle.turns.proofs.search.Kept.{Left, left-first, left-room, left-fewer, left-more, left-none}
+use mathlib.Core.Path.{sym, ◌∙◌}
+use mathlib.Core.Logic.{⊎_elim}
+use native.Mathlib.Omega.{arith}
+use lib.Seq.{set_out}
+use Rattle.turns.proofs.search.find_turns.Given as goal
+
+abbrev pub invariant-loop-next : goal.invariant-loop-next
+invariant-loop-next l = Left (slopes_in l.arguments l.lags l.frequencies l.ps l.qs l.months) l.reach.stride l.reach.first l.reach.last l.initial.kept l.kept l.next l.found
+
+abbrev pub decreases-loop-next : goal.decreases-loop-next
+decreases-loop-next l = length (onwards (slopes_in l.arguments l.lags l.frequencies l.ps l.qs l.months) l.reach.stride l.reach.last l.next)
