@@ -4,9 +4,6 @@ pub mod CardsCase
 pub mod Stations
 pub mod Months
 pub mod Lent
-pub mod Walking
-pub mod LentOn
-pub mod PassedOn
 pub mod OneMonth
 pub mod Sheets
 pub mod Hours

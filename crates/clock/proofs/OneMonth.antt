@@ -6,7 +6,6 @@ use native.Mathlib.Omega.{arith}
 use lib.ListN.{get_or}
 use mir.Val.{Val}
 use denote.Laws.{Is}
-use borrow.Author.Rules.{length_unmapped}
 use Rattle.limits.specs.Limits.{most_records}
 use Rattle.month_prepared.specs.Months.{owner_of}
 use Rattle.month_prepared.specs.declared.months.Months.{Months}
@@ -23,9 +22,9 @@ use Rattle.clock.specs.contracts.Clock as T
 pub lent_row : (c : Clock) {values : List Val} → Is T.the_row c values → IsRow c.arguments c.ps c.qs
 lent_row c is =
     record {
-      arguments = length_unmapped _ c.arguments most_records is.1.1.1.1.1.1.1.1.1.1.1.1.0.1.0.1;
-      cosines = length_unmapped _ c.ps most_records is.1.1.1.1.1.1.1.1.1.1.1.1.1.1.1.0.1.0.1;
-      sines = length_unmapped _ c.qs most_records is.1.1.1.1.1.1.1.1.1.1.1.1.1.1.1.1.0.1.0.1;
+      arguments = is.1.1.1.1.1.1.1.1.1.1.1.1.0.1.0.1;
+      cosines = is.1.1.1.1.1.1.1.1.1.1.1.1.1.1.1.0.1.0.1;
+      sines = is.1.1.1.1.1.1.1.1.1.1.1.1.1.1.1.1.0.1.0.1;
     }
 
 module _ (c : Clock) (months : Months) (is : (months.count ≡ c.count) × ((months.many ≡ 1) × (get_or months.lasts 0 0 ≡ c.last)))

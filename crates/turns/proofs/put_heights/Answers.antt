@@ -1,11 +1,7 @@
 -- `turns::put_heights` meets its contract: what is written and what is left to write give the whole (`Front`). Assumes nothing.
-use borrow.Author.Rules.{rules}
-use Prim.Native.Nat.{◌-◌, ◌≤◌}
 use native.Mathlib.Omega.{arith}
-use mathlib.Core.Path.{◌≡◌, refl, sym, ◌∙◌}
-use mathlib.Core.List.{map}
-use lib.ListN.{length, drop, length-set}
-use lib.Seq.{sets}
+use mathlib.Core.Path.{refl, sym, ◌∙◌}
+use lib.ListN.{length-set}
 use Rattle.turns.specs.inner.Lists.{heights_in}
 use Rattle.turns.proofs.bisection.Halves.{kept_result}
 use Rattle.turns.proofs.Front.{store-more, store-none, stored}
@@ -14,10 +10,6 @@ use Rattle.turns.proofs.put_heights.Goals as goal
 pub loop-i-init : goal.loop-i-init
 loop-i-init c =
     (omega arith, (refl, refl))
-
-pub overflow_cast-minute : goal.overflow_cast-minute
-overflow_cast-minute c =
-    record { fits = omega (arith, c.shared_slice_known-in-loop-i-1.given c.loop-i.i) }
 
 pub height-requires : goal.height-requires
 height-requires c =

@@ -1,13 +1,9 @@
-use borrow.Author.Rules.{rules}
 use Prim.Native.Nat.{◌-◌, ◌≤◌}
-use native.Mathlib.Omega.{arith}
-use mathlib.Core.Path.{◌≡◌, refl, sym, ◌∙◌}
+use mathlib.Core.Path.{◌≡◌}
 use mathlib.Core.List.{map}
-use lib.ListN.{length, drop, length-set}
+use lib.ListN.{length, drop}
 use lib.Seq.{sets}
 use Rattle.turns.specs.inner.Lists.{heights_in}
-use Rattle.turns.proofs.bisection.Halves.{kept_result}
-use Rattle.turns.proofs.Front.{store-more, store-none, stored}
 use Rattle.turns.proofs.put_heights.Given as goal
 
 abbrev pub invariant-loop-i : goal.invariant-loop-i

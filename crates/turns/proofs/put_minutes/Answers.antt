@@ -1,11 +1,9 @@
 -- `turns::put_minutes` meets its contract: what is written and what is left to write give the whole (`Front`). Assumes nothing.
-use borrow.Author.Rules.{rules}
-use Prim.Native.Nat.{ℕ, ◌-◌, ◌≤◌}
+use Prim.Native.Nat.{ℕ}
 use native.Mathlib.Omega.{arith}
-use mathlib.Core.Path.{◌≡◌, refl, sym, ◌∙◌}
-use mathlib.Core.List.{map, map-id}
-use lib.ListN.{length, drop, length-set}
-use lib.Seq.{sets}
+use mathlib.Core.Path.{refl, sym, ◌∙◌}
+use mathlib.Core.List.{map-id}
+use lib.ListN.{length-set}
 use Rattle.turns.proofs.Front.{store-more, store-none, stored}
 use Rattle.turns.proofs.put_minutes.Goals as goal
 

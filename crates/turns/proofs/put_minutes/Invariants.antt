@@ -1,11 +1,8 @@
-use borrow.Author.Rules.{rules}
 use Prim.Native.Nat.{ℕ, ◌-◌, ◌≤◌}
-use native.Mathlib.Omega.{arith}
-use mathlib.Core.Path.{◌≡◌, refl, sym, ◌∙◌}
-use mathlib.Core.List.{map, map-id}
-use lib.ListN.{length, drop, length-set}
+use mathlib.Core.Path.{◌≡◌}
+use mathlib.Core.List.{map}
+use lib.ListN.{length, drop}
 use lib.Seq.{sets}
-use Rattle.turns.proofs.Front.{store-more, store-none, stored}
 use Rattle.turns.proofs.put_minutes.Given as goal
 
 abbrev pub invariant-loop-i : goal.invariant-loop-i

@@ -10,7 +10,6 @@ use native.Mathlib.Numerals.{add-one}
 use native.Mathlib.Omega.{arith}
 use lib.Dec.{ltb}
 use lib.IntN.{ℤ}
-use Rattle.std.proofs.Common.{zero-le}
 use lib.ListN.{length, get_or, set, length-set}
 use lib.Seq.{sets}
 use borrow.Author.Tests.{ltb-false}
@@ -33,9 +32,9 @@ module _ (slope : ℕ → ℤ) (stride : ℕ) (some : 0 < stride) (last : ℕ) w
 
   within-from : (n minute k : ℕ) → get_or (minutes_of (turns_from slope stride last n minute)) k 0 ≤ last
   unfolding turns_from
-  within-from zero minute k = zero-le
+  within-from zero minute k = omega arith
   within-from (suc n) minute k =
-      by-test (λ ts. get_or (minutes_of ts) k 0 ≤ last) (ltb last (minute + stride)) [] _ (λ e. zero-le)
+      by-test (λ ts. get_or (minutes_of ts) k 0 ≤ last) (ltb last (minute + stride)) [] _ (λ e. omega arith)
       (λ e. let l = ltb-false last (minute + stride) e in
       let w = end-within slope minute stride some in
       let one = smaller-within slope last (earlier_end slope minute stride) (omega arith) in

@@ -4,7 +4,7 @@ use mathlib.Core.Path.{◌≡◌, refl}
 use mathlib.Core.Bool.{Bool, true, false, cond}
 use lib.Dec.{leb, ltb}
 use Rattle.station.specs.Strides.{usual_strides}
-use Rattle.turns.specs.Stride.{Tides, semidiurnal, mixed, diurnal, stride_of, tides_of, fixed_stride}
+use Rattle.turns.specs.Stride.{semidiurnal, mixed, diurnal, stride_of, tides_of, fixed_stride}
 use Rattle.turns.specs.Strides.{station_stride, station_stride01, UsualStride}
 
 by_tests : (a b : Bool) → stride_of usual_strides (cond a semidiurnal (cond b diurnal mixed)) ≡ cond a 180 (cond b 360 30)

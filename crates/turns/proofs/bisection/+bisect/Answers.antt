@@ -1,6 +1,6 @@
 -- `turns::bisection::bisect` meets its contract: one cut, and the promise of the half (`Halves`). The minutes between the ends fall at each call.
 -- Assumes nothing.
-use Prim.Native.Nat.{ℕ, ◌<◌}
+use Prim.Native.Nat.{ℕ}
 use borrow.Author.Rules.{rules}
 use native.Mathlib.Omega.{arith}
 use mathlib.Core.Path.{◌∙◌, ap}
@@ -44,7 +44,6 @@ bisect-requires t c =
 
 pub returns-then-differs : goal.returns-then-differs
 returns-then-differs t c =
-    let told = c.struct_told-1 in
     let fe : SFits w64 c.args.bracket.early = search rules in
     early-half _ c.args.bracket.start c.args.bracket.length c.if-length-le1.false (sense-of (kept fe c.requires.bracket_pre.early) (kept_result c.slope-middle.type_inv c.slope-middle.ensures) c.differs.ensures c.if-differs.true) c.bisect.ensures
 
@@ -65,6 +64,5 @@ bisect-requires-2 t c =
 
 pub returns : goal.returns
 returns t c =
-    let told = c.struct_told-1 in
     let fe : SFits w64 c.args.bracket.early = search rules in
     late-half _ c.args.bracket.start c.args.bracket.length c.if-length-le1.false (sense-of (kept fe c.requires.bracket_pre.early) (kept_result c.slope-middle.type_inv c.slope-middle.ensures) c.differs.ensures c.if-differs.false) c.bisect-2.ensures

@@ -1,16 +1,14 @@
 -- `turns::search::find_turns` meets its contract: the minutes kept and those of the turns that are left give the minutes of all (`Kept`).
 -- The number of turns left falls. Assumes nothing.
 use borrow.Author.Rules.{rules}
-use lib.ListN.{length}
+use lib.ListN.{set}
 use mir.Syntax.{w64}
 use mir.Val.{SFits}
 use Rattle.month_prepared.proofs.Owners.{last-most}
-use Rattle.turns.specs.inner.Lists.{slopes_in}
-use Rattle.turns.specs.inner.Search.{onwards}
 use Rattle.turns.proofs.bisection.Halves.{kept, kept_result}
-use Rattle.turns.proofs.search.Kept.{Left, left-first, left-room, left-fewer, left-more, left-none}
+use Rattle.turns.proofs.search.Kept.{left-first, left-room, left-fewer, left-more, left-none}
 use mathlib.Core.Path.{sym, ◌∙◌}
-use mathlib.Core.Logic.{⊎_elim}
+use mathlib.Core.Path.{◌≡◌}
 use native.Mathlib.Omega.{arith}
 use lib.Seq.{set_out}
 use Rattle.turns.proofs.search.find_turns.Goals as goal
@@ -54,11 +52,12 @@ loop-next-smaller c =
 
 pub loop-next-preserved : goal.loop-next-preserved
 loop-next-preserved c =
+    let kept' : c.if-found-kept.kept ≡ set c.loop-next.kept c.loop-next.found c.loop-next.next.turn =
     elim c.if-found-kept.branch [
-      then-found-kept w ↦ left-more c.loop-next.invariant c.loop-next-test.true c.next_turn-next-in-loop-next.ensures w.kept-is
-    | else-found-kept w ↦ left-more c.loop-next.invariant c.loop-next-test.true c.next_turn-next-in-loop-next.ensures (w.kept-is ∙ sym (set_out c.loop-next.kept c.loop-next.found c.loop-next.next.turn (omega arith)))
-    ]
-
+      | then-found-kept w ↦ w.kept-is
+      | else-found-kept w ↦ w.kept-is ∙ sym (set_out c.loop-next.kept c.loop-next.found c.loop-next.next.turn (omega arith))
+    ] in
+    left-more c.loop-next.invariant c.loop-next-test.true c.next_turn-next-in-loop-next.ensures kept'
 
 pub returns : goal.returns
 returns c =

@@ -1,16 +1,7 @@
-use borrow.Author.Rules.{rules}
 use lib.ListN.{length}
-use mir.Syntax.{w64}
-use mir.Val.{SFits}
-use Rattle.month_prepared.proofs.Owners.{last-most}
 use Rattle.turns.specs.inner.Lists.{slopes_in}
 use Rattle.turns.specs.inner.Search.{onwards}
-use Rattle.turns.proofs.bisection.Halves.{kept, kept_result}
-use Rattle.turns.proofs.search.Kept.{Left, left-first, left-room, left-fewer, left-more, left-none}
-use mathlib.Core.Path.{sym, ◌∙◌}
-use mathlib.Core.Logic.{⊎_elim}
-use native.Mathlib.Omega.{arith}
-use lib.Seq.{set_out}
+use Rattle.turns.proofs.search.Kept.{Left}
 use Rattle.turns.proofs.search.find_turns.Given as goal
 
 abbrev pub invariant-loop-next : goal.invariant-loop-next

@@ -1,16 +1,14 @@
 -- `turns::search::next_turn` meets its contract: the turns from the minute that the strides have come to are those from the first (`Onward`).
 -- Assumes nothing.
-use Prim.Native.Nat.{◌+◌, ◌-◌, ◌≤◌}
+use Prim.Native.Nat.{◌+◌, ◌≤◌}
 use borrow.Author.Rules.{rules}
 use native.Mathlib.Omega.{arith}
-use mathlib.Core.Path.{◌≡◌, refl, ◌∙◌, ap}
+use mathlib.Core.Path.{refl, ◌∙◌, ap}
 use mir.Syntax.{w64}
-use mir.Val.{SFits, to_z}
+use mir.Val.{SFits}
 use mir.ValLaws.{to_z-of_z}
 use Rattle.month_prepared.proofs.Owners.{last-most}
 use Rattle.turns.specs.Sense.{rising}
-use Rattle.turns.specs.inner.Lists.{slopes_in}
-use Rattle.turns.specs.Search.{turns_of}
 use Rattle.turns.proofs.bisection.Halves.{kept, kept_result, sense-of}
 use Rattle.turns.proofs.search.Onward.{stride-passed, end-reached, turn-found}
 use Rattle.turns.proofs.search.next_turn.Goals as goal

@@ -1,16 +1,7 @@
-use Prim.Native.Nat.{◌+◌, ◌-◌, ◌≤◌}
-use borrow.Author.Rules.{rules}
-use native.Mathlib.Omega.{arith}
-use mathlib.Core.Path.{◌≡◌, refl, ◌∙◌, ap}
-use mir.Syntax.{w64}
-use mir.Val.{SFits, to_z}
-use mir.ValLaws.{to_z-of_z}
-use Rattle.month_prepared.proofs.Owners.{last-most}
-use Rattle.turns.specs.Sense.{rising}
+use Prim.Native.Nat.{◌-◌, ◌≤◌}
+use mathlib.Core.Path.{◌≡◌}
 use Rattle.turns.specs.inner.Lists.{slopes_in}
 use Rattle.turns.specs.Search.{turns_of}
-use Rattle.turns.proofs.bisection.Halves.{kept, kept_result, sense-of}
-use Rattle.turns.proofs.search.Onward.{stride-passed, end-reached, turn-found}
 use Rattle.turns.proofs.search.next_turn.Given as goal
 
 abbrev pub invariant-loop-from : goal.invariant-loop-from

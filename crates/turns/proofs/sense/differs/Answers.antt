@@ -1,5 +1,4 @@
 -- `turns::sense::differs` meets its contract: by the first slope's sense. Assumes nothing.
-use borrow.Author.Rules.{rules}
 use mathlib.Core.Path.{◌≡◌, sym, ◌∙◌, ap}
 use mathlib.Core.Bool.{true, false, not}
 use mir.ValLaws.{to_z-of_z}

@@ -1,5 +1,4 @@
 -- `turns::slopes::fall_at` meets its contract: the shift is the floor of the two products, and the product fits (`Falls`). Assumes nothing.
-use borrow.Author.Rules.{rules}
 use mathlib.Core.Path.{◌∙◌, ap}
 use lib.Dec.{lit<}
 use lib.IntN.{ℤ, ◌*ℤ◌}

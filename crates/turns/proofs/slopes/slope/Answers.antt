@@ -1,5 +1,4 @@
 -- `turns::slopes::slope` meets its contract: the owner's slope, of its row. Assumes nothing.
-use borrow.Author.Rules.{rules}
 use mathlib.Core.Path.{sym, ap, ◌∙◌}
 use mathlib.Core.List.{List}
 use Rattle.month_prepared.specs.Prepared.{Constituent}

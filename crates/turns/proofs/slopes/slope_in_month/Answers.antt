@@ -1,18 +1,18 @@
 -- `turns::slopes::slope_in_month` meets its contract: the sum so far and the terms that are left give the sum of all (`Falls`). Assumes nothing.
 use Rattle.limits.specs.Limits.{most_records}
 use borrow.Author.Rules.{rules}
-use Prim.Native.Nat.{ℕ, ◌+◌, ◌-◌, ◌*◌, ◌≤◌}
+use Prim.Native.Nat.{ℕ, ◌+◌, ◌-◌, ◌*◌}
 use native.Mathlib.Omega.{arith}
 use native.Mathlib.Nat.{sub-zero}
-use mathlib.Core.Path.{◌≡◌, sym, ap, ap₂, ◌∙◌}
+use mathlib.Core.Path.{sym, ap, ap₂, ◌∙◌}
 use lib.Dec.{lit<}
-use lib.IntN.{ℤ, pos, neg_ℤ, nat_abs, ◌+ℤ◌, +ℤ_idl, +ℤ_idr, +ℤ_assoc}
+use lib.IntN.{ℤ, pos, neg_ℤ, ◌+ℤ◌, +ℤ_idl, +ℤ_idr, +ℤ_assoc}
 use lib.ListN.{get_or}
 use mir.Syntax.{w32, w64}
 use mir.Val.{SFits, to_z}
 use mir.ValLaws.{to_z-of_z}
 use Rattle.angles.proofs.Known.{plainly, fits, kept, says, negated}
-use Rattle.month_prepared.specs.inner.View.{constituents_after, constituents_from}
+use Rattle.month_prepared.specs.inner.View.{constituents_after}
 use Rattle.turns.specs.Slope.{fall, falls_at, slope_at}
 use Rattle.turns.proofs.slopes.Falls.{most, one-term-more, falls-more, falls-none}
 use Rattle.turns.proofs.slopes.slope_in_month.Goals as goal

@@ -1,14 +1,9 @@
 use Rattle.limits.specs.Limits.{most_records}
-use borrow.Author.Rules.{rules}
-use native.Mathlib.Omega.{arith}
-use native.Mathlib.Nat.{sub-zero}
 use mathlib.Core.Path.{◌≡◌}
 use Prim.Native.Nat.{◌-◌, ◌≤◌}
-use borrow.Author.Tests.{eq-eqb, ne_eqb}
 use Rattle.station.specs.Records.{records_from}
 use Rattle.station.specs.inner.Station.{station_of}
 use Rattle.turns.specs.Strides.{amplitude_at}
-use Rattle.turns.proofs.strides.Amplitudes.{amplitude-more, amplitude-none}
 use Rattle.turns.proofs.strides.amplitude_at.Given as goal
 
 abbrev pub invariant-loop-k : goal.invariant-loop-k

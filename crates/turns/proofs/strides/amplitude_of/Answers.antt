@@ -1,5 +1,4 @@
 -- `turns::strides::amplitude_of` meets its contract: the name is found in the row of names, or it is not (`Names`). Assumes nothing.
-use borrow.Author.Rules.{rules}
 use Rattle.station.specs.inner.Station.{station_of}
 use Rattle.columns.specs.Columns.{columns}
 use Rattle.turns.proofs.strides.Names.{amplitude-by}

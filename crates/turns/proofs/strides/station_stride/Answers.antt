@@ -1,5 +1,4 @@
 -- `turns::strides::station_stride` meets its contract: the four amplitudes by name, and the stride that they give. Assumes nothing.
-use borrow.Author.Rules.{rules}
 use Rattle.turns.specs.Strides.{station_stride}
 use mathlib.Core.Path.{◌≡◌}
 use mathlib.Core.List.{[], ◌∷◌}

@@ -1,7 +1,6 @@
 -- `turns::tides::stride` meets its contract: the tests in 01's order, and the length for the tides that they tell (`Lengths`). Assumes nothing.
 use Prim.Native.Nat.{◌+◌, ◌*◌, ◌≤◌, ◌<◌}
 use native.Mathlib.Omega.{arith}
-use borrow.Author.Rules.{rules}
 use borrow.Author.Tests.{le-leb, lt-leb, le-ltb, lt-ltb}
 use Rattle.turns.specs.Stride.{semidiurnal, mixed, diurnal, tides_of}
 use Rattle.turns.proofs.tides.Lengths.{lengths-inside}

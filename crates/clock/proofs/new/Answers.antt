@@ -1,0 +1,9 @@
+-- `clock::new` meets its contract: a bare clock without a table. Assumes nothing.
+use mathlib.Core.Bool.{true, false, true≢false}
+use mathlib.Core.Path.{◌≡◌, sym, ◌∙◌}
+use borrow.Author.Rules.{rules}
+use Rattle.clock.proofs.new.Goals as goal
+
+pub returns : goal.returns
+returns c =
+    record { made = λ tabled. absurd (true≢false (sym tabled ∙ c.bare.ensures.flag)); leaves = c.bare.ensures.there }
