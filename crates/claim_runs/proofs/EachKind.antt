@@ -76,7 +76,7 @@ use Rattle.cuvalimodo_c.proofs.cuvalimodo_names.Symbol as held_names_code
 use Rattle.claim.specs.Zeroed.{zeroed, zero_of}
 use Rattle.claim.proofs.Zeros.{zeros-are-zeroed}
 use Rattle.claim.specs.Document.{Request, Cards, Station, Date, Height, Series, Turns, Year, Bookings, Names}
-use Rattle.claim_runs.specs.Handed.{Assertion, ◌∗◌, ⟦◌⟧₀, ◌⊨◌, Handed, value, reads, writes, sees, changes, passed, Fit, At, lie, Ran}
+use Rattle.claim_runs.specs.Handed.{function, Assertion, ◌∗◌, ⟦◌⟧₀, ◌⊨◌, Handed, value, reads, writes, sees, changes, passed, Fit, At, lie, Ran}
 use Rattle.claim_runs.specs.Values.{clock_in, clock_at}
 use Rattle.claim_runs.specs.Runs.{Run, Started, routine_of, Runs, ◌then◌, routines_of}
 use Rattle.claim_runs.specs.OnMachine.{EveryCallEnds, AlwaysEnds}
@@ -285,67 +285,67 @@ abbrev u : ℕ → Val
 u n = vint w32 n
 
 module _ (v : Val) (e : EveryCallEnds v) where
-  cards-run : Next v (Cards small_file) load_code.routine
+  cards-run : Next v (Cards small_file) (function load_code.name load_code.code)
   cards-run =
       ∥∥₁_map (e.loads small_file full_share 0 0 (file-has-room, tt) start Rest start-lies) (λ k. (clock_in k.0, Run.loads (ran-of Rest (file-has-room, tt) start-lies k), refl))
 
-  station-run : Next v (Station none-station) station_code.routine
+  station-run : Next v (Station none-station) (function station_code.name station_code.code)
   station-run =
       let hs : List Handed = value i32 (pos 0) (u 0) ∷ value StridesType.the_row z0-strides (StridesLaws.lowered z0-strides) ∷ reads RecordType.the_row full_share [] 0 0 ∷ [] in
       let fit : Fit hs = ((refl, lit< tt), (z0-strides-are, ((lit< tt, lit< tt), tt))) in
       let lies : start ⊨ ⟦ lie hs ⟧₀ ∗ All = lies-too (lie hs) ((tt, tt), tt) ((refl, tt), tt) in
       ∥∥₁_map (e.stations (pos 0) z0-strides (u 0) (StridesLaws.lowered z0-strides) [] full_share 0 0 fit start All lies) (λ k. (clock_in k.0, Run.stations {strides = z0-strides} {q = full_share} (ran-of All fit lies k), refl))
 
-  placing-run : Next v (Station z0-station) placing_code.routine
+  placing-run : Next v (Station z0-station) (function placing_code.name placing_code.code)
   unfolding records_from
   placing-run =
       let hs : List Handed = value i32 (pos 0) (u 0) ∷ value StridesType.the_row z0-strides (StridesLaws.lowered z0-strides) ∷ value usize 1 (vint w64 1) ∷ value RowsType.the_row z0-rows (RowsLaws.lowered z0-rows) ∷ [] in
       let fit : Fit hs = ((refl, lit< tt), (z0-strides-are, ((refl, lit< tt), (z0-rows-are, tt)))) in
       ∥∥₁_map (e.placed (pos 0) z0-strides 1 z0-rows (u 0) (StridesLaws.lowered z0-strides) (vint w64 1) (RowsLaws.lowered z0-rows) fit start All (lies-too ftrue tt tt)) (λ k. (clock_in k.0, Run.placed {strides = z0-strides} {n = 1} {rows = z0-rows} (ran-of All fit (lies-too ftrue tt tt) k), refl))
 
-  date-run : Next v (Date 1976 7) date_code.routine
+  date-run : Next v (Date 1976 7) (function date_code.name date_code.code)
   date-run =
       let fit : Fit (value u32 1976 (u 1976) ∷ value u32 7 (u 7) ∷ []) = ((refl, lit< tt), ((refl, lit< tt), tt)) in
       ∥∥₁_map (e.dates 1976 7 (u 1976) (u 7) fit start All (lies-too ftrue tt tt)) (λ k. (clock_in k.0, Run.dates (ran-of All fit (lies-too ftrue tt tt) k), refl))
 
-  height-run : Next v (Height 0) height_code.routine
+  height-run : Next v (Height 0) (function height_code.name height_code.code)
   height-run =
       let fit : Fit (value u32 0 (u 0) ∷ []) = ((refl, lit< tt), tt) in
       ∥∥₁_map (e.heights 0 (u 0) fit start All (lies-too ftrue tt tt)) (λ k. (v, Run.heights (ran-of All fit (lies-too ftrue tt tt) k), refl))
 
-  series-run : Next v (Series 0 1 []) series_code.routine
+  series-run : Next v (Series 0 1 []) (function series_code.name series_code.code)
   series-run =
       let hs : List Handed = value u32 0 (u 0) ∷ value u32 1 (u 1) ∷ writes i64 [] 0 0 ∷ [] in
       let fit : Fit hs = ((refl, lit< tt), ((refl, lit< tt), ((lit< tt, lit< tt), tt))) in
       let lies : start ⊨ ⟦ lie hs ⟧₀ ∗ All = lies-too (lie hs) (tt, tt) (tt, tt) in
       ∥∥₁_map (e.serieses 0 1 (u 0) (u 1) [] 0 0 fit start All lies) (λ k. (v, Run.serieses (ran-of All fit lies k), refl))
 
-  turns-run : Next v (Turns 0 360 [] []) turns_code.routine
+  turns-run : Next v (Turns 0 360 [] []) (function turns_code.name turns_code.code)
   turns-run =
       let hs : List Handed = value u32 0 (u 0) ∷ value u32 360 (u 360) ∷ writes u32 [] 0 0 ∷ writes i64 [] 0 0 ∷ [] in
       let fit : Fit hs = ((refl, lit< tt), ((refl, lit< tt), ((lit< tt, lit< tt), ((lit< tt, lit< tt), tt)))) in
       let lies : start ⊨ ⟦ lie hs ⟧₀ ∗ All = lies-too (lie hs) (tt, (tt, tt)) (tt, (tt, tt)) in
       ∥∥₁_map (e.searches 0 360 (u 0) (u 360) [] 0 0 [] 0 0 fit start All lies) (λ k. (v, Run.searches (ran-of All fit lies k), refl))
 
-  year-run : Next v (Year year-sheet [] [] []) year_code.routine
+  year-run : Next v (Year year-sheet [] [] []) (function year_code.name year_code.code)
   year-run =
       let hs : List Handed = value SheetType.the_row year-sheet (SheetLaws.lowered year-sheet) ∷ writes i64 [] 0 0 ∷ writes u32 [] 0 0 ∷ writes i64 [] 0 0 ∷ [] in
       let fit : Fit hs = (year-sheet-is, ((lit< tt, lit< tt), ((lit< tt, lit< tt), ((lit< tt, lit< tt), tt)))) in
       let lies : start ⊨ ⟦ lie hs ⟧₀ ∗ All = lies-too (lie hs) (tt, (tt, (tt, tt))) (tt, (tt, (tt, tt))) in
       ∥∥₁_map (e.years year-sheet (SheetLaws.lowered year-sheet) [] 0 0 [] 0 0 [] 0 0 fit start All lies) (λ k. (v, Run.years {sheet = year-sheet} (ran-of All fit lies k), refl))
 
-  bookings-run : Next v (Bookings three_minutes three_places) booking_code.routine
+  bookings-run : Next v (Bookings three_minutes three_places) (function booking_code.name booking_code.code)
   bookings-run =
       ∥∥₁_elim booked-lie ∥∥₁_prop (λ r.
       let fit : Fit (booked r.0 r.1) = booked-fit r.0 r.1 in
       ∥∥₁_map (e.bookings three_minutes full_share r.0 0 three_places r.1 0 fit r.2 All r.3) (λ k. (v, Run.bookings {q = full_share} (ran-from r.2 All fit r.3 k), refl)))
 
-  hourly-run : Next v cards_asked hourly_code.routine
+  hourly-run : Next v cards_asked (function hourly_code.name hourly_code.code)
   hourly-run =
       ∥∥₁_elim carding-lie ∥∥₁_prop (λ r.
       ∥∥₁_map (e.hourlies station_number (u station_number) (stars 4_300) r.0 0 (carding-fit r.0) r.1 All r.2) (λ k. (v, Run.hourlies (ran-from r.1 All (carding-fit r.0) r.2 k), refl)))
 
-  names-run : Next v Names names_code.routine
+  names-run : Next v Names (function names_code.name names_code.code)
   names-run = ∥∥₁_map (e.hands tt start All (lies-too ftrue tt tt)) (λ k. (v, Run.hands (ran-of All tt (lies-too ftrue tt tt) k), refl))
 
   -- ---- the clock's value laid into memory, beside what is handed over, and lent
@@ -354,13 +354,13 @@ module _ (v : Val) (e : EveryCallEnds v) where
   with-clock σ P F s =
       ∥∥₁_map (e.laid σ (P ∗ F) s) (λ m. (m.0, m.1, sat_weaken w₀.𝓤 w₀.𝓛.H w₀.𝓜 m.1 (assoc' w₀.𝓤 ⟦ At ClockType.the_row full_share v m.0 0 ⟧₀ P F) m.2))
 
-  held-cards-run : Next v (Cards small_file) held_load_code.routine
+  held-cards-run : Next v (Cards small_file) (function held_load_code.name held_load_code.code)
   held-cards-run =
       ∥∥₁_elim (with-clock start ⟦ lie (reads u8 full_share small_file 0 0 ∷ []) ⟧₀ Rest start-lies) ∥∥₁_prop (λ m.
       let fit : Fit (changes ClockType.the_row v m.0 0 ∷ reads u8 full_share small_file 0 0 ∷ []) = (file-has-room, tt) in
       ∥∥₁_map (e.held_loads m.0 0 small_file full_share 0 0 fit m.1 Rest m.2) (λ k. (clock_at k.1 m.0 0, Run.held_loads {q = full_share} (ran-from m.1 Rest fit m.2 k), refl)))
 
-  held-station-run : Next v (Station z0-station) held_station_code.routine
+  held-station-run : Next v (Station z0-station) (function held_station_code.name held_station_code.code)
   held-station-run =
       ∥∥₁_elim (laid-to-read RecordType.the_row record-lays z0-records (RecordLaws.lowered z0-record ∷ []) (z0-is, tt) [] start All (lies-too ftrue tt tt)) ∥∥₁_prop (λ r.
       ∥∥₁_elim (with-clock r.1 ⟦ lie (reads RecordType.the_row full_share z0-records r.0 0 ∷ []) ⟧₀ All r.2) ∥∥₁_prop (λ m.
@@ -368,25 +368,25 @@ module _ (v : Val) (e : EveryCallEnds v) where
       ∥∥₁_map (e.held_stations m.0 0 (pos 0) z0-strides (u 0) (StridesLaws.lowered z0-strides) z0-records full_share r.0 0 fit m.1 All m.2) (λ k.
       (clock_at k.1 m.0 0, Run.held_stations {strides = z0-strides} {q = full_share} (ran-from m.1 All fit m.2 k), refl))))
 
-  held-date-run : Next v (Date 1976 7) held_date_code.routine
+  held-date-run : Next v (Date 1976 7) (function held_date_code.name held_date_code.code)
   held-date-run =
       ∥∥₁_elim (with-clock start ⟦ ftrue ⟧₀ All (lies-too ftrue tt tt)) ∥∥₁_prop (λ m.
       let fit : Fit (changes ClockType.the_row v m.0 0 ∷ value u32 1976 (u 1976) ∷ value u32 7 (u 7) ∷ []) = ((refl, lit< tt), ((refl, lit< tt), tt)) in
       ∥∥₁_map (e.held_dates m.0 0 1976 7 (u 1976) (u 7) fit m.1 All m.2) (λ k. (clock_at k.1 m.0 0, Run.held_dates (ran-from m.1 All fit m.2 k), refl)))
 
-  lent-height-run : Next v (Height 0) lent_height_code.routine
+  lent-height-run : Next v (Height 0) (function lent_height_code.name lent_height_code.code)
   lent-height-run =
       ∥∥₁_elim (with-clock start ⟦ ftrue ⟧₀ All (lies-too ftrue tt tt)) ∥∥₁_prop (λ m.
       let fit : Fit (sees ClockType.the_row full_share v m.0 0 ∷ value u32 0 (u 0) ∷ []) = ((refl, lit< tt), tt) in
       ∥∥₁_map (e.lent_heights full_share m.0 0 0 (u 0) fit m.1 All m.2) (λ k. (v, Run.lent_heights (ran-from m.1 All fit m.2 k), refl)))
 
-  held-height-run : Next v (Height 0) held_height_code.routine
+  held-height-run : Next v (Height 0) (function held_height_code.name held_height_code.code)
   held-height-run =
       ∥∥₁_elim (with-clock start ⟦ ftrue ⟧₀ All (lies-too ftrue tt tt)) ∥∥₁_prop (λ m.
       let fit : Fit (sees ClockType.the_row full_share v m.0 0 ∷ value u32 0 (u 0) ∷ []) = ((refl, lit< tt), tt) in
       ∥∥₁_map (e.held_heights full_share m.0 0 0 (u 0) fit m.1 All m.2) (λ k. (v, Run.held_heights (ran-from m.1 All fit m.2 k), refl)))
 
-  held-series-run : Next v (Series 0 1 (pos 0 ∷ [])) held_series_code.routine
+  held-series-run : Next v (Series 0 1 (pos 0 ∷ [])) (function held_series_code.name held_series_code.code)
   held-series-run =
       ∥∥₁_elim (nought-lies [] (lies-too ftrue tt tt)) ∥∥₁_prop (λ r.
       let place : List Handed = writes i64 (pos 0 ∷ []) r.0 0 ∷ [] in
@@ -394,14 +394,14 @@ module _ (v : Val) (e : EveryCallEnds v) where
       let fit : Fit (sees ClockType.the_row full_share v m.0 0 ∷ value u32 0 (u 0) ∷ value u32 1 (u 1) ∷ place) = ((refl, lit< tt), ((refl, lit< tt), ((lit< tt, lit< tt), tt))) in
       ∥∥₁_map (e.held_serieses full_share m.0 0 0 1 (u 0) (u 1) (pos 0 ∷ []) r.0 0 fit m.1 All m.2) (λ k. (v, Run.held_serieses (ran-from m.1 All fit m.2 k), refl))))
 
-  held-turns-run : Next v (Turns 0 360 [] []) held_turns_code.routine
+  held-turns-run : Next v (Turns 0 360 [] []) (function held_turns_code.name held_turns_code.code)
   held-turns-run =
       let none : List Handed = writes u32 [] 0 0 ∷ writes i64 [] 0 0 ∷ [] in
       ∥∥₁_elim (with-clock start ⟦ lie none ⟧₀ All (lies-too (lie none) (tt, (tt, tt)) (tt, (tt, tt)))) ∥∥₁_prop (λ m.
       let fit : Fit (sees ClockType.the_row full_share v m.0 0 ∷ value u32 0 (u 0) ∷ value u32 360 (u 360) ∷ none) = ((refl, lit< tt), ((refl, lit< tt), ((lit< tt, lit< tt), ((lit< tt, lit< tt), tt)))) in
       ∥∥₁_map (e.held_searches full_share m.0 0 0 360 (u 0) (u 360) [] 0 0 [] 0 0 fit m.1 All m.2) (λ k. (v, Run.held_searches (ran-from m.1 All fit m.2 k), refl)))
 
-  held-year-run : Next v (Year year-sheet (pos 0 ∷ []) [] []) held_year_code.routine
+  held-year-run : Next v (Year year-sheet (pos 0 ∷ []) [] []) (function held_year_code.name held_year_code.code)
   held-year-run =
       let none : List Handed = writes u32 [] 0 0 ∷ writes i64 [] 0 0 ∷ [] in
       ∥∥₁_elim (nought-lies none (lies-too (lie none) (tt, (tt, tt)) (tt, (tt, tt)))) ∥∥₁_prop (λ r.
@@ -412,28 +412,28 @@ module _ (v : Val) (e : EveryCallEnds v) where
       ∥∥₁_map (e.held_years full_share m.0 0 year-sheet (u 1976) (u 0) (u 1) (u 0) (u 360) (pos 0 ∷ []) r.0 0 [] 0 0 [] 0 0 fit m.1 All m.2) (λ k.
       (v, Run.held_years {sheet = year-sheet} (ran-from m.1 All fit m.2 k), refl))))
 
-  lent-bookings-run : Next v (Bookings three_minutes three_places) lent_booking_code.routine
+  lent-bookings-run : Next v (Bookings three_minutes three_places) (function lent_booking_code.name lent_booking_code.code)
   lent-bookings-run =
       ∥∥₁_elim booked-lie ∥∥₁_prop (λ r.
       ∥∥₁_elim (with-clock r.2 ⟦ lie (booked r.0 r.1) ⟧₀ All r.3) ∥∥₁_prop (λ m.
       let fit : Fit (sees ClockType.the_row full_share v m.0 0 ∷ booked r.0 r.1) = booked-fit r.0 r.1 in
       ∥∥₁_map (e.lent_bookings full_share m.0 0 three_minutes full_share r.0 0 three_places r.1 0 fit m.1 All m.2) (λ k. (v, Run.lent_bookings {q = full_share} (ran-from m.1 All fit m.2 k), refl))))
 
-  held-bookings-run : Next v (Bookings three_minutes three_places) held_booking_code.routine
+  held-bookings-run : Next v (Bookings three_minutes three_places) (function held_booking_code.name held_booking_code.code)
   held-bookings-run =
       ∥∥₁_elim booked-lie ∥∥₁_prop (λ r.
       ∥∥₁_elim (with-clock r.2 ⟦ lie (booked r.0 r.1) ⟧₀ All r.3) ∥∥₁_prop (λ m.
       let fit : Fit (sees ClockType.the_row full_share v m.0 0 ∷ booked r.0 r.1) = booked-fit r.0 r.1 in
       ∥∥₁_map (e.held_bookings full_share m.0 0 three_minutes full_share r.0 0 three_places r.1 0 fit m.1 All m.2) (λ k. (v, Run.held_bookings {q = full_share} (ran-from m.1 All fit m.2 k), refl))))
 
-  held-hourly-run : Next v cards_asked held_hourly_code.routine
+  held-hourly-run : Next v cards_asked (function held_hourly_code.name held_hourly_code.code)
   held-hourly-run =
       ∥∥₁_elim carding-lie ∥∥₁_prop (λ r.
       ∥∥₁_elim (with-clock r.1 ⟦ lie (carding r.0) ⟧₀ All r.2) ∥∥₁_prop (λ m.
       let fit : Fit (sees ClockType.the_row full_share v m.0 0 ∷ carding r.0) = carding-fit r.0 in
       ∥∥₁_map (e.held_hourlies full_share m.0 0 station_number (u station_number) (stars 4_300) r.0 0 fit m.1 All m.2) (λ k. (v, Run.held_hourlies (ran-from m.1 All fit m.2 k), refl))))
 
-  held-names-run : Next v Names held_names_code.routine
+  held-names-run : Next v Names (function held_names_code.name held_names_code.code)
   held-names-run =
       ∥∥₁_elim (with-clock start ⟦ ftrue ⟧₀ All (lies-too ftrue tt tt)) ∥∥₁_prop (λ m.
       ∥∥₁_map (e.held_hands full_share m.0 0 tt m.1 All m.2) (λ k. (v, Run.held_hands (ran-from m.1 All tt m.2 k), refl)))
@@ -466,10 +466,10 @@ module _ (always : AlwaysEnds) where
       next _ s bookings-run (next _ s year-run (next _ s turns-run (next _ s series-run (next _ s height-run (next _ s date-run (next _ s placing-run (next _ s station-run (next [] s cards-run ∣ (vc, Runs.done, refl) ∣₁))))))))))))))))))))))
 
   -- each `new` is run
-  pub new-run : ∥ Ran new_code.routine [] [] ∥₁
+  pub new-run : ∥ Ran (function new_code.name new_code.code) [] [] ∥₁
   new-run = ∥∥₁_map (always.new tt start All (lies-too ftrue tt tt)) (ran-of All tt (lies-too ftrue tt tt))
 
-  pub held-new-run : ∥ ((b : ℕ) × Ran held_new_code.routine [] (changes ClockType.the_row (zero_of ClockLaws.mir) b 0 ∷ [])) ∥₁
+  pub held-new-run : ∥ ((b : ℕ) × Ran (function held_new_code.name held_new_code.code) [] (changes ClockType.the_row (zero_of ClockLaws.mir) b 0 ∷ [])) ∥₁
   held-new-run =
       ∥∥₁_elim (laid ClockType.the_row (clock-means zeroed (zero_of ClockLaws.mir) zeros-are-zeroed) clock-lawful start (⟦ ftrue ⟧₀ ∗ All) (lies-too ftrue tt tt)) ∥∥₁_prop (λ m.
       let clock : Assertion = ⟦ At ClockType.the_row full_share (zero_of ClockLaws.mir) m.0 0 ⟧₀ in

@@ -43,7 +43,7 @@ use Rattle.claim.specs.Calls.{Call}
 use Rattle.claim.proofs.Points.{near-calls}
 use Rattle.claim.proofs.Decided.{gave-once}
 use Rattle.claim.proofs.Claim.{Agrees, new-agrees, call-agrees}
-use Rattle.claim_runs.specs.Handed.{Assertion, ◌∗◌, ⟦◌⟧₀, ◌⊨◌, Handed, value, sees, changes, Lie, At, Written, lie_after, Ran, Leaves}
+use Rattle.claim_runs.specs.Handed.{function, Assertion, ◌∗◌, ⟦◌⟧₀, ◌⊨◌, Handed, value, sees, changes, Lie, At, Written, lie_after, Ran, Leaves}
 use Rattle.claim_runs.specs.Values.{clock_in, answer_in, turns_in, cards_in, verdict_in, turnings_in, held_cards_in, clock_at}
 use Rattle.claim_runs.specs.Runs.{Run, loads, stations, placed, dates, heights, serieses, searches, years, bookings, hourlies, hands, held_loads, held_stations, held_dates, lent_heights, held_heights, held_serieses, held_searches, held_years, lent_bookings, held_bookings, held_hourlies, held_hands, Gives, Started, returned, left, zeros, Runs, done, ◌then◌, GiveAll}
 use Rattle.claim_runs.specs.OnMachine.{OfAnyRuns, Returns, EveryCallEnds, AlwaysEnds}
@@ -316,11 +316,11 @@ all_once (x then xs) (g ∷ gs) = ×_prop (gives-once x g) (all_once xs gs)
 new-holds : {vc : Val} → Started vc → ∥ Holds vc nothing ∥₁
 unfolding new-takes held-new-takes
 new-holds (returned x) =
-    ∥∥₁_elim (every-comes new.ended (λ M 𝓤. new.clauses) [] tt new-takes new_code.routine (λ M. new_met.met) tt (top w₀.𝓤 (emp w₀.𝓤)) tt x.before x.rest x.lent x.routine x.below x.value x.left x.run) ∥∥₁_prop (λ k.
+    ∥∥₁_elim (every-comes new.ended (λ M 𝓤. new.clauses) [] tt new-takes (function new_code.name new_code.code) (λ M. new_met.met) tt (top w₀.𝓤 (emp w₀.𝓤)) tt x.before x.rest x.lent x.routine x.below x.value x.left x.run) ∥∥₁_prop (λ k.
     ∥∥₁_map (new-agrees (call.news k.once)) (λ a. record { clock = k.result; is = k.is; agrees = a }))
 new-holds (left {vc = vc} {b = b} {o = o} c is x) =
     let hs : List Handed = changes ClockType.the_row vc b o ∷ [] in
-    ∥∥₁_elim (every-comes held_new.ended (λ M 𝓤. held_new.clauses) hs (clock-means c vc is, tt) (held-new-takes c vc is b o) held_new_code.routine (λ M. held_new_met.met) (clock-makes, tt) (top w₀.𝓤 (emp w₀.𝓤)) tt
+    ∥∥₁_elim (every-comes held_new.ended (λ M 𝓤. held_new.clauses) hs (clock-means c vc is, tt) (held-new-takes c vc is b o) (function held_new_code.name held_new_code.code) (λ M. held_new_met.met) (clock-makes, tt) (top w₀.𝓤 (emp w₀.𝓤)) tt
     x.before x.rest x.lent x.routine x.below x.value x.left x.run) ∥∥₁_prop (λ k.
     ∥∥₁_elim (clock-left x tt (ClockLaws.lowered k.last.0) k.leaves) ∥∥₁_prop (λ e.
     ∥∥₁_map (new-agrees (call.held_news k.once)) (λ a. record { clock = k.last.0; is = subst (λ (v : Val). Is ClockType.the_row k.last.0 (v ∷ [])) e k.stand.0; agrees = a })))
@@ -334,8 +334,8 @@ pub always-ends : AlwaysEnds
 always-ends =
     record {
       held_new = λ c vc is b o fit σ F s.
-          ∥∥₁_map (comes held_new.ended (λ M 𝓤. held_new.clauses) (changes ClockType.the_row vc b o ∷ []) (clock-means c vc is, tt) (held-new-takes c vc is b o) held_new_code.routine (λ M. held_new_met.met) (clock-makes, tt)
+          ∥∥₁_map (comes held_new.ended (λ M 𝓤. held_new.clauses) (changes ClockType.the_row vc b o ∷ []) (clock-means c vc is, tt) (held-new-takes c vc is b o) (function held_new_code.name held_new_code.code) (λ M. held_new_met.met) (clock-makes, tt)
           (top w₀.𝓤 (emp w₀.𝓤)) tt σ F s) (λ k. (k.0, k.1, k.2));
-      new = λ fit σ F s. ∥∥₁_map (comes new.ended (λ M 𝓤. new.clauses) [] tt new-takes new_code.routine (λ M. new_met.met) tt (top w₀.𝓤 (emp w₀.𝓤)) tt σ F s) (λ k. (k.0, k.1, k.2));
+      new = λ fit σ F s. ∥∥₁_map (comes new.ended (λ M 𝓤. new.clauses) [] tt new-takes (function new_code.name new_code.code) (λ M. new_met.met) tt (top w₀.𝓤 (emp w₀.𝓤)) tt σ F s) (λ k. (k.0, k.1, k.2));
       then = λ vc vc' qs started xs. ∥∥₁_elim (new-holds started) ∥∥₁_prop (λ h. ∥∥₁_map (runs-give nothing h xs) (λ k. every-call-ends (last_after nothing qs) k.1));
     }

@@ -103,7 +103,7 @@ use Rattle.cuvalimodo_c.specs.contracts.cuvalimodo_names as held_names
 use Rattle.cuvalimodo_c.proofs.cuvalimodo_names.Symbol as held_names_code
 use Rattle.cuvalimodo_c.proofs.cuvalimodo_names.Met as held_names_met
 use Rattle.claim.specs.Calls.{ClausesOf, clauses_at}
-use Rattle.claim_runs.specs.Handed.{Assertion, Handed, value, reads, writes, sees, changes}
+use Rattle.claim_runs.specs.Handed.{function, Assertion, Handed, value, reads, writes, sees, changes}
 use Rattle.claim_runs.proofs.Lending as had
 use Rattle.claim_runs.proofs.Lending.{lent, Means, Meant, lifetimes, wholes, denotes, values_of}
 use Rattle.claim_runs.proofs.Ran.{Theorem}
@@ -161,7 +161,7 @@ module _ (c : Clock) (vc : Val) where
   abbrev clock : Handed
   clock = value ClockType.the_row c vc
 
-  unfoldable pub load-call : (file : List ℕ) (q : Share) (b o : ℕ) → Callable c load_code.routine (clock ∷ reads u8 q file b o ∷ [])
+  unfoldable pub load-call : (file : List ℕ) (q : Share) (b o : ℕ) → Callable c (function load_code.name load_code.code) (clock ∷ reads u8 q file b o ∷ [])
   load-call file q b o =
       let all : List Handed = clock ∷ reads u8 q file b o ∷ [] in
       record {
@@ -173,7 +173,7 @@ module _ (c : Clock) (vc : Val) where
         takes = record { enters = λ ns. ((lifetimes all ns, wholes all, tt, denotes 0 all tt ns, values_of 0 all ns), (λ w. tt), refl, refl, refl); writes = λ ns ws. (tt, refl) };
       }
 
-  unfoldable pub station-call : (latitude : ℤ) (strides : Strides) (vl vt : Val) (records : List Record) (q : Share) (b o : ℕ) → Callable c station_code.routine (clock ∷ value i32 latitude vl ∷ value StridesType.the_row strides vt ∷ reads RecordType.the_row q records b o ∷ [])
+  unfoldable pub station-call : (latitude : ℤ) (strides : Strides) (vl vt : Val) (records : List Record) (q : Share) (b o : ℕ) → Callable c (function station_code.name station_code.code) (clock ∷ value i32 latitude vl ∷ value StridesType.the_row strides vt ∷ reads RecordType.the_row q records b o ∷ [])
   station-call latitude strides vl vt records q b o =
       let all : List Handed = clock ∷ value i32 latitude vl ∷ value StridesType.the_row strides vt ∷ reads RecordType.the_row q records b o ∷ [] in
       record {
@@ -185,7 +185,7 @@ module _ (c : Clock) (vc : Val) where
         takes = record { enters = λ ns. ((lifetimes all ns, wholes all, tt, denotes 0 all tt ns, values_of 0 all ns), (λ w. tt), refl, refl, refl); writes = λ ns ws. (tt, refl) };
       }
 
-  unfoldable pub placing-call : (latitude : ℤ) (strides : Strides) (n : ℕ) (rows : Rows) (vl vt vn vr : Val) → Callable c placing_code.routine (clock ∷ value i32 latitude vl ∷ value StridesType.the_row strides vt ∷ value usize n vn ∷ value RowsType.the_row rows vr ∷ [])
+  unfoldable pub placing-call : (latitude : ℤ) (strides : Strides) (n : ℕ) (rows : Rows) (vl vt vn vr : Val) → Callable c (function placing_code.name placing_code.code) (clock ∷ value i32 latitude vl ∷ value StridesType.the_row strides vt ∷ value usize n vn ∷ value RowsType.the_row rows vr ∷ [])
   placing-call latitude strides n rows vl vt vn vr =
       let all : List Handed = clock ∷ value i32 latitude vl ∷ value StridesType.the_row strides vt ∷ value usize n vn ∷ value RowsType.the_row rows vr ∷ [] in
       record {
@@ -197,7 +197,7 @@ module _ (c : Clock) (vc : Val) where
         takes = record { enters = λ ns. ((lifetimes all ns, wholes all, tt, denotes 0 all tt ns, values_of 0 all ns), (λ w. tt), refl, refl, refl); writes = λ ns ws. (tt, refl) };
       }
 
-  unfoldable pub date-call : (year month : ℕ) (vy vm : Val) → Callable c date_code.routine (clock ∷ value u32 year vy ∷ value u32 month vm ∷ [])
+  unfoldable pub date-call : (year month : ℕ) (vy vm : Val) → Callable c (function date_code.name date_code.code) (clock ∷ value u32 year vy ∷ value u32 month vm ∷ [])
   date-call year month vy vm =
       let all : List Handed = clock ∷ value u32 year vy ∷ value u32 month vm ∷ [] in
       record {
@@ -209,7 +209,7 @@ module _ (c : Clock) (vc : Val) where
         takes = record { enters = λ ns. ((lifetimes all ns, wholes all, tt, denotes 0 all tt ns, values_of 0 all ns), (λ w. tt), refl, refl, refl); writes = λ ns ws. (tt, refl) };
       }
 
-  unfoldable pub height-call : (minute : ℕ) (vm : Val) → Callable c height_code.routine (clock ∷ value u32 minute vm ∷ [])
+  unfoldable pub height-call : (minute : ℕ) (vm : Val) → Callable c (function height_code.name height_code.code) (clock ∷ value u32 minute vm ∷ [])
   height-call minute vm =
       let all : List Handed = clock ∷ value u32 minute vm ∷ [] in
       record {
@@ -221,7 +221,7 @@ module _ (c : Clock) (vc : Val) where
         takes = record { enters = λ ns. ((lifetimes all ns, wholes all, tt, denotes 0 all tt ns, values_of 0 all ns), (λ w. tt), refl, refl, refl); writes = λ ns ws. (tt, refl) };
       }
 
-  unfoldable pub series-call : (start step : ℕ) (vs vt : Val) (hs : List ℤ) (b o : ℕ) → Callable c series_code.routine (clock ∷ value u32 start vs ∷ value u32 step vt ∷ writes i64 hs b o ∷ [])
+  unfoldable pub series-call : (start step : ℕ) (vs vt : Val) (hs : List ℤ) (b o : ℕ) → Callable c (function series_code.name series_code.code) (clock ∷ value u32 start vs ∷ value u32 step vt ∷ writes i64 hs b o ∷ [])
   series-call start step vs vt hs b o =
       let all : List Handed = clock ∷ value u32 start vs ∷ value u32 step vt ∷ writes i64 hs b o ∷ [] in
       record {
@@ -233,7 +233,7 @@ module _ (c : Clock) (vc : Val) where
         takes = record { enters = λ ns. ((lifetimes all ns, wholes all, tt, denotes 0 all tt ns, values_of 0 all ns), (λ w. tt), refl, refl, refl); writes = λ ns ws. ((ws.1.1.1.0, tt), refl) };
       }
 
-  unfoldable pub turns-call : (first last : ℕ) (vf vl : Val) (ms : List ℕ) (b o : ℕ) (hs : List ℤ) (b₁ o₁ : ℕ) → Callable c turns_code.routine (clock ∷ value u32 first vf ∷ value u32 last vl ∷ writes u32 ms b o ∷ writes i64 hs b₁ o₁ ∷ [])
+  unfoldable pub turns-call : (first last : ℕ) (vf vl : Val) (ms : List ℕ) (b o : ℕ) (hs : List ℤ) (b₁ o₁ : ℕ) → Callable c (function turns_code.name turns_code.code) (clock ∷ value u32 first vf ∷ value u32 last vl ∷ writes u32 ms b o ∷ writes i64 hs b₁ o₁ ∷ [])
   turns-call first last vf vl ms b o hs b₁ o₁ =
       let all : List Handed = clock ∷ value u32 first vf ∷ value u32 last vl ∷ writes u32 ms b o ∷ writes i64 hs b₁ o₁ ∷ [] in
       record {
@@ -245,7 +245,7 @@ module _ (c : Clock) (vc : Val) where
         takes = record { enters = λ ns. ((lifetimes all ns, wholes all, tt, denotes 0 all tt ns, values_of 0 all ns), (λ w. tt), refl, refl, refl); writes = λ ns ws. ((ws.1.1.1.0, (ws.1.1.1.1.0, tt)), refl) };
       }
 
-  unfoldable pub year-call : (sheet : Sheet) (vs : Val) (ss : List ℤ) (b o : ℕ) (ms : List ℕ) (b₁ o₁ : ℕ) (hs : List ℤ) (b₂ o₂ : ℕ) → Callable c year_code.routine (clock ∷ value SheetType.the_row sheet vs ∷ writes i64 ss b o ∷ writes u32 ms b₁ o₁ ∷ writes i64 hs b₂ o₂ ∷ [])
+  unfoldable pub year-call : (sheet : Sheet) (vs : Val) (ss : List ℤ) (b o : ℕ) (ms : List ℕ) (b₁ o₁ : ℕ) (hs : List ℤ) (b₂ o₂ : ℕ) → Callable c (function year_code.name year_code.code) (clock ∷ value SheetType.the_row sheet vs ∷ writes i64 ss b o ∷ writes u32 ms b₁ o₁ ∷ writes i64 hs b₂ o₂ ∷ [])
   year-call sheet vs ss b o ms b₁ o₁ hs b₂ o₂ =
       let all : List Handed = clock ∷ value SheetType.the_row sheet vs ∷ writes i64 ss b o ∷ writes u32 ms b₁ o₁ ∷ writes i64 hs b₂ o₂ ∷ [] in
       record {
@@ -257,7 +257,7 @@ module _ (c : Clock) (vc : Val) where
         takes = record { enters = λ ns. ((lifetimes all ns, wholes all, tt, denotes 0 all tt ns, values_of 0 all ns), (λ w. tt), refl, refl, refl); writes = λ ns ws. ((ws.1.1.0, (ws.1.1.1.0, (ws.1.1.1.1.0, tt))), refl) };
       }
 
-  unfoldable pub bookings-call : (minutes : List ℕ) (q : Share) (b o : ℕ) (hs : List ℤ) (b₁ o₁ : ℕ) → Callable c booking_code.routine (clock ∷ reads u32 q minutes b o ∷ writes i64 hs b₁ o₁ ∷ [])
+  unfoldable pub bookings-call : (minutes : List ℕ) (q : Share) (b o : ℕ) (hs : List ℤ) (b₁ o₁ : ℕ) → Callable c (function booking_code.name booking_code.code) (clock ∷ reads u32 q minutes b o ∷ writes i64 hs b₁ o₁ ∷ [])
   bookings-call minutes q b o hs b₁ o₁ =
       let all : List Handed = clock ∷ reads u32 q minutes b o ∷ writes i64 hs b₁ o₁ ∷ [] in
       record {
@@ -269,7 +269,7 @@ module _ (c : Clock) (vc : Val) where
         takes = record { enters = λ ns. ((lifetimes all ns, wholes all, tt, denotes 0 all tt ns, values_of 0 all ns), (λ w. tt), refl, refl, refl); writes = λ ns ws. ((ws.1.1.0, tt), refl) };
       }
 
-  unfoldable pub hourly-call : (number : ℕ) (vn : Val) (cards : List ℕ) (b o : ℕ) → Callable c hourly_code.routine (clock ∷ value u32 number vn ∷ writes u8 cards b o ∷ [])
+  unfoldable pub hourly-call : (number : ℕ) (vn : Val) (cards : List ℕ) (b o : ℕ) → Callable c (function hourly_code.name hourly_code.code) (clock ∷ value u32 number vn ∷ writes u8 cards b o ∷ [])
   hourly-call number vn cards b o =
       let all : List Handed = clock ∷ value u32 number vn ∷ writes u8 cards b o ∷ [] in
       record {
@@ -281,7 +281,7 @@ module _ (c : Clock) (vc : Val) where
         takes = record { enters = λ ns. ((lifetimes all ns, wholes all, tt, denotes 0 all tt ns, values_of 0 all ns), (λ w. tt), refl, refl, refl); writes = λ ns ws. ((ws.1.1.0, tt), refl) };
       }
 
-  unfoldable pub names-call : Callable c names_code.routine (clock ∷ [])
+  unfoldable pub names-call : Callable c (function names_code.name names_code.code) (clock ∷ [])
   names-call =
       let all : List Handed = clock ∷ [] in
       record {
@@ -304,7 +304,7 @@ module _ (c : Clock) (vc : Val) (is : Is ClockType.the_row c (vc ∷ [])) where
       let all : List Handed = changes ClockType.the_row vc b o ∷ [] in
       record { enters = λ ns. ((lifetimes all ns, wholes all, tt, denotes 0 all (clock-means, tt) ns, values_of 0 all ns), (λ w. tt), refl, refl, refl); writes = λ ns ws. ((ws.0, tt), refl) }
 
-  unfoldable pub held-load-call : (b o : ℕ) (file : List ℕ) (q : Share) (b₁ o₁ : ℕ) → Callable c held_load_code.routine (changes ClockType.the_row vc b o ∷ reads u8 q file b₁ o₁ ∷ [])
+  unfoldable pub held-load-call : (b o : ℕ) (file : List ℕ) (q : Share) (b₁ o₁ : ℕ) → Callable c (function held_load_code.name held_load_code.code) (changes ClockType.the_row vc b o ∷ reads u8 q file b₁ o₁ ∷ [])
   held-load-call b o file q b₁ o₁ =
       let all : List Handed = changes ClockType.the_row vc b o ∷ reads u8 q file b₁ o₁ ∷ [] in
       record {
@@ -316,7 +316,7 @@ module _ (c : Clock) (vc : Val) (is : Is ClockType.the_row c (vc ∷ [])) where
         takes = record { enters = λ ns. ((lifetimes all ns, wholes all, tt, denotes 0 all (clock-means, tt) ns, values_of 0 all ns), (λ w. tt), refl, refl, refl); writes = λ ns ws. ((ws.0, tt), refl) };
       }
 
-  unfoldable pub held-station-call : (b o : ℕ) (latitude : ℤ) (strides : Strides) (vl vt : Val) (records : List Record) (q : Share) (b₁ o₁ : ℕ) → Callable c held_station_code.routine (changes ClockType.the_row vc b o ∷ value i32 latitude vl ∷ value StridesType.the_row strides vt ∷ reads RecordType.the_row q records b₁ o₁ ∷ [])
+  unfoldable pub held-station-call : (b o : ℕ) (latitude : ℤ) (strides : Strides) (vl vt : Val) (records : List Record) (q : Share) (b₁ o₁ : ℕ) → Callable c (function held_station_code.name held_station_code.code) (changes ClockType.the_row vc b o ∷ value i32 latitude vl ∷ value StridesType.the_row strides vt ∷ reads RecordType.the_row q records b₁ o₁ ∷ [])
   held-station-call b o latitude strides vl vt records q b₁ o₁ =
       let all : List Handed = changes ClockType.the_row vc b o ∷ value i32 latitude vl ∷ value StridesType.the_row strides vt ∷ reads RecordType.the_row q records b₁ o₁ ∷ [] in
       record {
@@ -328,7 +328,7 @@ module _ (c : Clock) (vc : Val) (is : Is ClockType.the_row c (vc ∷ [])) where
         takes = record { enters = λ ns. ((lifetimes all ns, wholes all, tt, denotes 0 all (clock-means, tt) ns, values_of 0 all ns), (λ w. tt), refl, refl, refl); writes = λ ns ws. ((ws.0, tt), refl) };
       }
 
-  unfoldable pub held-date-call : (b o year month : ℕ) (vy vm : Val) → Callable c held_date_code.routine (changes ClockType.the_row vc b o ∷ value u32 year vy ∷ value u32 month vm ∷ [])
+  unfoldable pub held-date-call : (b o year month : ℕ) (vy vm : Val) → Callable c (function held_date_code.name held_date_code.code) (changes ClockType.the_row vc b o ∷ value u32 year vy ∷ value u32 month vm ∷ [])
   held-date-call b o year month vy vm =
       let all : List Handed = changes ClockType.the_row vc b o ∷ value u32 year vy ∷ value u32 month vm ∷ [] in
       record {
@@ -340,7 +340,7 @@ module _ (c : Clock) (vc : Val) (is : Is ClockType.the_row c (vc ∷ [])) where
         takes = record { enters = λ ns. ((lifetimes all ns, wholes all, tt, denotes 0 all (clock-means, tt) ns, values_of 0 all ns), (λ w. tt), refl, refl, refl); writes = λ ns ws. ((ws.0, tt), refl) };
       }
 
-  unfoldable pub lent-height-call : (s : Share) (b o minute : ℕ) (vm : Val) → Callable c lent_height_code.routine (sees ClockType.the_row s vc b o ∷ value u32 minute vm ∷ [])
+  unfoldable pub lent-height-call : (s : Share) (b o minute : ℕ) (vm : Val) → Callable c (function lent_height_code.name lent_height_code.code) (sees ClockType.the_row s vc b o ∷ value u32 minute vm ∷ [])
   lent-height-call s b o minute vm =
       let all : List Handed = sees ClockType.the_row s vc b o ∷ value u32 minute vm ∷ [] in
       record {
@@ -352,7 +352,7 @@ module _ (c : Clock) (vc : Val) (is : Is ClockType.the_row c (vc ∷ [])) where
         takes = record { enters = λ ns. ((lifetimes all ns, wholes all, tt, denotes 0 all (clock-means, tt) ns, values_of 0 all ns), (λ w. tt), refl, refl, refl); writes = λ ns ws. (tt, refl) };
       }
 
-  unfoldable pub held-height-call : (s : Share) (b o minute : ℕ) (vm : Val) → Callable c held_height_code.routine (sees ClockType.the_row s vc b o ∷ value u32 minute vm ∷ [])
+  unfoldable pub held-height-call : (s : Share) (b o minute : ℕ) (vm : Val) → Callable c (function held_height_code.name held_height_code.code) (sees ClockType.the_row s vc b o ∷ value u32 minute vm ∷ [])
   held-height-call s b o minute vm =
       let all : List Handed = sees ClockType.the_row s vc b o ∷ value u32 minute vm ∷ [] in
       record {
@@ -364,7 +364,7 @@ module _ (c : Clock) (vc : Val) (is : Is ClockType.the_row c (vc ∷ [])) where
         takes = record { enters = λ ns. ((lifetimes all ns, wholes all, tt, denotes 0 all (clock-means, tt) ns, values_of 0 all ns), (λ w. tt), refl, refl, refl); writes = λ ns ws. (tt, refl) };
       }
 
-  unfoldable pub held-series-call : (s : Share) (b o start step : ℕ) (vs vt : Val) (hs : List ℤ) (b₁ o₁ : ℕ) → Callable c held_series_code.routine (sees ClockType.the_row s vc b o ∷ value u32 start vs ∷ value u32 step vt ∷ writes i64 hs b₁ o₁ ∷ [])
+  unfoldable pub held-series-call : (s : Share) (b o start step : ℕ) (vs vt : Val) (hs : List ℤ) (b₁ o₁ : ℕ) → Callable c (function held_series_code.name held_series_code.code) (sees ClockType.the_row s vc b o ∷ value u32 start vs ∷ value u32 step vt ∷ writes i64 hs b₁ o₁ ∷ [])
   held-series-call s b o start step vs vt hs b₁ o₁ =
       let all : List Handed = sees ClockType.the_row s vc b o ∷ value u32 start vs ∷ value u32 step vt ∷ writes i64 hs b₁ o₁ ∷ [] in
       record {
@@ -376,7 +376,7 @@ module _ (c : Clock) (vc : Val) (is : Is ClockType.the_row c (vc ∷ [])) where
         takes = record { enters = λ ns. ((lifetimes all ns, wholes all, tt, denotes 0 all (clock-means, tt) ns, values_of 0 all ns), (λ w. tt), refl, refl, refl); writes = λ ns ws. ((ws.1.1.1.0, tt), refl) };
       }
 
-  unfoldable pub held-turns-call : (s : Share) (b o first last : ℕ) (vf vl : Val) (ms : List ℕ) (b₁ o₁ : ℕ) (hs : List ℤ) (b₂ o₂ : ℕ) → Callable c held_turns_code.routine (sees ClockType.the_row s vc b o ∷ value u32 first vf ∷ value u32 last vl ∷ writes u32 ms b₁ o₁ ∷ writes i64 hs b₂ o₂ ∷ [])
+  unfoldable pub held-turns-call : (s : Share) (b o first last : ℕ) (vf vl : Val) (ms : List ℕ) (b₁ o₁ : ℕ) (hs : List ℤ) (b₂ o₂ : ℕ) → Callable c (function held_turns_code.name held_turns_code.code) (sees ClockType.the_row s vc b o ∷ value u32 first vf ∷ value u32 last vl ∷ writes u32 ms b₁ o₁ ∷ writes i64 hs b₂ o₂ ∷ [])
   held-turns-call s b o first last vf vl ms b₁ o₁ hs b₂ o₂ =
       let all : List Handed = sees ClockType.the_row s vc b o ∷ value u32 first vf ∷ value u32 last vl ∷ writes u32 ms b₁ o₁ ∷ writes i64 hs b₂ o₂ ∷ [] in
       record {
@@ -388,7 +388,7 @@ module _ (c : Clock) (vc : Val) (is : Is ClockType.the_row c (vc ∷ [])) where
         takes = record { enters = λ ns. ((lifetimes all ns, wholes all, tt, denotes 0 all (clock-means, tt) ns, values_of 0 all ns), (λ w. tt), refl, refl, refl); writes = λ ns ws. ((ws.1.1.1.0, (ws.1.1.1.1.0, tt)), refl) };
       }
 
-  unfoldable pub held-year-call : (s : Share) (b o : ℕ) (sheet : Sheet) (vy vs vt vf vl : Val) (ss : List ℤ) (b₁ o₁ : ℕ) (ms : List ℕ) (b₂ o₂ : ℕ) (hs : List ℤ) (b₃ o₃ : ℕ) → Callable c held_year_code.routine (sees ClockType.the_row s vc b o ∷ value u32 sheet.year vy ∷ value u32 sheet.start vs ∷ value u32 sheet.step vt ∷ value u32 sheet.first vf ∷ value u32 sheet.last vl ∷ writes i64 ss b₁ o₁ ∷ writes u32 ms b₂ o₂ ∷ writes i64 hs b₃ o₃ ∷ [])
+  unfoldable pub held-year-call : (s : Share) (b o : ℕ) (sheet : Sheet) (vy vs vt vf vl : Val) (ss : List ℤ) (b₁ o₁ : ℕ) (ms : List ℕ) (b₂ o₂ : ℕ) (hs : List ℤ) (b₃ o₃ : ℕ) → Callable c (function held_year_code.name held_year_code.code) (sees ClockType.the_row s vc b o ∷ value u32 sheet.year vy ∷ value u32 sheet.start vs ∷ value u32 sheet.step vt ∷ value u32 sheet.first vf ∷ value u32 sheet.last vl ∷ writes i64 ss b₁ o₁ ∷ writes u32 ms b₂ o₂ ∷ writes i64 hs b₃ o₃ ∷ [])
   held-year-call s b o sheet vy vs vt vf vl ss b₁ o₁ ms b₂ o₂ hs b₃ o₃ =
       let all : List Handed = sees ClockType.the_row s vc b o ∷ value u32 sheet.year vy ∷ value u32 sheet.start vs ∷ value u32 sheet.step vt ∷ value u32 sheet.first vf ∷ value u32 sheet.last vl ∷ writes i64 ss b₁ o₁ ∷ writes u32 ms b₂ o₂ ∷ writes i64 hs b₃ o₃ ∷ [] in
       record {
@@ -400,7 +400,7 @@ module _ (c : Clock) (vc : Val) (is : Is ClockType.the_row c (vc ∷ [])) where
         takes = record { enters = λ ns. ((lifetimes all ns, wholes all, tt, denotes 0 all (clock-means, tt) ns, values_of 0 all ns), (λ w. tt), refl, refl, refl); writes = λ ns ws. ((ws.1.1.1.1.1.1.0, (ws.1.1.1.1.1.1.1.0, (ws.1.1.1.1.1.1.1.1.0, tt))), refl) };
       }
 
-  unfoldable pub lent-bookings-call : (s : Share) (b o : ℕ) (minutes : List ℕ) (q : Share) (b₁ o₁ : ℕ) (hs : List ℤ) (b₂ o₂ : ℕ) → Callable c lent_booking_code.routine (sees ClockType.the_row s vc b o ∷ reads u32 q minutes b₁ o₁ ∷ writes i64 hs b₂ o₂ ∷ [])
+  unfoldable pub lent-bookings-call : (s : Share) (b o : ℕ) (minutes : List ℕ) (q : Share) (b₁ o₁ : ℕ) (hs : List ℤ) (b₂ o₂ : ℕ) → Callable c (function lent_booking_code.name lent_booking_code.code) (sees ClockType.the_row s vc b o ∷ reads u32 q minutes b₁ o₁ ∷ writes i64 hs b₂ o₂ ∷ [])
   lent-bookings-call s b o minutes q b₁ o₁ hs b₂ o₂ =
       let all : List Handed = sees ClockType.the_row s vc b o ∷ reads u32 q minutes b₁ o₁ ∷ writes i64 hs b₂ o₂ ∷ [] in
       record {
@@ -412,7 +412,7 @@ module _ (c : Clock) (vc : Val) (is : Is ClockType.the_row c (vc ∷ [])) where
         takes = record { enters = λ ns. ((lifetimes all ns, wholes all, tt, denotes 0 all (clock-means, tt) ns, values_of 0 all ns), (λ w. tt), refl, refl, refl); writes = λ ns ws. ((ws.1.1.0, tt), refl) };
       }
 
-  unfoldable pub held-bookings-call : (s : Share) (b o : ℕ) (minutes : List ℕ) (q : Share) (b₁ o₁ : ℕ) (hs : List ℤ) (b₂ o₂ : ℕ) → Callable c held_booking_code.routine (sees ClockType.the_row s vc b o ∷ reads u32 q minutes b₁ o₁ ∷ writes i64 hs b₂ o₂ ∷ [])
+  unfoldable pub held-bookings-call : (s : Share) (b o : ℕ) (minutes : List ℕ) (q : Share) (b₁ o₁ : ℕ) (hs : List ℤ) (b₂ o₂ : ℕ) → Callable c (function held_booking_code.name held_booking_code.code) (sees ClockType.the_row s vc b o ∷ reads u32 q minutes b₁ o₁ ∷ writes i64 hs b₂ o₂ ∷ [])
   held-bookings-call s b o minutes q b₁ o₁ hs b₂ o₂ =
       let all : List Handed = sees ClockType.the_row s vc b o ∷ reads u32 q minutes b₁ o₁ ∷ writes i64 hs b₂ o₂ ∷ [] in
       record {
@@ -424,7 +424,7 @@ module _ (c : Clock) (vc : Val) (is : Is ClockType.the_row c (vc ∷ [])) where
         takes = record { enters = λ ns. ((lifetimes all ns, wholes all, tt, denotes 0 all (clock-means, tt) ns, values_of 0 all ns), (λ w. tt), refl, refl, refl); writes = λ ns ws. ((ws.1.1.0, tt), refl) };
       }
 
-  unfoldable pub held-hourly-call : (s : Share) (b o number : ℕ) (vn : Val) (cards : List ℕ) (b₁ o₁ : ℕ) → Callable c held_hourly_code.routine (sees ClockType.the_row s vc b o ∷ value u32 number vn ∷ writes u8 cards b₁ o₁ ∷ [])
+  unfoldable pub held-hourly-call : (s : Share) (b o number : ℕ) (vn : Val) (cards : List ℕ) (b₁ o₁ : ℕ) → Callable c (function held_hourly_code.name held_hourly_code.code) (sees ClockType.the_row s vc b o ∷ value u32 number vn ∷ writes u8 cards b₁ o₁ ∷ [])
   held-hourly-call s b o number vn cards b₁ o₁ =
       let all : List Handed = sees ClockType.the_row s vc b o ∷ value u32 number vn ∷ writes u8 cards b₁ o₁ ∷ [] in
       record {
@@ -436,7 +436,7 @@ module _ (c : Clock) (vc : Val) (is : Is ClockType.the_row c (vc ∷ [])) where
         takes = record { enters = λ ns. ((lifetimes all ns, wholes all, tt, denotes 0 all (clock-means, tt) ns, values_of 0 all ns), (λ w. tt), refl, refl, refl); writes = λ ns ws. ((ws.1.1.0, tt), refl) };
       }
 
-  unfoldable pub held-names-call : (s : Share) (b o : ℕ) → Callable c held_names_code.routine (sees ClockType.the_row s vc b o ∷ [])
+  unfoldable pub held-names-call : (s : Share) (b o : ℕ) → Callable c (function held_names_code.name held_names_code.code) (sees ClockType.the_row s vc b o ∷ [])
   held-names-call s b o =
       let all : List Handed = sees ClockType.the_row s vc b o ∷ [] in
       record {

@@ -2,7 +2,8 @@
 -- Assumes nothing.
 use Rattle.std.specs.Prelude.{ℕ, ◌≡◌, false, List, [], ◌∷◌, ◌++◌, replicate, ℤ, pos}
 use mir.Val.{Val}
-use prog.Routine.{Routine}
+use prog.Routine.{Env}
+use prog.Wired.{Wired}
 use Rattle.refusals.specs.Outcome.{accepted}
 use Rattle.station.specs.declared.records.Record.{Record}
 use Rattle.station.specs.declared.strides.Strides.{Strides}
@@ -39,7 +40,7 @@ use Rattle.cuvalimodo_c.proofs.cuvalimodo_bookings.Symbol as held_booking_code
 use Rattle.cuvalimodo_c.proofs.cuvalimodo_hourly.Symbol as held_hourly_code
 use Rattle.cuvalimodo_c.proofs.cuvalimodo_names.Symbol as held_names_code
 use Rattle.claim.specs.Document.{Request, Cards, Station, Date, Height, Series, Turns, Year, Bookings, Hourly, Names, Gave, told, predicted, wrote, found, filled, carded, named, nothing, gives_all}
-use Rattle.claim_runs.specs.Handed.{changes, Ran}
+use Rattle.claim_runs.specs.Handed.{Function, function, changes, Ran}
 use Rattle.claim_runs.specs.Values.{clock_at, zero_memory}
 use Rattle.claim_runs.specs.Runs.{Started, Runs, GiveAll, routines_of}
 
@@ -160,31 +161,31 @@ accepted_calls =
     ∷ []
 
 -- the routines that are run for them
-abbrev pub accepted_routines : List Routine
+abbrev pub accepted_routines : List Function
 accepted_routines =
-    load_code.routine
-    ∷ station_code.routine
-    ∷ placing_code.routine
-    ∷ date_code.routine
-    ∷ height_code.routine
-    ∷ series_code.routine
-    ∷ turns_code.routine
-    ∷ year_code.routine
-    ∷ booking_code.routine
-    ∷ hourly_code.routine
-    ∷ names_code.routine
-    ∷ held_load_code.routine
-    ∷ held_station_code.routine
-    ∷ held_date_code.routine
-    ∷ lent_height_code.routine
-    ∷ held_height_code.routine
-    ∷ held_series_code.routine
-    ∷ held_turns_code.routine
-    ∷ held_year_code.routine
-    ∷ lent_booking_code.routine
-    ∷ held_booking_code.routine
-    ∷ held_hourly_code.routine
-    ∷ held_names_code.routine
+    (function load_code.name load_code.code)
+    ∷ (function station_code.name station_code.code)
+    ∷ (function placing_code.name placing_code.code)
+    ∷ (function date_code.name date_code.code)
+    ∷ (function height_code.name height_code.code)
+    ∷ (function series_code.name series_code.code)
+    ∷ (function turns_code.name turns_code.code)
+    ∷ (function year_code.name year_code.code)
+    ∷ (function booking_code.name booking_code.code)
+    ∷ (function hourly_code.name hourly_code.code)
+    ∷ (function names_code.name names_code.code)
+    ∷ (function held_load_code.name held_load_code.code)
+    ∷ (function held_station_code.name held_station_code.code)
+    ∷ (function held_date_code.name held_date_code.code)
+    ∷ (function lent_height_code.name lent_height_code.code)
+    ∷ (function held_height_code.name held_height_code.code)
+    ∷ (function held_series_code.name held_series_code.code)
+    ∷ (function held_turns_code.name held_turns_code.code)
+    ∷ (function held_year_code.name held_year_code.code)
+    ∷ (function lent_booking_code.name lent_booking_code.code)
+    ∷ (function held_booking_code.name held_booking_code.code)
+    ∷ (function held_hourly_code.name held_hourly_code.code)
+    ∷ (function held_names_code.name held_names_code.code)
     ∷ []
 
 -- Z0 is level: its height is its amplitude, and there is no turn
@@ -222,9 +223,41 @@ AcceptedByTheDocument = gives_all nothing accepted_calls ≡ all_accepted
 abbrev pub AcceptedFrom : Val → Type 2
 AcceptedFrom vc = Started vc × ∥ ((vc' : Val) × (xs : Runs vc accepted_calls vc') × (routines_of xs ≡ accepted_routines) × GiveAll xs all_accepted) ∥₁
 
+-- a program that has the code of each function of the clock
+pub record HasTheClock (program : Env) : Type 0 where
+  pub new : Wired program new_code.code
+  pub load : Wired program load_code.code
+  pub station : Wired program station_code.code
+  pub placing : Wired program placing_code.code
+  pub date : Wired program date_code.code
+  pub height : Wired program height_code.code
+  pub lent_height : Wired program lent_height_code.code
+  pub series : Wired program series_code.code
+  pub turns : Wired program turns_code.code
+  pub year : Wired program year_code.code
+  pub booking : Wired program booking_code.code
+  pub lent_booking : Wired program lent_booking_code.code
+  pub hourly : Wired program hourly_code.code
+  pub names : Wired program names_code.code
+  pub held_new : Wired program held_new_code.code
+  pub held_load : Wired program held_load_code.code
+  pub held_station : Wired program held_station_code.code
+  pub held_date : Wired program held_date_code.code
+  pub held_height : Wired program held_height_code.code
+  pub held_series : Wired program held_series_code.code
+  pub held_turns : Wired program held_turns_code.code
+  pub held_year : Wired program held_year_code.code
+  pub held_booking : Wired program held_booking_code.code
+  pub held_hourly : Wired program held_hourly_code.code
+  pub held_names : Wired program held_names_code.code
+
 -- .. from a value that each of the two `new` gave, and from zeros: so the claim of the machine speaks of each kind of call, accepted. (Whichever
 -- calls come next, `AlwaysEnds` says that they return.)
 pub record AcceptedByTheMachine : Type 2 where
-  pub returned : ∥ ((x : Ran new_code.routine [] []) × AcceptedFrom x.value) ∥₁
-  pub left : ∥ ((vc : Val) × (b : ℕ) × (x : Ran held_new_code.routine [] (changes ClockType.the_row vc b 0 ∷ [])) × AcceptedFrom (clock_at x.left b 0)) ∥₁
+  pub returned : ∥ ((x : Ran (function new_code.name new_code.code) [] []) × AcceptedFrom x.value) ∥₁
+  pub left : ∥ ((vc : Val) × (b : ℕ) × (x : Ran (function held_new_code.name held_new_code.code) [] (changes ClockType.the_row vc b 0 ∷ [])) × AcceptedFrom (clock_at x.left b 0)) ∥₁
   pub zeros : AcceptedFrom (clock_at zero_memory 0 0)
+
+-- .. whatever program it is that has the clock's code
+abbrev pub AcceptedInAnyProgram : Type 2
+AcceptedInAnyProgram = (program : Env) → HasTheClock program → AcceptedByTheMachine

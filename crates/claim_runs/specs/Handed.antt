@@ -2,12 +2,14 @@
 -- owned.
 -- Assumes nothing.
 use Rattle.std.specs.Prelude.{ℕ, List, [], ◌∷◌, ◌++◌, length}
-use seplogic.Ra.TreeShare.{full_share}
+use base.Fraction.{full_share}
 use mir.Val.{Val, vptr}
 use base.Logic.{SProp, sep}
 use Rattle.std.specs.Borrow.{Fml, Share, ftrue, fsep, sem, RattleType}
 use prog.Memory.{Memory}
-use prog.Routine.{Routine, ends, ◌≼◌}
+use mir.Syntax.{Callee}
+use prog.Routine.{Env, ends}
+use prog.Wired.{Code, Wired}
 use contract.Adequate.{Satisfies}
 use types.SemTy.{cells}
 use types.Share.{arr_parts}
@@ -101,19 +103,27 @@ lie_after (changes R v b o ∷ hs) ws = fsep (At R full_share ws.0 b o) (lie_aft
 
 -- ---- a run
 
--- The routine f was called with the values `front` and with what is handed over, from a memory in which the buffers and structs lie beside
--- whatever else is owned there, and returned. (`routine`: f, or whatever does all that f does, as the function of its name in a program that has f's code.)
-pub record Ran (f : Routine) (front : List Val) (handed : List Handed) : Type 2 where
-  pub routine : Routine
-  pub below : f ≼ routine
+-- A function of the machine: its name, and its code with the code of all that it names.
+pub record Function : Type 0 where
+  pub name : Callee
+  pub code : Code
+
+abbrev pub function : Callee → Code → Function
+function name code = record { name = name; code = code }
+
+-- The function f was called with the values `front` and with what is handed over, from a memory in which the buffers and structs lie beside
+-- whatever else is owned there, and returned. (`program`: whatever has f's code, so that f's name means f there.)
+pub record Ran (f : Function) (front : List Val) (handed : List Handed) : Type 2 where
+  pub program : Env
+  pub has : Wired program f.code
   pub fit : Fit handed
   pub before : Memory
   pub rest : Assertion
   pub lent : before ⊨ ⟦ lie handed ⟧₀ ∗ rest
   pub value : Val
   pub left : Memory
-  pub run : ends routine (front ++ passed handed) before value left
+  pub run : ends (program f.name) (front ++ passed handed) before value left
 
 -- its memory at the end holds them, with what was written and left, beside all else that was owned before it
-abbrev pub Leaves : {f : Routine} {front : List Val} {handed : List Handed} → Ran f front handed → Written handed → Type 1
+abbrev pub Leaves : {f : Function} {front : List Val} {handed : List Handed} → Ran f front handed → Written handed → Type 1
 Leaves {handed = hs} x ws = x.left ⊨ ⟦ lie_after hs ws ⟧₀ ∗ x.rest

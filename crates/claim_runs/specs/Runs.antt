@@ -4,7 +4,6 @@
 use Rattle.std.specs.Prelude.{ℕ, List, [], ◌∷◌, ◌≡◌, ℤ, length}
 use mir.Val.{Val}
 use Rattle.std.specs.Borrow.{Share, u8, u32, i32, i64, usize}
-use prog.Routine.{Routine}
 use denote.Laws.{Is}
 use Rattle.station.specs.declared.records.Record.{Record}
 use Rattle.station.specs.declared.records.Rows.{Rows}
@@ -44,85 +43,85 @@ use Rattle.cuvalimodo_c.proofs.cuvalimodo_bookings.Symbol as held_booking_code
 use Rattle.cuvalimodo_c.proofs.cuvalimodo_hourly.Symbol as held_hourly_code
 use Rattle.cuvalimodo_c.proofs.cuvalimodo_names.Symbol as held_names_code
 use Rattle.claim.specs.Document.{Request, Cards, Station, Date, Height, Series, Turns, Year, Bookings, Hourly, Names, Gave, told, predicted, wrote, found, filled, carded, named}
-use Rattle.claim_runs.specs.Handed.{value, reads, writes, sees, changes, Ran, Leaves}
+use Rattle.claim_runs.specs.Handed.{Function, function, value, reads, writes, sees, changes, Ran, Leaves}
 use Rattle.claim_runs.specs.Values.{answer_in, height_in, turns_in, cards_in, table_names_in, bytes_at, minutes_at, heights_at, answer_part, clock_in, verdict_in, reading_in, turnings_in, held_cards_in, clock_at, zero_memory}
 
 -- "The first gets a clock with no table, station or month": a clock's value that a run of `new` returned, from any memory; that a run of the
 -- other `new`, which is lent a clock, whichever it is, left in its place; or that is loaded from memory of nothing but zeros
 pub data Started : Val → Type 2 where
-  returned : (x : Ran new_code.routine [] []) → Started x.value
-  left : {vc : Val} {b o : ℕ} (c : Clock) → Is ClockType.the_row c (vc ∷ []) → (x : Ran held_new_code.routine [] (changes ClockType.the_row vc b o ∷ [])) → Started (clock_at x.left b o)
+  returned : (x : Ran (function new_code.name new_code.code) [] []) → Started x.value
+  left : {vc : Val} {b o : ℕ} (c : Clock) → Is ClockType.the_row c (vc ∷ []) → (x : Ran (function held_new_code.name held_new_code.code) [] (changes ClockType.the_row vc b o ∷ [])) → Started (clock_at x.left b o)
   zeros : Started (clock_at zero_memory 0 0)
 
 -- One call, run: the machine's value of the clock that it gets, the call with all that is lent to it, and the machine's value of the clock
 -- that it leaves.
 pub data Run : Val → Request → Val → Type 2 where
   loads : {vc : Val} {file : List ℕ} {q : Share} {b o : ℕ}
-      → (x : Ran load_code.routine (vc ∷ []) (reads u8 q file b o ∷ []))
+      → (x : Ran (function load_code.name load_code.code) (vc ∷ []) (reads u8 q file b o ∷ []))
       → Run vc (Cards file) (clock_in x.value)
   stations : {vc : Val} {latitude : ℤ} {strides : Strides} {vl vt : Val} {records : List Record} {q : Share} {b o : ℕ}
-      → (x : Ran station_code.routine (vc ∷ []) (value i32 latitude vl ∷ value StridesType.the_row strides vt ∷ reads RecordType.the_row q records b o ∷ []))
+      → (x : Ran (function station_code.name station_code.code) (vc ∷ []) (value i32 latitude vl ∷ value StridesType.the_row strides vt ∷ reads RecordType.the_row q records b o ∷ []))
       → Run vc (Station (station_lent latitude strides records)) (clock_in x.value)
   placed : {vc : Val} {latitude : ℤ} {strides : Strides} {n : ℕ} {rows : Rows} {vl vt vn vr : Val}
-      → (x : Ran placing_code.routine (vc ∷ []) (value i32 latitude vl ∷ value StridesType.the_row strides vt ∷ value usize n vn ∷ value RowsType.the_row rows vr ∷ []))
+      → (x : Ran (function placing_code.name placing_code.code) (vc ∷ []) (value i32 latitude vl ∷ value StridesType.the_row strides vt ∷ value usize n vn ∷ value RowsType.the_row rows vr ∷ []))
       → Run vc (Station (station_lent latitude strides (records_of rows n))) (clock_in x.value)
   dates : {vc : Val} {year month : ℕ} {vy vm : Val}
-      → (x : Ran date_code.routine (vc ∷ []) (value u32 year vy ∷ value u32 month vm ∷ []))
+      → (x : Ran (function date_code.name date_code.code) (vc ∷ []) (value u32 year vy ∷ value u32 month vm ∷ []))
       → Run vc (Date year month) (clock_in x.value)
   heights : {vc : Val} {minute : ℕ} {vm : Val}
-      → Ran height_code.routine (vc ∷ []) (value u32 minute vm ∷ [])
+      → Ran (function height_code.name height_code.code) (vc ∷ []) (value u32 minute vm ∷ [])
       → Run vc (Height minute) vc
   serieses : {vc : Val} {start step : ℕ} {vs vt : Val} {hs : List ℤ} {b o : ℕ}
-      → Ran series_code.routine (vc ∷ []) (value u32 start vs ∷ value u32 step vt ∷ writes i64 hs b o ∷ [])
+      → Ran (function series_code.name series_code.code) (vc ∷ []) (value u32 start vs ∷ value u32 step vt ∷ writes i64 hs b o ∷ [])
       → Run vc (Series start step hs) vc
   searches : {vc : Val} {first last : ℕ} {vf vl : Val} {ms : List ℕ} {b o : ℕ} {hs : List ℤ} {b₁ o₁ : ℕ}
-      → Ran turns_code.routine (vc ∷ []) (value u32 first vf ∷ value u32 last vl ∷ writes u32 ms b o ∷ writes i64 hs b₁ o₁ ∷ [])
+      → Ran (function turns_code.name turns_code.code) (vc ∷ []) (value u32 first vf ∷ value u32 last vl ∷ writes u32 ms b o ∷ writes i64 hs b₁ o₁ ∷ [])
       → Run vc (Turns first last ms hs) vc
   years : {vc : Val} {sheet : Sheet} {vs : Val} {ss : List ℤ} {b o : ℕ} {ms : List ℕ} {b₁ o₁ : ℕ} {hs : List ℤ} {b₂ o₂ : ℕ}
-      → Ran year_code.routine (vc ∷ []) (value SheetType.the_row sheet vs ∷ writes i64 ss b o ∷ writes u32 ms b₁ o₁ ∷ writes i64 hs b₂ o₂ ∷ [])
+      → Ran (function year_code.name year_code.code) (vc ∷ []) (value SheetType.the_row sheet vs ∷ writes i64 ss b o ∷ writes u32 ms b₁ o₁ ∷ writes i64 hs b₂ o₂ ∷ [])
       → Run vc (Year sheet ss ms hs) vc
   bookings : {vc : Val} {minutes : List ℕ} {q : Share} {b o : ℕ} {hs : List ℤ} {b₁ o₁ : ℕ}
-      → Ran booking_code.routine (vc ∷ []) (reads u32 q minutes b o ∷ writes i64 hs b₁ o₁ ∷ [])
+      → Ran (function booking_code.name booking_code.code) (vc ∷ []) (reads u32 q minutes b o ∷ writes i64 hs b₁ o₁ ∷ [])
       → Run vc (Bookings minutes hs) vc
   hourlies : {vc : Val} {number : ℕ} {vn : Val} {cards : List ℕ} {b o : ℕ}
-      → Ran hourly_code.routine (vc ∷ []) (value u32 number vn ∷ writes u8 cards b o ∷ [])
+      → Ran (function hourly_code.name hourly_code.code) (vc ∷ []) (value u32 number vn ∷ writes u8 cards b o ∷ [])
       → Run vc (Hourly number cards) vc
-  hands : {vc : Val} → Ran names_code.routine (vc ∷ []) [] → Run vc Names vc
+  hands : {vc : Val} → Ran (function names_code.name names_code.code) (vc ∷ []) [] → Run vc Names vc
   -- the clock lies in memory and is lent: what lies there at the end is the clock that the call leaves
   held_loads : {vc : Val} {b o : ℕ} {file : List ℕ} {q : Share} {b₁ o₁ : ℕ}
-      → (x : Ran held_load_code.routine [] (changes ClockType.the_row vc b o ∷ reads u8 q file b₁ o₁ ∷ []))
+      → (x : Ran (function held_load_code.name held_load_code.code) [] (changes ClockType.the_row vc b o ∷ reads u8 q file b₁ o₁ ∷ []))
       → Run vc (Cards file) (clock_at x.left b o)
   held_stations : {vc : Val} {b o : ℕ} {latitude : ℤ} {strides : Strides} {vl vt : Val} {records : List Record} {q : Share} {b₁ o₁ : ℕ}
-      → (x : Ran held_station_code.routine [] (changes ClockType.the_row vc b o ∷ value i32 latitude vl ∷ value StridesType.the_row strides vt ∷ reads RecordType.the_row q records b₁ o₁ ∷ []))
+      → (x : Ran (function held_station_code.name held_station_code.code) [] (changes ClockType.the_row vc b o ∷ value i32 latitude vl ∷ value StridesType.the_row strides vt ∷ reads RecordType.the_row q records b₁ o₁ ∷ []))
       → Run vc (Station (station_lent latitude strides records)) (clock_at x.left b o)
   held_dates : {vc : Val} {b o : ℕ} {year month : ℕ} {vy vm : Val}
-      → (x : Ran held_date_code.routine [] (changes ClockType.the_row vc b o ∷ value u32 year vy ∷ value u32 month vm ∷ []))
+      → (x : Ran (function held_date_code.name held_date_code.code) [] (changes ClockType.the_row vc b o ∷ value u32 year vy ∷ value u32 month vm ∷ []))
       → Run vc (Date year month) (clock_at x.left b o)
   lent_heights : {vc : Val} {s : Share} {b o : ℕ} {minute : ℕ} {vm : Val}
-      → Ran lent_height_code.routine [] (sees ClockType.the_row s vc b o ∷ value u32 minute vm ∷ [])
+      → Ran (function lent_height_code.name lent_height_code.code) [] (sees ClockType.the_row s vc b o ∷ value u32 minute vm ∷ [])
       → Run vc (Height minute) vc
   held_heights : {vc : Val} {s : Share} {b o : ℕ} {minute : ℕ} {vm : Val}
-      → Ran held_height_code.routine [] (sees ClockType.the_row s vc b o ∷ value u32 minute vm ∷ [])
+      → Ran (function held_height_code.name held_height_code.code) [] (sees ClockType.the_row s vc b o ∷ value u32 minute vm ∷ [])
       → Run vc (Height minute) vc
   held_serieses : {vc : Val} {s : Share} {b o : ℕ} {start step : ℕ} {vs vt : Val} {hs : List ℤ} {b₁ o₁ : ℕ}
-      → Ran held_series_code.routine [] (sees ClockType.the_row s vc b o ∷ value u32 start vs ∷ value u32 step vt ∷ writes i64 hs b₁ o₁ ∷ [])
+      → Ran (function held_series_code.name held_series_code.code) [] (sees ClockType.the_row s vc b o ∷ value u32 start vs ∷ value u32 step vt ∷ writes i64 hs b₁ o₁ ∷ [])
       → Run vc (Series start step hs) vc
   held_searches : {vc : Val} {s : Share} {b o : ℕ} {first last : ℕ} {vf vl : Val} {ms : List ℕ} {b₁ o₁ : ℕ} {hs : List ℤ} {b₂ o₂ : ℕ}
-      → Ran held_turns_code.routine [] (sees ClockType.the_row s vc b o ∷ value u32 first vf ∷ value u32 last vl ∷ writes u32 ms b₁ o₁ ∷ writes i64 hs b₂ o₂ ∷ [])
+      → Ran (function held_turns_code.name held_turns_code.code) [] (sees ClockType.the_row s vc b o ∷ value u32 first vf ∷ value u32 last vl ∷ writes u32 ms b₁ o₁ ∷ writes i64 hs b₂ o₂ ∷ [])
       → Run vc (Turns first last ms hs) vc
   held_years : {vc : Val} {s : Share} {b o : ℕ} {sheet : Sheet} {vy vs vt vf vl : Val} {ss : List ℤ} {b₁ o₁ : ℕ} {ms : List ℕ} {b₂ o₂ : ℕ} {hs : List ℤ} {b₃ o₃ : ℕ}
-      → Ran held_year_code.routine [] (sees ClockType.the_row s vc b o ∷ value u32 sheet.year vy ∷ value u32 sheet.start vs ∷ value u32 sheet.step vt ∷ value u32 sheet.first vf ∷ value u32 sheet.last vl ∷ writes i64 ss b₁ o₁ ∷ writes u32 ms b₂ o₂ ∷ writes i64 hs b₃ o₃ ∷ [])
+      → Ran (function held_year_code.name held_year_code.code) [] (sees ClockType.the_row s vc b o ∷ value u32 sheet.year vy ∷ value u32 sheet.start vs ∷ value u32 sheet.step vt ∷ value u32 sheet.first vf ∷ value u32 sheet.last vl ∷ writes i64 ss b₁ o₁ ∷ writes u32 ms b₂ o₂ ∷ writes i64 hs b₃ o₃ ∷ [])
       → Run vc (Year sheet ss ms hs) vc
   lent_bookings : {vc : Val} {s : Share} {b o : ℕ} {minutes : List ℕ} {q : Share} {b₁ o₁ : ℕ} {hs : List ℤ} {b₂ o₂ : ℕ}
-      → Ran lent_booking_code.routine [] (sees ClockType.the_row s vc b o ∷ reads u32 q minutes b₁ o₁ ∷ writes i64 hs b₂ o₂ ∷ [])
+      → Ran (function lent_booking_code.name lent_booking_code.code) [] (sees ClockType.the_row s vc b o ∷ reads u32 q minutes b₁ o₁ ∷ writes i64 hs b₂ o₂ ∷ [])
       → Run vc (Bookings minutes hs) vc
   held_bookings : {vc : Val} {s : Share} {b o : ℕ} {minutes : List ℕ} {q : Share} {b₁ o₁ : ℕ} {hs : List ℤ} {b₂ o₂ : ℕ}
-      → Ran held_booking_code.routine [] (sees ClockType.the_row s vc b o ∷ reads u32 q minutes b₁ o₁ ∷ writes i64 hs b₂ o₂ ∷ [])
+      → Ran (function held_booking_code.name held_booking_code.code) [] (sees ClockType.the_row s vc b o ∷ reads u32 q minutes b₁ o₁ ∷ writes i64 hs b₂ o₂ ∷ [])
       → Run vc (Bookings minutes hs) vc
   held_hourlies : {vc : Val} {s : Share} {b o : ℕ} {number : ℕ} {vn : Val} {cards : List ℕ} {b₁ o₁ : ℕ}
-      → Ran held_hourly_code.routine [] (sees ClockType.the_row s vc b o ∷ value u32 number vn ∷ writes u8 cards b₁ o₁ ∷ [])
+      → Ran (function held_hourly_code.name held_hourly_code.code) [] (sees ClockType.the_row s vc b o ∷ value u32 number vn ∷ writes u8 cards b₁ o₁ ∷ [])
       → Run vc (Hourly number cards) vc
-  held_hands : {vc : Val} {s : Share} {b o : ℕ} → Ran held_names_code.routine [] (sees ClockType.the_row s vc b o ∷ []) → Run vc Names vc
+  held_hands : {vc : Val} {s : Share} {b o : ℕ} → Ran (function held_names_code.name held_names_code.code) [] (sees ClockType.the_row s vc b o ∷ []) → Run vc Names vc
 
 -- What a run gave is g: g is read off the value that it returned and, where it wrote to a buffer, off the memory at its end; and the buffers
 -- lie there with what is read, and the clock, where it was lent, with what it leaves.
@@ -179,31 +178,31 @@ Gives (held_hourlies {cards = cards} {b₁ = b₁} {o₁ = o₁} x) g =
     Leaves x (cards', tt) × (g ≡ carded (record { returned = held_cards_in x.value; buffer = cards' }))
 Gives (held_hands x) g = Leaves x tt × (g ≡ named (table_names_in x.value))
 
--- the routine that was run
-abbrev pub routine_of : {vc vc' : Val} {q : Request} → Run vc q vc' → Routine
-routine_of (loads x) = load_code.routine
-routine_of (stations x) = station_code.routine
-routine_of (placed x) = placing_code.routine
-routine_of (dates x) = date_code.routine
-routine_of (heights x) = height_code.routine
-routine_of (serieses x) = series_code.routine
-routine_of (searches x) = turns_code.routine
-routine_of (years x) = year_code.routine
-routine_of (bookings x) = booking_code.routine
-routine_of (hourlies x) = hourly_code.routine
-routine_of (hands x) = names_code.routine
-routine_of (held_loads x) = held_load_code.routine
-routine_of (held_stations x) = held_station_code.routine
-routine_of (held_dates x) = held_date_code.routine
-routine_of (lent_heights x) = lent_height_code.routine
-routine_of (held_heights x) = held_height_code.routine
-routine_of (held_serieses x) = held_series_code.routine
-routine_of (held_searches x) = held_turns_code.routine
-routine_of (held_years x) = held_year_code.routine
-routine_of (lent_bookings x) = lent_booking_code.routine
-routine_of (held_bookings x) = held_booking_code.routine
-routine_of (held_hourlies x) = held_hourly_code.routine
-routine_of (held_hands x) = held_names_code.routine
+-- the function that was run
+abbrev pub routine_of : {vc vc' : Val} {q : Request} → Run vc q vc' → Function
+routine_of (loads x) = (function load_code.name load_code.code)
+routine_of (stations x) = (function station_code.name station_code.code)
+routine_of (placed x) = (function placing_code.name placing_code.code)
+routine_of (dates x) = (function date_code.name date_code.code)
+routine_of (heights x) = (function height_code.name height_code.code)
+routine_of (serieses x) = (function series_code.name series_code.code)
+routine_of (searches x) = (function turns_code.name turns_code.code)
+routine_of (years x) = (function year_code.name year_code.code)
+routine_of (bookings x) = (function booking_code.name booking_code.code)
+routine_of (hourlies x) = (function hourly_code.name hourly_code.code)
+routine_of (hands x) = (function names_code.name names_code.code)
+routine_of (held_loads x) = (function held_load_code.name held_load_code.code)
+routine_of (held_stations x) = (function held_station_code.name held_station_code.code)
+routine_of (held_dates x) = (function held_date_code.name held_date_code.code)
+routine_of (lent_heights x) = (function lent_height_code.name lent_height_code.code)
+routine_of (held_heights x) = (function held_height_code.name held_height_code.code)
+routine_of (held_serieses x) = (function held_series_code.name held_series_code.code)
+routine_of (held_searches x) = (function held_turns_code.name held_turns_code.code)
+routine_of (held_years x) = (function held_year_code.name held_year_code.code)
+routine_of (lent_bookings x) = (function lent_booking_code.name lent_booking_code.code)
+routine_of (held_bookings x) = (function held_booking_code.name held_booking_code.code)
+routine_of (held_hourlies x) = (function held_hourly_code.name held_hourly_code.code)
+routine_of (held_hands x) = (function held_names_code.name held_names_code.code)
 
 -- "Each later one gets the clock as the one before it returned or left it." What is done to the memory between two calls is the caller's.
 pub data Runs : Val → List Request → Val → Type 2 where
@@ -218,7 +217,7 @@ GiveAll done (g ∷ gs) = ⊥ × Unit {1}
 GiveAll (◌then◌ x xs) [] = ⊥ × Unit {1}
 GiveAll (◌then◌ x xs) (g ∷ gs) = Gives x g × GiveAll xs gs
 
--- the routines, the first one first
-abbrev pub routines_of : {vc vc' : Val} {qs : List Request} → Runs vc qs vc' → List Routine
+-- the functions, the first one first
+abbrev pub routines_of : {vc vc' : Val} {qs : List Request} → Runs vc qs vc' → List Function
 routines_of done = []
 routines_of (◌then◌ x xs) = routine_of x ∷ routines_of xs

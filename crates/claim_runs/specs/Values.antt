@@ -2,12 +2,12 @@
 -- fields behind it; and what lies in a memory, as the machine loads it.
 -- Assumes nothing.
 use Prim.{Unit}
-use Rattle.std.specs.Prelude.{ℕ, zero, suc, ◌+◌, false, cond, List, [], ◌∷◌, eqb, ℤ, get_or, replicate}
+use Rattle.std.specs.Prelude.{ℕ, zero, suc, ◌+◌, true, false, cond, List, [], ◌∷◌, eqb, ℤ, get_or, replicate}
 use Rattle.std.proofs.Math.Option.{Option, some, none}
 use mir.Fields.{get_v}
 use mir.Mem.{byte}
 use mir.Syntax.{Width, w8, w32, w64, ty_int}
-use mir.Val.{Val, vunit, vbool, vint, vfloat, vptr, vstruct, Vals, vnil, vcons, as_int, as_bool, to_z, bytes}
+use mir.Val.{Val, vunit, vbool, vint, vfloat, vptr, vstruct, vcode, Vals, vnil, vcons, as_int, as_bool, to_z, bytes}
 use prog.Memory.{Memory, align, size, load_m}
 use denote.Memory.{raw_all, lone}
 use Rattle.std.specs.Borrow.{RattleType}
@@ -24,6 +24,7 @@ part_in k (vint w n) = vunit
 part_in k (vfloat f x) = vunit
 part_in k (vptr b o) = vunit
 part_in k (vstruct vs) = get_v vs k
+part_in k (vcode _) = vunit
 
 abbrev pub number_in : Val → ℕ
 number_in v = as_int 0 v (λ w n. n)
@@ -65,6 +66,7 @@ array_in (vint w n) = []
 array_in (vfloat f x) = []
 array_in (vptr b o) = []
 array_in (vstruct vs) = numbers_in vs
+array_in (vcode _) = []
 
 -- names: how many, and the bytes of all
 abbrev pub table_names_in : Val → List (List ℕ)
@@ -133,4 +135,4 @@ clock_at σ b o = value_at σ ClockType.the_row b o
 
 -- memory of nothing but zeros, as large as a clock
 abbrev pub zero_memory : Memory
-zero_memory = some (align ClockLaws.mir, replicate (size ClockLaws.mir) (byte 0)) ∷ []
+zero_memory = some (align ClockLaws.mir, replicate (size ClockLaws.mir) (byte 0), true) ∷ []
