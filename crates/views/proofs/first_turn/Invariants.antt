@@ -1,5 +1,4 @@
 -- `views::first_turn` is safe and ends: the turns left fall at each turn of the loop. Assumes nothing.
-use borrow.Author.Rules.{rules}
 use Prim.Native.Nat.{◌-◌}
 use Rattle.views.proofs.first_turn.Given as goal
 
