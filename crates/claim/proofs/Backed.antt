@@ -10,6 +10,7 @@ use prog.Memory.{Memory}
 use contract.Monad.{fact}
 use contract.Adequate.{Satisfies, sat_fact}
 use denote.Ref.{Bor}
+use denote.MutBor.{MutBor}
 use borrow.Fn.World.{World, w₀}
 use Rattle.refusals.specs.Outcome.{refused, outcome_of}
 use Rattle.refusals.specs.declared.Answer.{Answer}
@@ -69,6 +70,10 @@ kept P χ y = record { keeps = λ φ ψ p q x. ∥∥₁_map ((q w₀).apply w�
 -- a reference to what is lent, by what it holds
 abbrev lent : {X : Type 0} → X → Bor X
 lent x = record { ref_ptr = (0, 0); now = x }
+
+-- .. and to what is lent to be written to
+abbrev written : {X : Type 0} → X → MutBor X
+written x = record { ref_ptr = (0, 0); ghost_name = 0; now = x }
 
 -- ---- what a clock with no table says
 
@@ -154,27 +159,27 @@ height-there c minute answer p = Call.heights {r = answer} (record { bound = λ 
 series-there : (c : Clock) (start step : ℕ) (hs hs' : List ℤ) (answer : Answer) → SeriesPost c start step hs hs' (outcome_of answer)
     → Call c (Series start step hs) (wrote (record { returned = outcome_of answer; heights = hs' })) c
 series-there c start step hs hs' answer p =
-    Call.serieses {κs = ([], tt)} {before = lent hs} {r = answer} (record { bound = λ w. tt; contract = kept _ _ p })
+    Call.serieses {κs = ([], tt)} {before = written hs} {r = answer} (record { bound = λ w. tt; contract = kept _ _ p })
 
 turns-there : (c : Clock) (first last : ℕ) (ms ms' : List ℕ) (hs hs' : List ℤ) (answer : TurnsAnswer) → TurnsPost c first last ms ms' hs hs' (turns_returned answer)
     → Call c (Turns first last ms hs) (found (record { returned = turns_returned answer; minutes = ms'; heights = hs' })) c
 turns-there c first last ms ms' hs hs' answer p =
-    Call.searches {κs = ([], ([], tt))} {ms = lent ms} {hs = lent hs} {r = answer} (record { bound = λ w. tt; contract = kept _ _ p })
+    Call.searches {κs = ([], ([], tt))} {ms = written ms} {hs = written hs} {r = answer} (record { bound = λ w. tt; contract = kept _ _ p })
 
 year-there : (c : Clock) (sheet : Sheet) (ss ss' : List ℤ) (ms ms' : List ℕ) (hs hs' : List ℤ) (answer : TurnsAnswer) → YearPost c sheet ss ss' ms ms' hs hs' (turns_returned answer)
     → Call c (Year sheet ss ms hs) (filled (record { returned = turns_returned answer; series = ss'; minutes = ms'; heights = hs' })) c
 year-there c sheet ss ss' ms ms' hs hs' answer p =
-    Call.years {κs = ([], ([], ([], tt)))} {ss = lent ss} {ms = lent ms} {hs = lent hs} {r = answer} (record { bound = λ w. tt; contract = kept _ _ p })
+    Call.years {κs = ([], ([], ([], tt)))} {ss = written ss} {ms = written ms} {hs = written hs} {r = answer} (record { bound = λ w. tt; contract = kept _ _ p })
 
 bookings-there : (c : Clock) (minutes : List ℕ) (hs hs' : List ℤ) (answer : Answer) → BookingsPost c minutes hs hs' (outcome_of answer)
     → Call c (Bookings minutes hs) (wrote (record { returned = outcome_of answer; heights = hs' })) c
 bookings-there c minutes hs hs' answer p =
-    Call.bookings {κs = ([], ([], tt))} {minutes = lent minutes} {before = lent hs} {r = answer} (record { bound = λ w. tt; contract = kept _ _ p })
+    Call.bookings {κs = ([], ([], tt))} {minutes = lent minutes} {before = written hs} {r = answer} (record { bound = λ w. tt; contract = kept _ _ p })
 
 hourly-there : (c : Clock) (number : ℕ) (buffer left : List ℕ) (answer : CardsAnswer) → HourlyPost c number buffer left (cards_returned answer)
     → Call c (Hourly number buffer) (carded (record { returned = cards_returned answer; buffer = left })) c
 hourly-there c number buffer left answer p =
-    Call.hourlies {κs = ([], tt)} {before = lent buffer} {r = answer} (record { bound = λ w. tt; contract = kept _ _ p })
+    Call.hourlies {κs = ([], tt)} {before = written buffer} {r = answer} (record { bound = λ w. tt; contract = kept _ _ p })
 
 names-there : (c : Clock) (r : TableNames) → names_from r.bytes 0 r.count ≡ names_in (view c) → Call c Names (named (names_from r.bytes 0 r.count)) c
 names-there c r p = Call.hands {r = r} (record { bound = λ w. tt; contract = kept _ _ p })
@@ -182,19 +187,19 @@ names-there c r p = Call.hands {r = r} (record { bound = λ w. tt; contract = ke
 -- ---- .. with the clock lent
 
 held-new-there : (c c' : Clock) → NewPost c' → New c'
-held-new-there c c' p = New.held_news {κs = ([], tt)} {clock = lent c} (record { bound = λ w. tt; contract = kept _ _ p })
+held-new-there c c' p = New.held_news {κs = ([], tt)} {clock = written c} (record { bound = λ w. tt; contract = kept _ _ p })
 
 held-cards-there : (c c' : Clock) (file : List ℕ) (r : Verdict) → CardsPost c file (verdict_returned r) c' → Plain r → Call c (Cards file) (told (verdict_returned r)) c'
 held-cards-there c c' file r p plain =
-    Call.held_loads {κs = ([], ([], tt))} {clock = lent c} {file = lent file} {r = r} (record { bound = λ w. tt; contract = kept _ _ (p, plain) })
+    Call.held_loads {κs = ([], ([], tt))} {clock = written c} {file = lent file} {r = r} (record { bound = λ w. tt; contract = kept _ _ (p, plain) })
 
 held-station-there : (c c' : Clock) (s : station.Station) (r : Verdict) → StationPost c s (verdict_returned r) c' → Plain r → Call c (Station s) (told (verdict_returned r)) c'
 held-station-there c c' s r p plain =
-    Call.held_stations {κs = ([], ([], tt))} {clock = lent c} {records = lent s.records} {r = r} (record { bound = λ w. tt; contract = kept _ _ (p, plain) })
+    Call.held_stations {κs = ([], ([], tt))} {clock = written c} {records = lent s.records} {r = r} (record { bound = λ w. tt; contract = kept _ _ (p, plain) })
 
 held-date-there : (c c' : Clock) (year month : ℕ) (r : Verdict) → DatePost c year month (verdict_returned r) c' → Plain r → Call c (Date year month) (told (verdict_returned r)) c'
 held-date-there c c' year month r p plain =
-    Call.held_dates {κs = ([], tt)} {clock = lent c} {r = r} (record { bound = λ w. tt; contract = kept _ _ (p, plain) })
+    Call.held_dates {κs = ([], tt)} {clock = written c} {r = r} (record { bound = λ w. tt; contract = kept _ _ (p, plain) })
 
 lent-height-there : (c : Clock) (minute : ℕ) (answer : HeightAnswer) → HeightPost c minute (height_returned answer) → Call c (Height minute) (predicted (height_returned answer)) c
 lent-height-there c minute answer p = Call.lent_heights {κs = ([], tt)} {clock = lent c} {r = answer} (record { bound = λ w. tt; contract = kept _ _ p })
@@ -206,32 +211,32 @@ held-height-there c minute r p plain =
 held-series-there : (c : Clock) (start step : ℕ) (hs hs' : List ℤ) (r : Verdict) → SeriesPost c start step hs hs' (verdict_returned r) → Plain r
     → Call c (Series start step hs) (wrote (record { returned = verdict_returned r; heights = hs' })) c
 held-series-there c start step hs hs' r p plain =
-    Call.held_serieses {κs = ([], ([], tt))} {clock = lent c} {before = lent hs} {r = r} (record { bound = λ w. tt; contract = kept _ _ (p, plain) })
+    Call.held_serieses {κs = ([], ([], tt))} {clock = lent c} {before = written hs} {r = r} (record { bound = λ w. tt; contract = kept _ _ (p, plain) })
 
 held-turns-there : (c : Clock) (first last : ℕ) (ms ms' : List ℕ) (hs hs' : List ℤ) (r : Turnings) → TurnsPost c first last ms ms' hs hs' (turnings_returned r) → PlainTurnings r
     → Call c (Turns first last ms hs) (found (record { returned = turnings_returned r; minutes = ms'; heights = hs' })) c
 held-turns-there c first last ms ms' hs hs' r p plain =
-    Call.held_searches {κs = ([], ([], ([], tt)))} {clock = lent c} {ms = lent ms} {hs = lent hs} {r = r} (record { bound = λ w. tt; contract = kept _ _ (p, plain) })
+    Call.held_searches {κs = ([], ([], ([], tt)))} {clock = lent c} {ms = written ms} {hs = written hs} {r = r} (record { bound = λ w. tt; contract = kept _ _ (p, plain) })
 
 held-year-there : (c : Clock) (sheet : Sheet) (ss ss' : List ℤ) (ms ms' : List ℕ) (hs hs' : List ℤ) (r : Turnings) → YearPost c sheet ss ss' ms ms' hs hs' (turnings_returned r) → PlainTurnings r
     → Call c (Year sheet ss ms hs) (filled (record { returned = turnings_returned r; series = ss'; minutes = ms'; heights = hs' })) c
 held-year-there c sheet ss ss' ms ms' hs hs' r p plain =
-    Call.held_years {κs = ([], ([], ([], ([], tt))))} {clock = lent c} {sheet = sheet} {ss = lent ss} {ms = lent ms} {hs = lent hs} {r = r} (record { bound = λ w. tt; contract = kept _ _ (p, plain) })
+    Call.held_years {κs = ([], ([], ([], ([], tt))))} {clock = lent c} {sheet = sheet} {ss = written ss} {ms = written ms} {hs = written hs} {r = r} (record { bound = λ w. tt; contract = kept _ _ (p, plain) })
 
 lent-bookings-there : (c : Clock) (minutes : List ℕ) (hs hs' : List ℤ) (answer : Answer) → BookingsPost c minutes hs hs' (outcome_of answer)
     → Call c (Bookings minutes hs) (wrote (record { returned = outcome_of answer; heights = hs' })) c
 lent-bookings-there c minutes hs hs' answer p =
-    Call.lent_bookings {κs = ([], ([], ([], tt)))} {clock = lent c} {minutes = lent minutes} {before = lent hs} {r = answer} (record { bound = λ w. tt; contract = kept _ _ p })
+    Call.lent_bookings {κs = ([], ([], ([], tt)))} {clock = lent c} {minutes = lent minutes} {before = written hs} {r = answer} (record { bound = λ w. tt; contract = kept _ _ p })
 
 held-bookings-there : (c : Clock) (minutes : List ℕ) (hs hs' : List ℤ) (r : Verdict) → BookingsPost c minutes hs hs' (verdict_returned r) → Plain r
     → Call c (Bookings minutes hs) (wrote (record { returned = verdict_returned r; heights = hs' })) c
 held-bookings-there c minutes hs hs' r p plain =
-    Call.held_bookings {κs = ([], ([], ([], tt)))} {clock = lent c} {minutes = lent minutes} {before = lent hs} {r = r} (record { bound = λ w. tt; contract = kept _ _ (p, plain) })
+    Call.held_bookings {κs = ([], ([], ([], tt)))} {clock = lent c} {minutes = lent minutes} {before = written hs} {r = r} (record { bound = λ w. tt; contract = kept _ _ (p, plain) })
 
 held-hourly-there : (c : Clock) (number : ℕ) (buffer left : List ℕ) (r : HeldCards) → HourlyPost c number buffer left (cards_told r) → PlainCards r
     → Call c (Hourly number buffer) (carded (record { returned = cards_told r; buffer = left })) c
 held-hourly-there c number buffer left r p plain =
-    Call.held_hourlies {κs = ([], ([], tt))} {clock = lent c} {before = lent buffer} {r = r} (record { bound = λ w. tt; contract = kept _ _ (p, plain) })
+    Call.held_hourlies {κs = ([], ([], tt))} {clock = lent c} {before = written buffer} {r = r} (record { bound = λ w. tt; contract = kept _ _ (p, plain) })
 
 held-names-there : (c : Clock) (r : TableNames) → names_from r.bytes 0 r.count ≡ names_in (view c) → Call c Names (named (names_from r.bytes 0 r.count)) c
 held-names-there c r p = Call.held_hands {κs = ([], tt)} {clock = lent c} {r = r} (record { bound = λ w. tt; contract = kept _ _ p })

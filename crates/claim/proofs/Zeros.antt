@@ -26,12 +26,12 @@ use Rattle.table.proofs.Table.TheLaws as TableLaws
 use Rattle.claim.specs.Zeroed.{zeroed_table, zeroed_strides, zeroed_station, zeroed, zero_of, ZerosAreZeroed}
 
 -- an array of one element that is written again and again
-all_are : (R : RattleType) (x : R.Denot) (v : Val) → Is R x (v ∷ []) → (n : ℕ) → shadow (each R.Denot R.own (map (λ (y : R.Denot). y) (replicate n x)) (replicate n v))
+all_are : (R : RattleType) (x : R.Denot) (v : Val) → Is R x (v ∷ []) → (n : ℕ) → shadow (each R.Denot R.own_val (replicate n x) (replicate n v))
 all_are R x v is zero = tt
 all_are R x v is (suc n) = (is, all_are R x v is n)
 
-array-is : (R : RattleType) (x : R.Denot) (v : Val) → Is R x (v ∷ []) → (n : ℕ) → Is (Array R n) (map (λ (y : R.Denot). y) (replicate n x)) (array_val (replicate n v) ∷ [])
-array-is R x v is n = (replicate n v, ((refl, length-map (replicate n x) (λ (y : R.Denot). y) ∙ length-replicate n x), all_are R x v is n))
+array-is : (R : RattleType) (x : R.Denot) (v : Val) → Is R x (v ∷ []) → (n : ℕ) → Is (Array R n) (replicate n x) (array_val (replicate n v) ∷ [])
+array-is R x v is n = (replicate n v, ((refl, length-replicate n x), all_are R x v is n))
 
 -- the machine's values of a number 0 and of an array of zeros, each so wide
 abbrev nought : Width → List Val
@@ -40,13 +40,13 @@ nought w = vint w 0 ∷ []
 abbrev noughts : Width → ℕ → List Val
 noughts w n = array_val (replicate n (vint w 0)) ∷ []
 
-uints-are : (w : Width) → T (ltb 0 (2 ^ bits w)) → (n : ℕ) → Is (Array (UInt w) n) (map (λ (x : ℕ). x) (replicate n 0)) (noughts w n)
+uints-are : (w : Width) → T (ltb 0 (2 ^ bits w)) → (n : ℕ) → Is (Array (UInt w) n) (replicate n 0) (noughts w n)
 uints-are w h = array-is (UInt w) 0 (vint w 0) (refl, ltb→lt 0 (2 ^ bits w) h)
 
-i8s-are : (n : ℕ) → Is (Array (SInt w8) n) (map (λ (x : ℤ). x) (replicate n (pos 0))) (noughts w8 n)
+i8s-are : (n : ℕ) → Is (Array (SInt w8) n) (replicate n (pos 0)) (noughts w8 n)
 i8s-are = array-is (SInt w8) (pos 0) (vint w8 0) (refl, lit< tt)
 
-i32s-are : (n : ℕ) → Is (Array (SInt w32) n) (map (λ (x : ℤ). x) (replicate n (pos 0))) (noughts w32 n)
+i32s-are : (n : ℕ) → Is (Array (SInt w32) n) (replicate n (pos 0)) (noughts w32 n)
 i32s-are = array-is (SInt w32) (pos 0) (vint w32 0) (refl, lit< tt)
 
 -- ---- a station, a table and a clock, field by field

@@ -9,7 +9,7 @@ use prog.Routine.{Routine}
 use types.Logic.{Logic}
 use contract.Monad.{Fun, fact}
 use contract.Lifetimes.{Lfts}
-use Rattle.std.specs.Borrow.{Bor}
+use Rattle.std.specs.Borrow.{Bor, MutBor}
 use denote.Triple.Clauses.{Ended, Clauses, ClausesAt, Lasts, at_exit}
 use borrow.Fn.World.{World, ArgsD, ResD}
 use Rattle.refusals.specs.Outcome.{outcome_of}
@@ -85,8 +85,8 @@ pub record Once (T : Ended) (C : ClausesOf T) (κs : Lfts T.signature.lifetimes)
 
 -- "a clock with no table, station or month": as `new` returns it, as it is left behind a reference, or as memory that is all zeros holds it
 pub data New : Clock → Type 2 where
-  news : {r : Clock} → Once new.ended (λ M. new.clauses) tt tt r tt → New r
-  held_news : {κs : Lfts 1} {clock : Bor Clock} {left : Clock} → Once held_new.ended (λ M. held_new.clauses) κs (clock, tt) tt (left, tt) → New left
+  news : {r : Clock} → Once new.ended (λ M 𝓤. new.clauses) tt tt r tt → New r
+  held_news : {κs : Lfts 1} {clock : MutBor Clock} {left : Clock} → Once held_new.ended (λ M 𝓤. held_new.clauses) κs (clock, tt) tt (left, tt) → New left
   zeros : New zeroed
 
 -- One call: the clock that it gets, the call with all that is lent to it, what it gives, and the clock that it leaves. (Heights, series,
@@ -94,75 +94,75 @@ pub data New : Clock → Type 2 where
 -- they got.)
 pub data Call : Clock → Request → Gave → Clock → Type 2 where
   loads : {κs : Lfts 1} {c : Clock} {file : Bor (List ℕ)} {r : After}
-      → Once load.ended (λ M. load.clauses) κs (c, (file, tt)) r (tt, (tt, tt))
+      → Once load.ended (λ M 𝓤. load.clauses) κs (c, (file, tt)) r (tt, (tt, tt))
       → Call c (Cards file.now) (told (outcome_of r.answer)) r.clock
   -- a station's records are lent as a row of records, `stations`, or taken apart into plain arrays, `placed`
   stations : {κs : Lfts 1} {c : Clock} {latitude : ℤ} {strides : Strides} {records : Bor (List Record)} {r : After}
-      → Once station.ended (λ M. station.clauses) κs (c, (latitude, (strides, (records, tt)))) r (tt, (tt, (tt, (tt, tt))))
+      → Once station.ended (λ M 𝓤. station.clauses) κs (c, (latitude, (strides, (records, tt)))) r (tt, (tt, (tt, (tt, tt))))
       → Call c (Station (station_lent latitude strides records.now)) (told (outcome_of r.answer)) r.clock
   placed : {c : Clock} {latitude : ℤ} {strides : Strides} {n : ℕ} {rows : Rows} {r : After}
-      → Once placing.ended (λ M. placing.clauses) tt (c, (latitude, (strides, (n, (rows, tt))))) r (tt, (tt, (tt, (tt, (tt, tt)))))
+      → Once placing.ended (λ M 𝓤. placing.clauses) tt (c, (latitude, (strides, (n, (rows, tt))))) r (tt, (tt, (tt, (tt, (tt, tt)))))
       → Call c (Station (station_lent latitude strides (records_of rows n))) (told (outcome_of r.answer)) r.clock
   dates : {c : Clock} {year month : ℕ} {r : After}
-      → Once date.ended (λ M. date.clauses) tt (c, (year, (month, tt))) r (tt, (tt, (tt, tt)))
+      → Once date.ended (λ M 𝓤. date.clauses) tt (c, (year, (month, tt))) r (tt, (tt, (tt, tt)))
       → Call c (Date year month) (told (outcome_of r.answer)) r.clock
   heights : {c : Clock} {minute : ℕ} {r : HeightAnswer}
-      → Once height.ended (λ M. height.clauses) tt (c, (minute, tt)) r (tt, (tt, tt))
+      → Once height.ended (λ M 𝓤. height.clauses) tt (c, (minute, tt)) r (tt, (tt, tt))
       → Call c (Height minute) (predicted (height_returned r)) c
-  serieses : {κs : Lfts 1} {c : Clock} {start step : ℕ} {before : Bor (List ℤ)} {after : List ℤ} {r : Answer}
-      → Once series.ended (λ M. series.clauses) κs (c, (start, (step, (before, tt)))) r (tt, (tt, (tt, (after, tt))))
+  serieses : {κs : Lfts 1} {c : Clock} {start step : ℕ} {before : MutBor (List ℤ)} {after : List ℤ} {r : Answer}
+      → Once series.ended (λ M 𝓤. series.clauses) κs (c, (start, (step, (before, tt)))) r (tt, (tt, (tt, (after, tt))))
       → Call c (Series start step before.now) (wrote (record { returned = outcome_of r; heights = after })) c
-  searches : {κs : Lfts 2} {c : Clock} {first last : ℕ} {ms : Bor (List ℕ)} {hs : Bor (List ℤ)} {ms' : List ℕ} {hs' : List ℤ} {r : TurnsAnswer}
-      → Once turns.ended (λ M. turns.clauses) κs (c, (first, (last, (ms, (hs, tt))))) r (tt, (tt, (tt, (ms', (hs', tt)))))
+  searches : {κs : Lfts 2} {c : Clock} {first last : ℕ} {ms : MutBor (List ℕ)} {hs : MutBor (List ℤ)} {ms' : List ℕ} {hs' : List ℤ} {r : TurnsAnswer}
+      → Once turns.ended (λ M 𝓤. turns.clauses) κs (c, (first, (last, (ms, (hs, tt))))) r (tt, (tt, (tt, (ms', (hs', tt)))))
       → Call c (Turns first last ms.now hs.now) (found (record { returned = turns_returned r; minutes = ms'; heights = hs' })) c
-  years : {κs : Lfts 3} {c : Clock} {sheet : Sheet} {ss : Bor (List ℤ)} {ms : Bor (List ℕ)} {hs : Bor (List ℤ)} {ss' : List ℤ} {ms' : List ℕ} {hs' : List ℤ} {r : TurnsAnswer}
-      → Once year.ended (λ M. year.clauses) κs (c, (sheet, (ss, (ms, (hs, tt))))) r (tt, (tt, (ss', (ms', (hs', tt)))))
+  years : {κs : Lfts 3} {c : Clock} {sheet : Sheet} {ss : MutBor (List ℤ)} {ms : MutBor (List ℕ)} {hs : MutBor (List ℤ)} {ss' : List ℤ} {ms' : List ℕ} {hs' : List ℤ} {r : TurnsAnswer}
+      → Once year.ended (λ M 𝓤. year.clauses) κs (c, (sheet, (ss, (ms, (hs, tt))))) r (tt, (tt, (ss', (ms', (hs', tt)))))
       → Call c (Year sheet ss.now ms.now hs.now) (filled (record { returned = turns_returned r; series = ss'; minutes = ms'; heights = hs' })) c
-  bookings : {κs : Lfts 2} {c : Clock} {minutes : Bor (List ℕ)} {before : Bor (List ℤ)} {after : List ℤ} {r : Answer}
-      → Once booking.ended (λ M. booking.clauses) κs (c, (minutes, (before, tt))) r (tt, (tt, (after, tt)))
+  bookings : {κs : Lfts 2} {c : Clock} {minutes : Bor (List ℕ)} {before : MutBor (List ℤ)} {after : List ℤ} {r : Answer}
+      → Once booking.ended (λ M 𝓤. booking.clauses) κs (c, (minutes, (before, tt))) r (tt, (tt, (after, tt)))
       → Call c (Bookings minutes.now before.now) (wrote (record { returned = outcome_of r; heights = after })) c
-  hourlies : {κs : Lfts 1} {c : Clock} {number : ℕ} {before : Bor (List ℕ)} {after : List ℕ} {r : CardsAnswer}
-      → Once hourly.ended (λ M. hourly.clauses) κs (c, (number, (before, tt))) r (tt, (tt, (after, tt)))
+  hourlies : {κs : Lfts 1} {c : Clock} {number : ℕ} {before : MutBor (List ℕ)} {after : List ℕ} {r : CardsAnswer}
+      → Once hourly.ended (λ M 𝓤. hourly.clauses) κs (c, (number, (before, tt))) r (tt, (tt, (after, tt)))
       → Call c (Hourly number before.now) (carded (record { returned = cards_returned r; buffer = after })) c
   hands : {c : Clock} {r : TableNames}
-      → Once names.ended (λ M. names.clauses) tt (c, tt) r (tt, tt)
+      → Once names.ended (λ M 𝓤. names.clauses) tt (c, tt) r (tt, tt)
       → Call c Names (named (names_from r.bytes 0 r.count)) c
   -- the clock is lent: the call gets what is behind the reference, and leaves what is behind it at the end
-  held_loads : {κs : Lfts 2} {clock : Bor Clock} {file : Bor (List ℕ)} {r : Verdict} {left : Clock}
-      → Once held_load.ended (λ M. held_load.clauses) κs (clock, (file, tt)) r (left, (tt, tt))
+  held_loads : {κs : Lfts 2} {clock : MutBor Clock} {file : Bor (List ℕ)} {r : Verdict} {left : Clock}
+      → Once held_load.ended (λ M 𝓤. held_load.clauses) κs (clock, (file, tt)) r (left, (tt, tt))
       → Call clock.now (Cards file.now) (told (verdict_returned r)) left
-  held_stations : {κs : Lfts 2} {clock : Bor Clock} {latitude : ℤ} {strides : Strides} {records : Bor (List Record)} {r : Verdict} {left : Clock}
-      → Once held_station.ended (λ M. held_station.clauses) κs (clock, (latitude, (strides, (records, tt)))) r (left, (tt, (tt, (tt, tt))))
+  held_stations : {κs : Lfts 2} {clock : MutBor Clock} {latitude : ℤ} {strides : Strides} {records : Bor (List Record)} {r : Verdict} {left : Clock}
+      → Once held_station.ended (λ M 𝓤. held_station.clauses) κs (clock, (latitude, (strides, (records, tt)))) r (left, (tt, (tt, (tt, tt))))
       → Call clock.now (Station (station_lent latitude strides records.now)) (told (verdict_returned r)) left
-  held_dates : {κs : Lfts 1} {clock : Bor Clock} {year month : ℕ} {r : Verdict} {left : Clock}
-      → Once held_date.ended (λ M. held_date.clauses) κs (clock, (year, (month, tt))) r (left, (tt, (tt, tt)))
+  held_dates : {κs : Lfts 1} {clock : MutBor Clock} {year month : ℕ} {r : Verdict} {left : Clock}
+      → Once held_date.ended (λ M 𝓤. held_date.clauses) κs (clock, (year, (month, tt))) r (left, (tt, (tt, tt)))
       → Call clock.now (Date year month) (told (verdict_returned r)) left
   lent_heights : {κs : Lfts 1} {clock : Bor Clock} {minute : ℕ} {r : HeightAnswer}
-      → Once height_lent.ended (λ M. height_lent.clauses) κs (clock, (minute, tt)) r (tt, (tt, tt))
+      → Once height_lent.ended (λ M 𝓤. height_lent.clauses) κs (clock, (minute, tt)) r (tt, (tt, tt))
       → Call clock.now (Height minute) (predicted (height_returned r)) clock.now
   held_heights : {κs : Lfts 1} {clock : Bor Clock} {minute : ℕ} {r : Reading}
-      → Once held_height.ended (λ M. held_height.clauses) κs (clock, (minute, tt)) r (tt, (tt, tt))
+      → Once held_height.ended (λ M 𝓤. held_height.clauses) κs (clock, (minute, tt)) r (tt, (tt, tt))
       → Call clock.now (Height minute) (predicted (reading_returned r)) clock.now
-  held_serieses : {κs : Lfts 2} {clock : Bor Clock} {start step : ℕ} {before : Bor (List ℤ)} {after : List ℤ} {r : Verdict}
-      → Once held_series.ended (λ M. held_series.clauses) κs (clock, (start, (step, (before, tt)))) r (tt, (tt, (tt, (after, tt))))
+  held_serieses : {κs : Lfts 2} {clock : Bor Clock} {start step : ℕ} {before : MutBor (List ℤ)} {after : List ℤ} {r : Verdict}
+      → Once held_series.ended (λ M 𝓤. held_series.clauses) κs (clock, (start, (step, (before, tt)))) r (tt, (tt, (tt, (after, tt))))
       → Call clock.now (Series start step before.now) (wrote (record { returned = verdict_returned r; heights = after })) clock.now
-  held_searches : {κs : Lfts 3} {clock : Bor Clock} {first last : ℕ} {ms : Bor (List ℕ)} {hs : Bor (List ℤ)} {ms' : List ℕ} {hs' : List ℤ} {r : Turnings}
-      → Once held_turns.ended (λ M. held_turns.clauses) κs (clock, (first, (last, (ms, (hs, tt))))) r (tt, (tt, (tt, (ms', (hs', tt)))))
+  held_searches : {κs : Lfts 3} {clock : Bor Clock} {first last : ℕ} {ms : MutBor (List ℕ)} {hs : MutBor (List ℤ)} {ms' : List ℕ} {hs' : List ℤ} {r : Turnings}
+      → Once held_turns.ended (λ M 𝓤. held_turns.clauses) κs (clock, (first, (last, (ms, (hs, tt))))) r (tt, (tt, (tt, (ms', (hs', tt)))))
       → Call clock.now (Turns first last ms.now hs.now) (found (record { returned = turnings_returned r; minutes = ms'; heights = hs' })) clock.now
-  held_years : {κs : Lfts 4} {clock : Bor Clock} {sheet : Sheet} {ss : Bor (List ℤ)} {ms : Bor (List ℕ)} {hs : Bor (List ℤ)} {ss' : List ℤ} {ms' : List ℕ} {hs' : List ℤ} {r : Turnings}
-      → Once held_year.ended (λ M. held_year.clauses) κs (clock, (sheet.year, (sheet.start, (sheet.step, (sheet.first, (sheet.last, (ss, (ms, (hs, tt))))))))) r (tt, (tt, (tt, (tt, (tt, (tt, (ss', (ms', (hs', tt)))))))))
+  held_years : {κs : Lfts 4} {clock : Bor Clock} {sheet : Sheet} {ss : MutBor (List ℤ)} {ms : MutBor (List ℕ)} {hs : MutBor (List ℤ)} {ss' : List ℤ} {ms' : List ℕ} {hs' : List ℤ} {r : Turnings}
+      → Once held_year.ended (λ M 𝓤. held_year.clauses) κs (clock, (sheet.year, (sheet.start, (sheet.step, (sheet.first, (sheet.last, (ss, (ms, (hs, tt))))))))) r (tt, (tt, (tt, (tt, (tt, (tt, (ss', (ms', (hs', tt)))))))))
       → Call clock.now (Year sheet ss.now ms.now hs.now) (filled (record { returned = turnings_returned r; series = ss'; minutes = ms'; heights = hs' })) clock.now
-  lent_bookings : {κs : Lfts 3} {clock : Bor Clock} {minutes : Bor (List ℕ)} {before : Bor (List ℤ)} {after : List ℤ} {r : Answer}
-      → Once booking_lent.ended (λ M. booking_lent.clauses) κs (clock, (minutes, (before, tt))) r (tt, (tt, (after, tt)))
+  lent_bookings : {κs : Lfts 3} {clock : Bor Clock} {minutes : Bor (List ℕ)} {before : MutBor (List ℤ)} {after : List ℤ} {r : Answer}
+      → Once booking_lent.ended (λ M 𝓤. booking_lent.clauses) κs (clock, (minutes, (before, tt))) r (tt, (tt, (after, tt)))
       → Call clock.now (Bookings minutes.now before.now) (wrote (record { returned = outcome_of r; heights = after })) clock.now
-  held_bookings : {κs : Lfts 3} {clock : Bor Clock} {minutes : Bor (List ℕ)} {before : Bor (List ℤ)} {after : List ℤ} {r : Verdict}
-      → Once held_booking.ended (λ M. held_booking.clauses) κs (clock, (minutes, (before, tt))) r (tt, (tt, (after, tt)))
+  held_bookings : {κs : Lfts 3} {clock : Bor Clock} {minutes : Bor (List ℕ)} {before : MutBor (List ℤ)} {after : List ℤ} {r : Verdict}
+      → Once held_booking.ended (λ M 𝓤. held_booking.clauses) κs (clock, (minutes, (before, tt))) r (tt, (tt, (after, tt)))
       → Call clock.now (Bookings minutes.now before.now) (wrote (record { returned = verdict_returned r; heights = after })) clock.now
-  held_hourlies : {κs : Lfts 2} {clock : Bor Clock} {number : ℕ} {before : Bor (List ℕ)} {after : List ℕ} {r : HeldCards}
-      → Once held_hourly.ended (λ M. held_hourly.clauses) κs (clock, (number, (before, tt))) r (tt, (tt, (after, tt)))
+  held_hourlies : {κs : Lfts 2} {clock : Bor Clock} {number : ℕ} {before : MutBor (List ℕ)} {after : List ℕ} {r : HeldCards}
+      → Once held_hourly.ended (λ M 𝓤. held_hourly.clauses) κs (clock, (number, (before, tt))) r (tt, (tt, (after, tt)))
       → Call clock.now (Hourly number before.now) (carded (record { returned = cards_told r; buffer = after })) clock.now
   held_hands : {κs : Lfts 1} {clock : Bor Clock} {r : TableNames}
-      → Once held_names.ended (λ M. held_names.clauses) κs (clock, tt) r (tt, tt)
+      → Once held_names.ended (λ M 𝓤. held_names.clauses) κs (clock, tt) r (tt, tt)
       → Call clock.now Names (named (names_from r.bytes 0 r.count)) clock.now
 
 -- "in any number and order, refused ones included"; "Each later one gets the clock as the one before it returned or left it"

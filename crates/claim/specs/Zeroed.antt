@@ -2,7 +2,7 @@
 -- clock's type that has nothing but zeros in it stands for this clock.)
 -- Assumes nothing.
 use Rattle.std.specs.Prelude.{ℕ, ◌*◌, false, List, [], ◌∷◌, replicate, ℤ, pos}
-use mir.Syntax.{Ty, ty_int, ty_bool, ty_float, ty_ptr, ty_ref, ty_array, ty_unit, ty_struct, ty_enum, ty_named, Tys, tnil, tcons}
+use mir.Syntax.{Ty, ty_int, ty_bool, ty_float, ty_ptr, ty_ref, ty_array, ty_unit, ty_struct, ty_enum, ty_named, ty_param, ty_const, ty_array_p, Tys, tnil, tcons}
 use mir.Val.{Val, vunit, vbool, vint, vstruct, Vals, vnil, vcons, of_list}
 use denote.Laws.{Is}
 use Rattle.limits.specs.Limits.{most_frequencies, most_mains, most_satellites, most_shallows, most_records}
@@ -77,7 +77,10 @@ abbrev mutual
   zero_of (ty_ref a m τ) = vunit
   zero_of ty_unit = vunit
   zero_of (ty_enum name τss) = vunit
-  zero_of (ty_named head) = vunit
+  zero_of (ty_named head arguments) = vunit
+  zero_of (ty_param _) = vunit
+  zero_of (ty_const _) = vunit
+  zero_of (ty_array_p _ _) = vunit
 
   zeros_of : Tys → Vals
   zeros_of tnil = vnil

@@ -316,11 +316,11 @@ all_once (x then xs) (g ∷ gs) = ×_prop (gives-once x g) (all_once xs gs)
 new-holds : {vc : Val} → Started vc → ∥ Holds vc nothing ∥₁
 unfolding new-takes held-new-takes
 new-holds (returned x) =
-    ∥∥₁_elim (every-comes new.ended (λ M. new.clauses) [] tt new-takes new_code.routine (λ M. new_met.met) tt (top w₀.𝓤 (emp w₀.𝓤)) tt x.before x.rest x.lent x.routine x.below x.value x.left x.run) ∥∥₁_prop (λ k.
+    ∥∥₁_elim (every-comes new.ended (λ M 𝓤. new.clauses) [] tt new-takes new_code.routine (λ M. new_met.met) tt (top w₀.𝓤 (emp w₀.𝓤)) tt x.before x.rest x.lent x.routine x.below x.value x.left x.run) ∥∥₁_prop (λ k.
     ∥∥₁_map (new-agrees (call.news k.once)) (λ a. record { clock = k.result; is = k.is; agrees = a }))
 new-holds (left {vc = vc} {b = b} {o = o} c is x) =
     let hs : List Handed = changes ClockType.the_row vc b o ∷ [] in
-    ∥∥₁_elim (every-comes held_new.ended (λ M. held_new.clauses) hs (clock-means c vc is, tt) (held-new-takes c vc is b o) held_new_code.routine (λ M. held_new_met.met) (clock-makes, tt) (top w₀.𝓤 (emp w₀.𝓤)) tt
+    ∥∥₁_elim (every-comes held_new.ended (λ M 𝓤. held_new.clauses) hs (clock-means c vc is, tt) (held-new-takes c vc is b o) held_new_code.routine (λ M. held_new_met.met) (clock-makes, tt) (top w₀.𝓤 (emp w₀.𝓤)) tt
     x.before x.rest x.lent x.routine x.below x.value x.left x.run) ∥∥₁_prop (λ k.
     ∥∥₁_elim (clock-left x tt (ClockLaws.lowered k.last.0) k.leaves) ∥∥₁_prop (λ e.
     ∥∥₁_map (new-agrees (call.held_news k.once)) (λ a. record { clock = k.last.0; is = subst (λ (v : Val). Is ClockType.the_row k.last.0 (v ∷ [])) e k.stand.0; agrees = a })))
@@ -334,8 +334,8 @@ pub always-ends : AlwaysEnds
 always-ends =
     record {
       held_new = λ c vc is b o fit σ F s.
-          ∥∥₁_map (comes held_new.ended (λ M. held_new.clauses) (changes ClockType.the_row vc b o ∷ []) (clock-means c vc is, tt) (held-new-takes c vc is b o) held_new_code.routine (λ M. held_new_met.met) (clock-makes, tt)
+          ∥∥₁_map (comes held_new.ended (λ M 𝓤. held_new.clauses) (changes ClockType.the_row vc b o ∷ []) (clock-means c vc is, tt) (held-new-takes c vc is b o) held_new_code.routine (λ M. held_new_met.met) (clock-makes, tt)
           (top w₀.𝓤 (emp w₀.𝓤)) tt σ F s) (λ k. (k.0, k.1, k.2));
-      new = λ fit σ F s. ∥∥₁_map (comes new.ended (λ M. new.clauses) [] tt new-takes new_code.routine (λ M. new_met.met) tt (top w₀.𝓤 (emp w₀.𝓤)) tt σ F s) (λ k. (k.0, k.1, k.2));
+      new = λ fit σ F s. ∥∥₁_map (comes new.ended (λ M 𝓤. new.clauses) [] tt new-takes new_code.routine (λ M. new_met.met) tt (top w₀.𝓤 (emp w₀.𝓤)) tt σ F s) (λ k. (k.0, k.1, k.2));
       then = λ vc vc' qs started xs. ∥∥₁_elim (new-holds started) ∥∥₁_prop (λ h. ∥∥₁_map (runs-give nothing h xs) (λ k. every-call-ends (last_after nothing qs) k.1));
     }

@@ -149,12 +149,12 @@ pub record Callable (c : Clock) (f : Routine) (hs : List Handed) : Type 2 where
 
 -- what `new` asks: nothing, and so the one that is lent a clock
 abbrev pub new-asks : Assertion
-new-asks = (clauses_at new.ended (λ M. new.clauses) tt tt w₀).requires tt
+new-asks = (clauses_at new.ended (λ M 𝓤. new.clauses) tt tt w₀).requires tt
 
 abbrev pub held-new-asks : Clock → ℕ → ℕ → Assertion
-held-new-asks c b o = (clauses_at held_new.ended (λ M. held_new.clauses) (0 ∷ [], tt) (lent b o 0 c, tt) w₀).requires tt
+held-new-asks c b o = (clauses_at held_new.ended (λ M 𝓤. held_new.clauses) (0 ∷ [], tt) (lent b o 0 c, tt) w₀).requires tt
 
-unfoldable pub new-takes : Takes new.ended (λ M. new.clauses) [] tt new-asks
+unfoldable pub new-takes : Takes new.ended (λ M 𝓤. new.clauses) [] tt new-asks
 new-takes = record { enters = λ ns. ((tt, tt, tt, tt, tt), (λ w. tt), refl, refl, refl); writes = λ ns ws. (tt, refl) }
 
 module _ (c : Clock) (vc : Val) where
@@ -299,7 +299,7 @@ module _ (c : Clock) (vc : Val) (is : Is ClockType.the_row c (vc ∷ [])) where
   abbrev pub clock-means : Means ClockType.the_row vc
   clock-means = record { it = c; is = is; lowers = ClockLaws.lowers }
 
-  unfoldable pub held-new-takes : (b o : ℕ) → Takes held_new.ended (λ M. held_new.clauses) (changes ClockType.the_row vc b o ∷ []) (clock-means, tt) (held-new-asks c b o)
+  unfoldable pub held-new-takes : (b o : ℕ) → Takes held_new.ended (λ M 𝓤. held_new.clauses) (changes ClockType.the_row vc b o ∷ []) (clock-means, tt) (held-new-asks c b o)
   held-new-takes b o =
       let all : List Handed = changes ClockType.the_row vc b o ∷ [] in
       record { enters = λ ns. ((lifetimes all ns, wholes all, tt, denotes 0 all (clock-means, tt) ns, values_of 0 all ns), (λ w. tt), refl, refl, refl); writes = λ ns ws. ((ws.0, tt), refl) }

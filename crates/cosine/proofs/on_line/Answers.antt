@@ -21,25 +21,25 @@ overflow_cast-d c =
 pub overflow_sub-result : goal.overflow_sub-result
 overflow_sub-result c =
     let l : Falling step c.args.i c.args.r (get_or c.args.table.now c.args.i 0) (get_or c.args.table.now (c.args.i + 1) 0) =
-        falling-line passed (lit< tt) (omega arith) c.requires.i_bound.1 (c.requires.table.each c.args.i (omega arith)) (c.requires.table.each (c.args.i + 1) (omega arith)) in
+    falling-line passed (lit< tt) (omega arith) c.requires.i_bound.1 (c.requires.table.each c.args.i (omega arith)) (c.requires.table.each (c.args.i + 1) (omega arith)) in
     l.falls
 
 pub overflow_mul-result : goal.overflow_mul-result
 overflow_mul-result c =
     let l : Falling step c.args.i c.args.r (get_or c.args.table.now c.args.i 0) (get_or c.args.table.now (c.args.i + 1) 0) =
-        falling-line passed (lit< tt) (omega arith) c.requires.i_bound.1 (c.requires.table.each c.args.i (omega arith)) (c.requires.table.each (c.args.i + 1) (omega arith)) in
+    falling-line passed (lit< tt) (omega arith) c.requires.i_bound.1 (c.requires.table.each c.args.i (omega arith)) (c.requires.table.each (c.args.i + 1) (omega arith)) in
     l.product-fits
 
 pub overflow_sub-result-2 : goal.overflow_sub-result-2
 overflow_sub-result-2 c =
     let l : Falling step c.args.i c.args.r (get_or c.args.table.now c.args.i 0) (get_or c.args.table.now (c.args.i + 1) 0) =
-        falling-line passed (lit< tt) (omega arith) c.requires.i_bound.1 (c.requires.table.each c.args.i (omega arith)) (c.requires.table.each (c.args.i + 1) (omega arith)) in
+    falling-line passed (lit< tt) (omega arith) c.requires.i_bound.1 (c.requires.table.each c.args.i (omega arith)) (c.requires.table.each (c.args.i + 1) (omega arith)) in
     l.fall-less
 
 pub returns : goal.returns
 returns c =
     let l : Falling step c.args.i c.args.r (get_or c.args.table.now c.args.i 0) (get_or c.args.table.now (c.args.i + 1) 0) =
-        falling-line passed (lit< tt) (omega arith) c.requires.i_bound.1 (c.requires.table.each c.args.i (omega arith)) (c.requires.table.each (c.args.i + 1) (omega arith)) in
+    falling-line passed (lit< tt) (omega arith) c.requires.i_bound.1 (c.requires.table.each c.args.i (omega arith)) (c.requires.table.each (c.args.i + 1) (omega arith)) in
     record {
       result_value = l.is-line;
       upper_bound = l.at_most;

@@ -17,14 +17,13 @@ returns-then-minute_outside c =
     sym (minutes-out c.args.last c.args.minutes.now c.loop-k.k (c.loop-k.k + 1) (omega arith) (sym c.minute_outside.ensures ∙ c.if-minute_outside.true)) ∙ c.loop-k.invariant.1.1
 
 pub loop-k-preserved : goal.loop-k-preserved
-loop-k-preserved c =
-    (
-      omega arith,
-      (
-        c.loop-k.invariant.1.0,
-        sym (minutes-in c.args.last c.args.minutes.now c.loop-k.k (c.loop-k.k + 1) (omega arith) (sym c.minute_outside.ensures ∙ c.if-minute_outside.false)) ∙ c.loop-k.invariant.1.1,
-      ),
-    )
+loop-k-preserved c = (
+  omega arith,
+  (
+    c.loop-k.invariant.1.0,
+    sym (minutes-in c.args.last c.args.minutes.now c.loop-k.k (c.loop-k.k + 1) (omega arith) (sym c.minute_outside.ensures ∙ c.if-minute_outside.false)) ∙ c.loop-k.invariant.1.1,
+  ),
+)
 
 pub returns : goal.returns
 returns c =

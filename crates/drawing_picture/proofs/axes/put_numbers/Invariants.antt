@@ -1,6 +1,5 @@
 -- `drawing_picture::axes::put_numbers` meets its contract and ends: the page keeps its length. The measure: what is left of the plot's minutes.
 use Rattle.std.proofs.Common.{length, ◌+◌, ◌-◌, ◌≡◌}
-use Prim.Native.Nat.{◌+◌, ◌-◌}
 use Rattle.drawing_picture.proofs.axes.put_numbers.Given as goal
 
 abbrev pub invariant-loop-minute : goal.invariant-loop-minute

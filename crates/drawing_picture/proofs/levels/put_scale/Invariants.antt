@@ -1,6 +1,5 @@
 -- `drawing_picture::levels::put_scale` meets its contract and ends: the page keeps its length. The measure: so many lines are left.
 use Rattle.std.proofs.Common.{length, ◌-◌, ◌≡◌}
-use Prim.Native.Nat.{◌-◌}
 use Rattle.drawing_picture.proofs.levels.put_scale.Given as goal
 
 abbrev pub invariant-loop-left : goal.invariant-loop-left

@@ -1,6 +1,5 @@
 -- `drawing_picture::marks::put_kind` is safe and ends: the page keeps its length, and the turns left fall.
 use Rattle.std.proofs.Common.{length, ◌-◌, ◌≡◌}
-use lib.ListN.{length}
 use Rattle.drawing_picture.proofs.marks.put_kind.Given as goal
 
 abbrev pub invariant-loop-i : goal.invariant-loop-i

@@ -1,6 +1,5 @@
 -- `drawing_picture::picture::put_month` meets its contract: the next place stays on the page, and the weeks left fall.
 use Rattle.std.proofs.Common.{length, ◌-◌, ◌≡◌, ◌≤◌}
-use lib.ListN.{length}
 use Rattle.drawing_picture.proofs.picture.put_month.Given as goal
 
 abbrev pub invariant-loop-week : goal.invariant-loop-week

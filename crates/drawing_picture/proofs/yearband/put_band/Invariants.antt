@@ -1,6 +1,5 @@
 -- `drawing_picture::yearband::put_band` meets its contract: the page keeps its length, and the days left fall.
 use Rattle.std.proofs.Common.{length, ◌-◌, ◌≡◌}
-use Prim.Native.Nat.{◌-◌}
 use Rattle.drawing_picture.proofs.yearband.put_band.Given as goal
 
 abbrev pub invariant-loop-day : goal.invariant-loop-day

@@ -1,6 +1,5 @@
 -- `drawing_picture::yearband::put_kind` is safe and ends: the page keeps its length, and the months left fall.
 use Rattle.std.proofs.Common.{length, ◌-◌, ◌≡◌}
-use Prim.Native.Nat.{◌-◌}
 use Rattle.drawing_picture.proofs.yearband.put_kind.Given as goal
 
 abbrev pub invariant-loop-month : goal.invariant-loop-month

@@ -1,8 +1,5 @@
--- `page::face::fill` is safe and ends: the row keeps its length, and its columns left fall at each turn. Assumes nothing.
-use borrow.Author.Rules.{rules}
-use mathlib.Core.Path.{◌≡◌}
-use lib.ListN.{length}
-use Prim.Native.Nat.{◌-◌}
+-- `page::face::fill` is safe and ends: the row keeps its length, and its columns left fall at each turn.
+use Rattle.std.proofs.Common.{length, ◌-◌, ◌≡◌}
 use Rattle.page.proofs.face.fill.Given as goal
 
 abbrev pub invariant-loop-k : goal.invariant-loop-k
