@@ -1,4 +1,5 @@
 -- `messages::phrases::without_zeros` meets its contract: the part as long as the run of bytes that are not 0 is that run. Assumes nothing.
+use borrow.Author.Rules.{rules}
 use mathlib.Core.Path.{◌≡◌, sym, ◌∙◌}
 use native.Mathlib.Nat.{sub-zero, zero-add}
 use lib.ListN.{length}
@@ -9,6 +10,5 @@ use Rattle.messages.proofs.phrases.without_zeros.Goals as goal
 
 pub returns : goal.returns
 returns c =
-    let s = c.args.text.now in
-    let e : c.run_end.result ≡ length (leading (among 1 255) s) = rw (sub-zero (length s), padded-all 32 s, zero-add (length (leading (among 1 255) s))) at c.run_end.ensures in
-    c.part.ensures ∙ rw e (sym (leading-is (among 1 255) s))
+    let e : c.run_end.result ≡ length (leading (among 1 255) c.args.text.now) = rw (sub-zero (length c.args.text.now), padded-all 32 c.args.text.now, zero-add (length (leading (among 1 255) c.args.text.now))) at c.run_end.ensures in
+    c.part.ensures ∙ rw e (sym (leading-is (among 1 255) c.args.text.now))

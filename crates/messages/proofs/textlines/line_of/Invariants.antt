@@ -1,7 +1,11 @@
--- What is left of the text has the line that is left to reach; the measure is the bytes left. Assumes nothing.
-use Rattle.std.proofs.Common.{◌≡◌, ◌-◌, ◌≤◌, length, drop}
+use borrow.Author.Rules.{rules}
+use mathlib.Core.Path.{◌≡◌, sym, ◌∙◌}
+use Prim.Native.Nat.{◌≤◌, ◌<◌, ◌-◌}
+use native.Mathlib.Omega.{arith}
+use lib.ListN.{length, drop, length-drop}
 use Rattle.columns.specs.Lines.{lines_of}
 use Rattle.messages.specs.Lines.{line_at}
+use Rattle.messages.proofs.textlines.Lines.{line-next, line_first, line-none}
 use Rattle.messages.proofs.textlines.line_of.Given as goal
 
 abbrev pub invariant-loop-at : goal.invariant-loop-at
