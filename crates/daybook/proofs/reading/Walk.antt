@@ -13,7 +13,7 @@ use Rattle.columns.specs.Columns.{column}
 use Rattle.columns.specs.Lines.{lines_of, first_line}
 use Rattle.columns.proofs.Lines.{lines_next}
 use Rattle.card.specs.inner.Lines.{NextLine}
-use Rattle.card.proofs.lines.Walk.{lines-here, lines_end, line-within}
+use Rattle.card.proofs.lines.Walk.{lines-here, line-within}
 use Rattle.commandline.specs.Times.{time_of}
 use Rattle.commandline.specs.declared.times.Time.TheVariants as time
 use Rattle.daybook.specs.Booking.{without_return, booking_of}

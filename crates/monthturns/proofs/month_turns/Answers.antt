@@ -1,6 +1,5 @@
 -- `monthturns::month_turns` meets its contract: the clock's own answer, and the turns put behind its. Assumes nothing.
 use Rattle.monthturns.proofs.Month.{month-found, month-refused}
-use borrow.Author.Rules.{rules}
 use Rattle.monthturns.proofs.month_turns.Goals as goal
 
 pub returns-in-Turns : goal.returns-in-Turns

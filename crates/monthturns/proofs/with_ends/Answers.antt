@@ -1,7 +1,6 @@
 -- `monthturns::with_ends` meets its contract: each turn is put behind those that are there. Assumes nothing.
 use native.Mathlib.Omega.{arith}
 use Rattle.monthturns.proofs.Kept.{kept-fewer, kept_on}
-use borrow.Author.Rules.{rules}
 use Rattle.monthturns.proofs.with_ends.Goals as goal
 
 pub returns : goal.returns

@@ -1,14 +1,14 @@
 -- The fault that is said of a refused station falls under the number by which it is refused: by the questions in their order, and record by record.
 -- Assumes nothing.
 use Prim.{Unit}
-use Prim.Native.Nat.{ℕ, suc, ◌+◌, ◌≤◌, ◌<◌}
+use Prim.Native.Nat.{ℕ, ◌+◌, ◌≤◌, ◌<◌}
 use mathlib.Core.Path.{◌≡◌, refl, sym, subst}
 use mathlib.Core.List.{List, [], ◌∷◌}
 use mathlib.Core.Bool.{Bool, true, false, cond}
 use native.Mathlib.Omega.{arith}
 use lib.Dec.{eqb, leb, ltb}
 use lib.ListN.{length, get_or}
-use lib.IntN.{ℤ, pos, neg_ℤ}
+use lib.IntN.{pos, neg_ℤ}
 use lib.Signed.{lt_z}
 use borrow.Author.Tests.{ne_eqb, le-ltb, ltb-false}
 use Rattle.limits.specs.Limits.{most_records, most_latitude}
@@ -19,7 +19,6 @@ use Rattle.card.specs.declared.faults.What.TheVariants.{Amplitude, PhaseLag}
 use Rattle.card.specs.declared.faults.Trouble.TheVariants.{OutOfRange}
 use Rattle.card.specs.Faults.{only, fault_number}
 use Rattle.station.specs.declared.records.Record.{Record}
-use Rattle.station.specs.declared.records.Rows.{Rows}
 use Rattle.station.specs.Station.{amplitude_outside, phase_outside, record_outcome, records_outcome, station_outcome}
 use Rattle.station_file.specs.Faults.{record_fault, station_fault, FaultsFit}
 

@@ -1,6 +1,5 @@
 -- `daybook::booking::booking_of` meets its contract: a test for each part of the sentence. Assumes nothing.
-use borrow.Author.Rules.{rules}
-use borrow.Author.Tests.{eq-eqb, ne_eqb}
+use borrow.Author.Tests.{ne_eqb}
 use Rattle.daybook.specs.Booking.{booking_of}
 use Rattle.daybook.proofs.booking.booking_of.Goals as goal
 

@@ -1,5 +1,4 @@
 -- `daybook::booking::line_at` meets its contract: the file's line, without its CR. Assumes nothing.
-use borrow.Author.Rules.{rules}
 use Rattle.daybook.proofs.booking.line_at.Goals as goal
 
 pub returns : goal.returns

@@ -1,13 +1,12 @@
 -- `daybook::reading::fill_minutes` meets its contract: behind the minutes that are filled in stand those of the lines that are left. A booking
 -- takes eight bytes, so that there is a place for each. Assumes nothing.
-use Prim.Native.Nat.{◌+◌, ◌-◌, ◌*◌, ◌≤◌, ◌<◌}
-use mathlib.Core.Path.{◌≡◌, refl, sym, ◌∙◌}
+use Prim.Native.Nat.{◌<◌}
+use mathlib.Core.Path.{refl, sym, ◌∙◌}
 use native.Mathlib.Omega.{arith}
-use lib.ListN.{length, take, drop, length-set}
+use lib.ListN.{length, length-set}
 use borrow.Author.Rules.{rules}
-use Rattle.columns.specs.Lines.{lines_of}
 use Rattle.card.proofs.lines.Walk.{lines_end}
-use Rattle.daybook.specs.Bookings.{minutes_from, minutes_of}
+use Rattle.daybook.specs.Bookings.{minutes_from}
 use Rattle.daybook.proofs.reading.Walk.{line-far, next-far, one_more, stops}
 use Rattle.daybook.proofs.reading.fill_minutes.Goals as goal
 

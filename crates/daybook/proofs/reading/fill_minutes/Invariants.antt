@@ -1,10 +1,6 @@
-use Rattle.std.proofs.Common.{arith, drop, length, length-set, refl, sym, take, ◌*◌, ◌+◌, ◌-◌, ◌<◌, ◌∙◌, ◌≡◌, ◌≤◌}
-use native.Mathlib.Omega.{arith}
-use borrow.Author.Rules.{rules}
+use Rattle.std.proofs.Common.{drop, length, take, ◌*◌, ◌-◌, ◌≡◌, ◌≤◌}
 use Rattle.columns.specs.Lines.{lines_of}
-use Rattle.card.proofs.lines.Walk.{lines_end}
 use Rattle.daybook.specs.Bookings.{minutes_from, minutes_of}
-use Rattle.daybook.proofs.reading.Walk.{line-far, next-far, one_more, stops}
 use Rattle.daybook.proofs.reading.fill_minutes.Given as goal
 
 abbrev pub invariant-loop-at : goal.invariant-loop-at

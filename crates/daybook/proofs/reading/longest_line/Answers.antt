@@ -1,10 +1,8 @@
 -- `daybook::reading::longest_line` meets its contract: the longest line is the longest so far, or one that is left. Assumes nothing.
-use Prim.Native.Nat.{◌-◌, ◌≤◌, max}
-use mathlib.Core.Path.{◌≡◌, sym, ◌∙◌, ap}
+use mathlib.Core.Path.{ap}
 use native.Mathlib.Omega.{arith}
-use lib.ListN.{length, drop}
+use lib.ListN.{length}
 use borrow.Author.Rules.{rules}
-use Rattle.columns.specs.Lines.{lines_of}
 use Rattle.card.proofs.lines.Walk.{lines_end}
 use Rattle.daybook.specs.Bookings.{longest_of}
 use Rattle.daybook.proofs.reading.Walk.{longest-here}

@@ -1,11 +1,6 @@
-use Rattle.std.proofs.Common.{ap, arith, drop, length, max, sym, ⊎_elim, ◌-◌, ◌∙◌, ◌≡◌, ◌≤◌}
-use mathlib.Core.Logic.{⊎_elim}
-use native.Mathlib.Omega.{arith}
-use borrow.Author.Rules.{rules}
+use Rattle.std.proofs.Common.{drop, length, max, ◌-◌, ◌≡◌, ◌≤◌}
 use Rattle.columns.specs.Lines.{lines_of}
-use Rattle.card.proofs.lines.Walk.{lines_end}
 use Rattle.daybook.specs.Bookings.{longest_of}
-use Rattle.daybook.proofs.reading.Walk.{longest-here}
 use Rattle.daybook.proofs.reading.longest_line.Given as goal
 
 abbrev pub invariant-loop-at : goal.invariant-loop-at

@@ -2,7 +2,6 @@
 use native.Mathlib.Omega.{arith}
 use mathlib.Core.Path.{◌≡◌, ap}
 use lib.ListN.{length, length-take}
-use borrow.Author.Rules.{rules}
 use Rattle.daybook.specs.Bookings.{most_bookings}
 use Rattle.daybook.proofs.reading.read.Goals as goal
 

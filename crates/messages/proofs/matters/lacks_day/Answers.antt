@@ -1,5 +1,4 @@
 -- `messages::matters::lacks_day` meets its contract: the refusal, then the month's days. Assumes nothing.
-use borrow.Author.Rules.{rules}
 use Rattle.messages.specs.Matters.{lacks_day}
 use Rattle.messages.proofs.matters.lacks_day.Goals as goal
 

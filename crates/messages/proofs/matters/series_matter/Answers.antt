@@ -1,5 +1,4 @@
 -- `messages::matters::series_matter` meets its contract: the refusal, then the question. Assumes nothing.
-use borrow.Author.Rules.{rules}
 use Rattle.messages.specs.Matters.{series_matter}
 use Rattle.messages.proofs.matters.series_matter.Goals as goal
 

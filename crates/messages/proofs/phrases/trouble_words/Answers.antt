@@ -1,5 +1,4 @@
 -- `messages::phrases::trouble_words` meets its contract: the row, then its line. Assumes nothing.
-use borrow.Author.Rules.{rules}
 use Rattle.messages.proofs.phrases.trouble_words.Goals as goal
 
 pub returns : goal.returns

@@ -1,5 +1,4 @@
 -- `messages::phrases::what_words` meets its contract: the row, then its line. Assumes nothing.
-use borrow.Author.Rules.{rules}
 use Rattle.messages.proofs.phrases.what_words.Goals as goal
 
 pub returns : goal.returns

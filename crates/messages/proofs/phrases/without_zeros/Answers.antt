@@ -1,5 +1,4 @@
 -- `messages::phrases::without_zeros` meets its contract: the part as long as the run of bytes that are not 0 is that run. Assumes nothing.
-use borrow.Author.Rules.{rules}
 use mathlib.Core.Path.{◌≡◌, sym, ◌∙◌}
 use native.Mathlib.Nat.{sub-zero, zero-add}
 use lib.ListN.{length}

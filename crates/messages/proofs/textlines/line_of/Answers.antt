@@ -1,11 +1,8 @@
 -- `messages::textlines::line_of` meets its contract: what is left of the text has the line that is left to reach. Assumes nothing.
-use borrow.Author.Rules.{rules}
 use mathlib.Core.Path.{◌≡◌, sym, ◌∙◌}
-use Prim.Native.Nat.{◌≤◌, ◌<◌, ◌-◌}
+use Prim.Native.Nat.{◌<◌}
 use native.Mathlib.Omega.{arith}
 use lib.ListN.{length, drop, length-drop}
-use Rattle.columns.specs.Lines.{lines_of}
-use Rattle.messages.specs.Lines.{line_at}
 use Rattle.messages.proofs.textlines.Lines.{line-next, line_first, line-none}
 use Rattle.messages.proofs.textlines.line_of.Goals as goal
 

@@ -1,11 +1,8 @@
-use borrow.Author.Rules.{rules}
-use mathlib.Core.Path.{◌≡◌, sym, ◌∙◌}
-use Prim.Native.Nat.{◌≤◌, ◌<◌, ◌-◌}
-use native.Mathlib.Omega.{arith}
-use lib.ListN.{length, drop, length-drop}
+use mathlib.Core.Path.{◌≡◌}
+use Prim.Native.Nat.{◌≤◌, ◌-◌}
+use lib.ListN.{length, drop}
 use Rattle.columns.specs.Lines.{lines_of}
 use Rattle.messages.specs.Lines.{line_at}
-use Rattle.messages.proofs.textlines.Lines.{line-next, line_first, line-none}
 use Rattle.messages.proofs.textlines.line_of.Given as goal
 
 abbrev pub invariant-loop-at : goal.invariant-loop-at

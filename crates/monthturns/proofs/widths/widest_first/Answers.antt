@@ -1,5 +1,4 @@
 -- `monthturns::widths::widest_first` meets its contract: what the six comparisons give. Assumes nothing.
-use borrow.Author.Rules.{rules}
 use Rattle.monthturns.specs.Widths.{widest_first}
 use Rattle.monthturns.proofs.widths.widest_first.Goals as goal
 

@@ -1,6 +1,5 @@
 -- `monthturns::yearturns::turns_of` meets its contract: the clock's own answer, and the turns put behind its. Assumes nothing.
 use Rattle.monthturns.proofs.Year.{year-found, year-refused}
-use borrow.Author.Rules.{rules}
 use Rattle.monthturns.proofs.yearturns.turns_of.Goals as goal
 
 pub returns-in-Turns : goal.returns-in-Turns

@@ -1,5 +1,4 @@
 -- `station_file::stationfaults::station_fault` meets its contract: by the place.
-use borrow.Author.Rules.{rules}
 use borrow.Author.Tests.{eq-eqb, ne_eqb, lt-ltb, le-ltb}
 use Rattle.station_file.specs.Faults.{station_fault}
 use Rattle.station_file.proofs.stationfaults.station_fault.Goals as goal

@@ -1,5 +1,4 @@
 -- `station_file::stationfields::record_card` meets its contract: how the card begins, then its fields.
-use borrow.Author.Rules.{rules}
 use native.Mathlib.Omega.{arith}
 use Rattle.station_file.specs.Cards.{next_record}
 use Rattle.station_file.proofs.stationfields.record_card.Goals as goal

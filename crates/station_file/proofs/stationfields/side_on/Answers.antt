@@ -1,5 +1,4 @@
 -- `station_file::stationfields::side_on` meets its contract: the mark first, then the side that it and a minus say.
-use borrow.Author.Rules.{rules}
 use Rattle.station_file.specs.Cards.{is_south}
 use Rattle.station_file.proofs.stationfields.side_on.Goals as goal
 

@@ -1,5 +1,4 @@
 -- `station_file::stationfields::station_card` meets its contract: the line first, then the fields.
-use borrow.Author.Rules.{rules}
 use Rattle.card.specs.Card.{due_card}
 use Rattle.station_file.specs.Cards.{station_card}
 use Rattle.station_file.proofs.stationfields.station_card.Goals as goal

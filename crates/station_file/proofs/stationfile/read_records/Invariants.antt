@@ -1,20 +1,12 @@
-use borrow.Author.Rules.{rules}
 use Rattle.limits.specs.Limits.{most_frequencies, most_records}
-use mathlib.Core.Path.{◌≡◌, refl, ap, ◌∙◌}
+use mathlib.Core.Path.{◌≡◌}
 use mathlib.Core.List.{[]}
-use Prim.Native.Nat.{◌+◌, ◌-◌, ◌≤◌, ◌<◌, min}
-use native.Mathlib.Omega.{arith}
-use lib.ListN.{length, drop, length-set}
-use mir.Syntax.{w32}
-use mir.Val.{SFits, to_z, of_z}
-use mir.ValLaws.{to_z-of_z}
+use Prim.Native.Nat.{◌+◌, ◌-◌, ◌≤◌, min}
+use lib.ListN.{length, drop}
 use Rattle.columns.specs.Lines.{lines_of}
 use Rattle.columns.specs.Names.{names_from}
-use Rattle.station.specs.declared.records.Rows.{Rows}
-use Rattle.station.specs.Records.{records_from}
 use Rattle.station.specs.Records.{records_of}
 use Rattle.station_file.specs.Station.{records_on}
-use Rattle.station_file.proofs.stationfile.Records.{record-room, records-here, records-end, records-put}
 use Rattle.station_file.proofs.stationfile.read_records.Given as goal
 
 abbrev pub invariant-loop-at : goal.invariant-loop-at
