@@ -1,5 +1,4 @@
 -- `commandline::all_words` is safe and ends: the steps left fall at each turn. Assumes nothing.
-use borrow.Author.Rules.{rules}
 use Rattle.commandline.proofs.all_words.Given as goal
 
 abbrev pub invariant-loop-steps : goal.invariant-loop-steps

@@ -1,5 +1,4 @@
 -- `commandline::lengths_at` meets its contract: the usual lengths, or the word's. Assumes nothing.
-use borrow.Author.Rules.{rules}
 use borrow.Author.Tests.{eq-eqb, ne_eqb}
 use Rattle.commandline.specs.Lengths.{lengths_at}
 use Rattle.commandline.proofs.lengths_at.Goals as goal

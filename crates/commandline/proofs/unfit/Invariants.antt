@@ -1,5 +1,4 @@
 -- `commandline::unfit` is safe and ends: what is left of the words falls at each turn. Assumes nothing.
-use borrow.Author.Rules.{rules}
 use Prim.Native.Nat.{◌-◌}
 use Rattle.commandline.proofs.unfit.Given as goal
 

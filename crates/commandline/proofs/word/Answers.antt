@@ -6,7 +6,6 @@ use lib.ListN.{length, drop}
 use Rattle.columns.specs.Bytes.{among}
 use Rattle.columns.proofs.Bytes.{leading-is}
 use Rattle.commandline.specs.Words.{word_at}
-use borrow.Author.Rules.{rules}
 use Rattle.commandline.proofs.word.Goals as goal
 
 pub returns : goal.returns

@@ -1,5 +1,4 @@
 -- `script::bookings_at` meets its contract, by what `two_at` says. Assumes nothing.
-use borrow.Author.Rules.{rules}
 use Rattle.script.specs.Script.{bookings_of}
 use Rattle.script.proofs.bookings_at.Goals as goal
 

@@ -1,5 +1,4 @@
 -- `script::cards_at` meets its contract, by what `last_at` says. Assumes nothing.
-use borrow.Author.Rules.{rules}
 use Rattle.script.specs.Script.{cards_of}
 use Rattle.script.proofs.cards_at.Goals as goal
 

@@ -1,5 +1,4 @@
 -- `script::date_at` meets its contract, by what `two_at` says. Assumes nothing.
-use borrow.Author.Rules.{rules}
 use Rattle.script.specs.Script.{date_of}
 use Rattle.script.proofs.date_at.Goals as goal
 

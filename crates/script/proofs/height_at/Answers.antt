@@ -1,5 +1,4 @@
 -- `script::height_at` meets its contract, by what `last_at` says. Assumes nothing.
-use borrow.Author.Rules.{rules}
 use Rattle.script.specs.Script.{height_of}
 use Rattle.script.proofs.height_at.Goals as goal
 

@@ -1,5 +1,4 @@
 -- `script::hourly_at` meets its contract, by what `two_at` says. Assumes nothing.
-use borrow.Author.Rules.{rules}
 use Rattle.script.specs.Script.{hourly_of}
 use Rattle.script.proofs.hourly_at.Goals as goal
 

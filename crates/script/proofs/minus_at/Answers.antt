@@ -1,5 +1,4 @@
 -- `script::minus_at` meets its contract: the byte at the place is the first of its word. Assumes nothing.
-use borrow.Author.Rules.{rules}
 use Rattle.script.proofs.Latitudes.{minus_is, no_minus}
 use Rattle.script.proofs.minus_at.Goals as goal
 

@@ -2,7 +2,6 @@
 use mathlib.Core.Path.{sym}
 use native.Mathlib.Omega.{arith}
 use lib.Seq.{length-take-le}
-use borrow.Author.Rules.{rules}
 use Rattle.script.proofs.words.Words.{words_are}
 use Rattle.script.proofs.parse_call.Goals as goal
 

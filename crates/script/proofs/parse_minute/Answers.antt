@@ -1,5 +1,4 @@
 -- `script::parse_minute` meets its contract, by what `last_at` says of the line's first word. Assumes nothing.
-use borrow.Author.Rules.{rules}
 use Rattle.script.specs.inner.Left.{words_from}
 use Rattle.script.proofs.parse_minute.Goals as goal
 

@@ -1,6 +1,5 @@
 -- `script::parse_record` meets its contract, by what is read of each number in turn; a place of at most 255 fits a byte. Assumes nothing.
 use native.Mathlib.Omega.{arith}
-use borrow.Author.Rules.{rules}
 use Rattle.script.specs.Script.{record_of_words}
 use Rattle.script.specs.inner.Left.{words_from}
 use Rattle.script.proofs.words.Words.{field-most}

@@ -1,5 +1,4 @@
 -- `script::series_at` meets its contract, by what is read of each number in turn. Assumes nothing.
-use borrow.Author.Rules.{rules}
 use Rattle.script.specs.Script.{series_of}
 use Rattle.script.proofs.series_at.Goals as goal
 

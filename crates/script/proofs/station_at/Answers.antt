@@ -6,7 +6,6 @@ use lib.IntN.{ℤ}
 use lib.ListN.{length}
 use mir.Syntax.{w32}
 use mir.ValLaws.{to_z-of_z}
-use borrow.Author.Rules.{rules}
 use Rattle.script.specs.Script.{with_strides, behind_count, station_at}
 use Rattle.script.specs.inner.Left.{words_from}
 use Rattle.script.proofs.words.Words.{from_past, from_next}

@@ -1,7 +1,6 @@
 -- `script::strides_at` meets its contract, by what is read of each number in turn; the latitude is read back from its 32 bits. Assumes nothing.
 use mir.Syntax.{w32}
 use mir.ValLaws.{to_z-of_z}
-use borrow.Author.Rules.{rules}
 use Rattle.script.specs.Script.{with_strides}
 use Rattle.script.proofs.strides_at.Goals as goal
 

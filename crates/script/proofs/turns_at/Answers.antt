@@ -1,5 +1,4 @@
 -- `script::turns_at` meets its contract, by what is read of each number in turn. Assumes nothing.
-use borrow.Author.Rules.{rules}
 use Rattle.script.specs.Script.{turns_of}
 use Rattle.script.proofs.turns_at.Goals as goal
 

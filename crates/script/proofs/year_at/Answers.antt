@@ -1,5 +1,5 @@
 -- `script::year_at` meets its contract, by what is read of each number in turn; its search is read as `turns` has it. Assumes nothing.
-use mathlib.Core.Path.{◌≡◌, refl, sym, ◌∙◌, ap}
+use mathlib.Core.Path.{◌≡◌, refl, ◌∙◌, ap}
 use mathlib.Core.List.{List}
 use Prim.Native.Nat.{ℕ}
 use Rattle.script.specs.Words.{Reading, read, unread, largest, reading, last_number, onward, given}
@@ -9,7 +9,6 @@ use Rattle.script.specs.declared.Call.{Call}
 use Rattle.script.specs.declared.Call.TheVariants.{Bad}
 use Rattle.script.specs.Script.{turns_of, year_search_of, year_of}
 use Rattle.script.specs.inner.Left.{with_search}
-use borrow.Author.Rules.{rules}
 use Rattle.script.proofs.year_at.Goals as goal
 
 -- ---- a year's search has the four numbers of `turns`

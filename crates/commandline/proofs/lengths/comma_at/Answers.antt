@@ -1,5 +1,4 @@
 -- `commandline::lengths::comma_at` meets its contract: within the word, then the byte. Assumes nothing.
-use borrow.Author.Rules.{rules}
 use borrow.Author.Tests.{lt-ltb, le-ltb}
 use Rattle.commandline.specs.Lengths.{comma_at}
 use Rattle.commandline.proofs.lengths.comma_at.Goals as goal

@@ -1,7 +1,6 @@
 -- `commandline::lengths::length_end` meets its contract: the bytes above a comma end there. Assumes nothing.
 use Rattle.commandline.specs.Lengths.{length_end}
 use Rattle.commandline.proofs.Words.{row_from}
-use borrow.Author.Rules.{rules}
 use Rattle.commandline.proofs.lengths.length_end.Goals as goal
 
 pub returns : goal.returns

@@ -1,6 +1,5 @@
 -- `commandline::lengths::lengths_of` meets its contract: the ends of the three lengths in turn, then what they hold. Assumes nothing.
 use mathlib.Core.Path.{sym, ◌∙◌}
-use native.Mathlib.Omega.{arith}
 use borrow.Author.Rules.{rules}
 use borrow.Author.Tests.{eq-eqb, ne_eqb, not-true, not-false}
 use Rattle.commandline.specs.Lengths.{lengths_of}

@@ -2,8 +2,7 @@
 use Prim.Native.Nat.{ℕ}
 use mathlib.Core.Path.{◌≡◌, refl}
 use native.Mathlib.Omega.{arith}
-use borrow.Author.Rules.{rules}
-use borrow.Author.Tests.{eq-eqb, ne_eqb}
+use borrow.Author.Tests.{ne_eqb}
 use Rattle.fields.specs.declared.Narrow.{Narrow}
 use Rattle.fields.specs.declared.Narrow.TheVariants.{Value, Malformed, OutOfRange}
 use Rattle.fields.specs.inner.Narrow.{narrow_gives}

@@ -1,5 +1,4 @@
 -- `script::words::field_at` meets its contract: the number of the word at the place, by `reading-is`. Assumes nothing.
-use borrow.Author.Rules.{rules}
 use Rattle.script.proofs.words.Words.{reading-is, from_past}
 use Rattle.script.proofs.words.field_at.Goals as goal
 

@@ -1,5 +1,4 @@
 -- `script::words::last_at` meets its contract: a number is the last where no word begins behind it. Assumes nothing.
-use borrow.Author.Rules.{rules}
 use Rattle.script.specs.Words.{last_number}
 use Rattle.script.proofs.words.Words.{not-ended, from_past}
 use Rattle.script.proofs.words.last_at.Goals as goal

@@ -1,9 +1,5 @@
 -- `script::words::number_of` meets its contract. The loop's invariant: the value and the digits left make the word's number. Assumes nothing.
-use mathlib.Core.Path.{◌≡◌}
-use Prim.Native.Nat.{◌-◌, ◌≤◌}
 use native.Mathlib.Omega.{arith}
-use lib.ListN.{length, drop}
-use borrow.Author.Rules.{rules}
 use borrow.Author.Tests.{le-leb, lt-leb}
 use Rattle.script.specs.Words.{number, number_after}
 use Rattle.script.proofs.words.Words.{drop-next, drop-none, number-some, number-empty}

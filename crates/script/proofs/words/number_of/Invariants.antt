@@ -1,11 +1,7 @@
 use mathlib.Core.Path.{◌≡◌}
 use Prim.Native.Nat.{◌-◌, ◌≤◌}
-use native.Mathlib.Omega.{arith}
 use lib.ListN.{length, drop}
-use borrow.Author.Rules.{rules}
-use borrow.Author.Tests.{le-leb, lt-leb}
 use Rattle.script.specs.Words.{number, number_after}
-use Rattle.script.proofs.words.Words.{drop-next, drop-none, number-some, number-empty}
 use Rattle.script.proofs.words.number_of.Given as goal
 
 abbrev pub invariant-loop-i : goal.invariant-loop-i

@@ -1,5 +1,4 @@
 -- `script::words::two_at` meets its contract, by what is read of each number in turn. Assumes nothing.
-use borrow.Author.Rules.{rules}
 use Rattle.script.specs.Words.{last_two}
 use Rattle.script.proofs.words.two_at.Goals as goal
 

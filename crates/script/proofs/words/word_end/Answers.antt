@@ -1,9 +1,8 @@
 -- `script::words::word_end` meets its contract. The loop's invariant: what is passed and the word left are the word. Assumes nothing.
 use mathlib.Core.Path.{◌≡◌}
-use Prim.Native.Nat.{suc, ◌+◌, ◌-◌, ◌≤◌}
+use Prim.Native.Nat.{suc, ◌+◌}
 use native.Mathlib.Omega.{arith}
-use lib.ListN.{length, drop}
-use borrow.Author.Rules.{rules}
+use lib.ListN.{drop}
 use borrow.Author.Tests.{eq-eqb, ne_eqb}
 use Rattle.script.specs.inner.Left.{word_length}
 use Rattle.script.proofs.words.Words.{drop-next, drop-none}

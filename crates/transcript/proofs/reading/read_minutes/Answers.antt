@@ -1,6 +1,5 @@
 -- `transcript::reading::read_minutes` meets its contract: each line leaves the window in the buffer, one line further. The measure is the places left. Assumes nothing.
-use Rattle.std.proofs.Common.{◌≡◌, ◌-◌, ◌≤◌, T, length, sym, refl, subst, rules}
-use Rattle.transcript.specs.inner.Window.{Within, lines_below}
+use Rattle.std.proofs.Common.{T, sym, refl, subst, rules}
 use Rattle.transcript.proofs.reading.Taking.{below_none, taken_more, taken-all}
 use Rattle.transcript.proofs.reading.read_minutes.Goals as goal
 

@@ -1,6 +1,5 @@
-use Rattle.std.proofs.Common.{◌≡◌, ◌-◌, ◌≤◌, T, length, sym, refl, subst, rules}
+use Rattle.std.proofs.Common.{◌≡◌, ◌-◌, ◌≤◌, length}
 use Rattle.transcript.specs.inner.Window.{Within, lines_below}
-use Rattle.transcript.proofs.reading.Taking.{below_none, taken_more, taken-all}
 use Rattle.transcript.proofs.reading.read_minutes.Given as goal
 
 abbrev pub invariant-loop-k : goal.invariant-loop-k

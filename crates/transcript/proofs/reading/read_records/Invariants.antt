@@ -1,5 +1,5 @@
 -- `transcript::reading::read_records` meets its contract: each line leaves the window in the buffer. The measure is the lines left. Assumes nothing.
-use Rattle.std.proofs.Common.{◌≡◌, ◌-◌, length, rules}
+use Rattle.std.proofs.Common.{◌≡◌, ◌-◌, length}
 use Rattle.transcript.specs.inner.Window.{Within}
 use Rattle.transcript.proofs.reading.read_records.Given as goal
 

@@ -8,9 +8,7 @@ use Rattle.refusals.specs.Outcome.{Outcome, accepted, refused, on_accepted}
 use Rattle.hourly.specs.Month.{CardsGiven, into_buffer}
 use Rattle.calls.specs.State.{State}
 use Rattle.calls.specs.Hourly.{hourly_bytes, hourly_gives}
-use borrow.Author.Rules.{rules}
-use Rattle.replay.proofs.cards_into.Statement.{statement}
-use Rattle.replay.proofs.cards_into.Tie as tie
+use Rattle.replay.proofs.cards_into.Goals as goal
 
 -- what is written stands in the buffer
 written-within : (new : Outcome (List ℕ)) (buffer left : List ℕ) (returned : Outcome ℕ) → record { returned = returned; buffer = left } ≡ into_buffer new buffer → on_accepted returned (λ count. count) 0 ≤ length left
@@ -26,21 +24,5 @@ given-within : (k : State) (number : ℕ) (buffer left : List ℕ) (returned : O
 unfolding hourly_gives
 given-within k number buffer left returned e = written-within (hourly_bytes k number (length buffer)) buffer left returned e
 
-hourly-requires : tie.Need-hourly-requires
-hourly-requires c κs = search rules
-
-put-cards-requires : tie.Need-put-cards-requires
-put-cards-requires c κs = given-within _ _ _ _ _ c.before.before.before.before.hourly.ensures.gives
-
-same_length : tie.Need-same-length
-same_length c = search rules
-
-same-length-2 : tie.Need-same-length-2
-same-length-2 c = search rules
-
-returns : tie.Need-returns
-returns c = search rules
-
-pub cards-into-spec : {M : Type 1} → statement M
-cards-into-spec =
-    tie.close (tie.spec hourly-requires put-cards-requires same_length same-length-2 returns)
+pub put_cards-requires : goal.put_cards-requires
+put_cards-requires g c = given-within _ _ _ _ _ c.hourly-answer.ensures.gives
