@@ -74,7 +74,7 @@ ClausesOf T = (M : Type 1) (𝓤 : Ura M) (𝓛 : Logic 𝓤) → (Memory → SP
 
 -- .. at the lifetimes of what is lent, at the arguments, and at a model of the logic
 abbrev pub clauses_at : (T : Ended) → ClausesOf T → (κs : Lfts T.signature.lifetimes) → ArgsD T.signature κs → (w : World) → ClausesAt w.𝓤 T κs
-clauses_at T C κs given w = C w.M w.𝓤 w.𝓛 w.𝓜.mem w.𝓡.run κs given
+clauses_at T C κs given w = C w.M w.𝓤 w.𝓛 w.𝓜.mem w.𝓡.returns κs given
 
 -- The function with the signature T and the clauses C, called once: it was given these arguments, returned this result, and left these last
 -- elements in what was lent to be written to (`tt` stands for what is not). All that is known of it is that it keeps its contract. (`bound`

@@ -10,7 +10,7 @@ use lib.Dec.{T, ltb, ltb→lt, lit<}
 use lib.IntN.{pos}
 use lib.ListN.{length, length-map, replicate, length-replicate}
 use seplogic.Ra.Ura.{Ura}
-use seplogic.Ra.TreeShare.{full_share}
+use base.Fraction.{full_share}
 use mir.Syntax.{w8, w32, w64, ty_int}
 use mir.Val.{Val, vint, of_z}
 use base.Logic.{SProp, ent, sep, emp, id⊢, via, mono_l, assoc', emp∗}
@@ -18,7 +18,8 @@ use base.Fml.{Fml, Share, ftrue, fsep, fat}
 use prog.AdequacyRun.{start_mem}
 use prog.Memory.{Memory}
 use prog.Model.{AllFit}
-use prog.Routine.{Routine, ends, ≼_refl}
+use prog.Routine.{Env, ends}
+use prog.Wired.{Wired}
 use prog.Wp.{run}
 use types.Logic.{Logic, sem}
 use contract.Adequate.{sat_weaken, start_Satisfies}
@@ -76,11 +77,11 @@ use Rattle.cuvalimodo_c.proofs.cuvalimodo_names.Symbol as held_names_code
 use Rattle.claim.specs.Zeroed.{zeroed, zero_of}
 use Rattle.claim.proofs.Zeros.{zeros-are-zeroed}
 use Rattle.claim.specs.Document.{Request, Cards, Station, Date, Height, Series, Turns, Year, Bookings, Names}
-use Rattle.claim_runs.specs.Handed.{function, Assertion, ◌∗◌, ⟦◌⟧₀, ◌⊨◌, Handed, value, reads, writes, sees, changes, passed, Fit, At, lie, Ran}
+use Rattle.claim_runs.specs.Handed.{Function, function, Assertion, ◌∗◌, ⟦◌⟧₀, ◌⊨◌, Handed, value, reads, writes, sees, changes, passed, Fit, At, lie, Ran}
 use Rattle.claim_runs.specs.Values.{clock_in, clock_at}
 use Rattle.claim_runs.specs.Runs.{Run, Started, routine_of, Runs, ◌then◌, routines_of}
 use Rattle.claim_runs.specs.OnMachine.{EveryCallEnds, AlwaysEnds}
-use Rattle.claim_runs.specs.Accepted.{z0-record, z0-records, z0-strides, z0-station, none-station, year-sheet, three_minutes, three_places, station_number, stars, cards_asked, accepted_calls, accepted_routines, frequency_line, five_line, main_line, ended, small_file}
+use Rattle.claim_runs.specs.Accepted.{HasTheClock, z0-record, z0-records, z0-strides, z0-station, none-station, year-sheet, three_minutes, three_places, station_number, stars, cards_asked, accepted_calls, accepted_routines, frequency_line, five_line, main_line, ended, small_file}
 use Rattle.claim_runs.proofs.Handing.{W₀}
 use Rattle.claim_runs.proofs.Parameters.{clock-lawful, clock-means, u32-makes}
 use Rattle.claim_runs.proofs.Laid.{laid, Lays, laid-to-write, laid-to-read}
@@ -109,16 +110,13 @@ all_fit (x ∷ xs) h = (record { fits = h.0 }, all_fit xs h.1)
 
 -- ---- the machine's value for rows of records
 
-bytes-are : (xs : List ℕ) → Below (2 ^ 8) xs → shadow (each ℕ u8.own_val (map (λ (x : ℕ). x) xs) (map (λ (x : ℕ). vint w8 x) xs))
+bytes-are : (xs : List ℕ) → Below (2 ^ 8) xs → shadow (each ℕ u8.own_val xs (map (λ (x : ℕ). vint w8 x) xs))
 bytes-are [] h = tt
 bytes-are (x ∷ xs) h = ((refl, h.0), bytes-are xs h.1)
 
-words_are : (xs : List ℕ) → Below (2 ^ 32) xs → shadow (each ℕ u32.own_val (map (λ (x : ℕ). x) xs) (map (λ (x : ℕ). vint w32 x) xs))
+words_are : (xs : List ℕ) → Below (2 ^ 32) xs → shadow (each ℕ u32.own_val xs (map (λ (x : ℕ). vint w32 x) xs))
 words_are [] h = tt
 words_are (x ∷ xs) h = ((refl, h.0), words_are xs h.1)
-
-as_long : (xs : List ℕ) {n : ℕ} → length xs ≡ n → length (map (λ (x : ℕ). x) xs) ≡ n
-as_long xs e = length-map xs (λ (x : ℕ). x) ∙ e
 
 rows_are : (rows : Rows) → length rows.places ≡ most_records → Below (2 ^ 8) rows.places → length rows.amplitudes ≡ most_records → Below (2 ^ 32) rows.amplitudes
     → length rows.phases ≡ most_records → Below (2 ^ 32) rows.phases → Is RowsType.the_row rows (RowsLaws.lowered rows ∷ [])
@@ -127,7 +125,7 @@ rows_are rows l a m b n c =
     let ms : List Val = map (λ (x : ℕ). vint w32 x) rows.amplitudes in
     let qs : List Val = map (λ (x : ℕ). vint w32 x) rows.phases in (
       (array_val ps ∷ [], (array_val ms ∷ [], (array_val qs ∷ [], tt))),
-      (refl, ((ps, ((refl, as_long rows.places l), bytes-are rows.places a)), ((ms, ((refl, as_long rows.amplitudes m), words_are rows.amplitudes b)), ((qs, ((refl, as_long rows.phases n), words_are rows.phases c)), tt)))),
+      (refl, ((ps, ((refl, l), bytes-are rows.places a)), ((ms, ((refl, m), words_are rows.amplitudes b)), ((qs, ((refl, n), words_are rows.phases c)), tt)))),
     )
 
 -- Z0's record, the first of 146
@@ -144,7 +142,7 @@ record-lays =
     record {
       lowers = RecordLaws.lowers;
       makes = LL.makes RecordType.the_type RecordLaws.the_plain w₀.𝓛;
-      lawful = LL.lawful RecordType.the_type RecordLaws.the_laws w₀.𝓛 W₀;
+      lawful = LL.lawful RecordType.the_type RecordLaws.the_laws w₀.𝓛;
     }
 
 z0-strides-are : Is StridesType.the_row z0-strides (StridesLaws.lowered z0-strides ∷ [])
@@ -157,8 +155,8 @@ i64-lays : Lays i64
 i64-lays =
     record {
       lowers = record { mir = ty_int w64; lowered = λ z. vint w64 (of_z w64 z); layout_is = refl; val_is = sint_Tells w64 };
-      makes = sint_Makes w₀.𝓛 W₀ w64;
-      lawful = sint_Lawful w₀.𝓛 W₀ w64;
+      makes = sint_Makes w₀.𝓛 w64;
+      lawful = sint_Lawful w₀.𝓛 w64;
     }
 
 u32-lays : Lays u32
@@ -166,15 +164,15 @@ u32-lays =
     record {
       lowers = record { mir = ty_int w32; lowered = λ n. vint w32 n; layout_is = refl; val_is = uint_Tells w32 };
       makes = u32-makes;
-      lawful = uint_Lawful w₀.𝓛 W₀ w32;
+      lawful = uint_Lawful w₀.𝓛 w32;
     }
 
 u8-lays : Lays u8
 u8-lays =
     record {
       lowers = record { mir = ty_int w8; lowered = λ n. vint w8 n; layout_is = refl; val_is = uint_Tells w8 };
-      makes = uint_Makes w₀.𝓛 W₀ w8;
-      lawful = uint_Lawful w₀.𝓛 W₀ w8;
+      makes = uint_Makes w₀.𝓛 w8;
+      lawful = uint_Lawful w₀.𝓛 w8;
     }
 
 stars_are : (n : ℕ) → shadow (each ℕ u8.own_val (stars n) (replicate n (vint w8 42)))
@@ -240,12 +238,14 @@ lies-too P pure holds =
     sat_weaken w₀.𝓤 w₀.𝓛.H w₀.𝓜 start (via w₀.𝓤 (emp w₀.𝓤 ∗ All) (emp∗ w₀.𝓤 All) (mono_l w₀.𝓤 All (makes_shadow w₀.𝓛 P pure holds))) start-lies
 
 -- a run from a memory, and from there
-abbrev ran-from : {f : Routine} {front : List Val} {hs : List Handed} (σ : Memory) (F : Assertion) → Fit hs → σ ⊨ ⟦ lie hs ⟧₀ ∗ F → ((v : Val) × (σ' : Memory) × ends f (front ++ passed hs) σ v σ') → Ran f front hs
-ran-from {f} σ F fit lies k =
-    record { routine = f; below = ≼_refl f; fit = fit; before = σ; rest = F; lent = lies; value = k.0; left = k.1; run = k.2 }
+abbrev ran-from : {f : Function} {front : List Val} {hs : List Handed} (γ : Env) → Wired γ f.code → (σ : Memory) (F : Assertion) → Fit hs → σ ⊨ ⟦ lie hs ⟧₀ ∗ F
+    → ((v : Val) × (σ' : Memory) × ends (γ f.name) (front ++ passed hs) σ v σ') → Ran f front hs
+ran-from {f} γ has σ F fit lies k =
+    record { program = γ; has = has; fit = fit; before = σ; rest = F; lent = lies; value = k.0; left = k.1; run = k.2 }
 
-abbrev ran-of : {f : Routine} {front : List Val} {hs : List Handed} (F : Assertion) → Fit hs → start ⊨ ⟦ lie hs ⟧₀ ∗ F → ((v : Val) × (σ' : Memory) × ends f (front ++ passed hs) start v σ') → Ran f front hs
-ran-of = ran-from start
+abbrev ran-of : {f : Function} {front : List Val} {hs : List Handed} (γ : Env) → Wired γ f.code → (F : Assertion) → Fit hs → start ⊨ ⟦ lie hs ⟧₀ ∗ F
+    → ((v : Val) × (σ' : Memory) × ends (γ f.name) (front ++ passed hs) start v σ') → Ran f front hs
+ran-of γ has = ran-from γ has start
 
 -- ---- a place for one height, and minutes to be booked with their places, beside all else
 
@@ -277,76 +277,76 @@ carding-lie = laid-to-write u8 u8-lays (stars 4_300) (replicate 4_300 (vint w8 4
 -- ---- each kind of call, where every call ends
 
 -- a run of a call on the clock's value v
-abbrev Next : Val → Request → Routine → Type 2
+abbrev Next : Val → Request → Function → Type 2
 Next v q f = ∥ ((v' : Val) × (y : Run v q v') × (routine_of y ≡ f)) ∥₁
 
 -- the machine's number
 abbrev u : ℕ → Val
 u n = vint w32 n
 
-module _ (v : Val) (e : EveryCallEnds v) where
+module _ (program : Env) (has : HasTheClock program) (v : Val) (e : EveryCallEnds v) where
   cards-run : Next v (Cards small_file) (function load_code.name load_code.code)
   cards-run =
-      ∥∥₁_map (e.loads small_file full_share 0 0 (file-has-room, tt) start Rest start-lies) (λ k. (clock_in k.0, Run.loads (ran-of Rest (file-has-room, tt) start-lies k), refl))
+      ∥∥₁_map (e.loads small_file full_share 0 0 program has.load (file-has-room, tt) start Rest start-lies) (λ k. (clock_in k.0, Run.loads (ran-of program has.load Rest (file-has-room, tt) start-lies k), refl))
 
   station-run : Next v (Station none-station) (function station_code.name station_code.code)
   station-run =
       let hs : List Handed = value i32 (pos 0) (u 0) ∷ value StridesType.the_row z0-strides (StridesLaws.lowered z0-strides) ∷ reads RecordType.the_row full_share [] 0 0 ∷ [] in
       let fit : Fit hs = ((refl, lit< tt), (z0-strides-are, ((lit< tt, lit< tt), tt))) in
       let lies : start ⊨ ⟦ lie hs ⟧₀ ∗ All = lies-too (lie hs) ((tt, tt), tt) ((refl, tt), tt) in
-      ∥∥₁_map (e.stations (pos 0) z0-strides (u 0) (StridesLaws.lowered z0-strides) [] full_share 0 0 fit start All lies) (λ k. (clock_in k.0, Run.stations {strides = z0-strides} {q = full_share} (ran-of All fit lies k), refl))
+      ∥∥₁_map (e.stations (pos 0) z0-strides (u 0) (StridesLaws.lowered z0-strides) [] full_share 0 0 program has.station fit start All lies) (λ k. (clock_in k.0, Run.stations {strides = z0-strides} {q = full_share} (ran-of program has.station All fit lies k), refl))
 
   placing-run : Next v (Station z0-station) (function placing_code.name placing_code.code)
   unfolding records_from
   placing-run =
       let hs : List Handed = value i32 (pos 0) (u 0) ∷ value StridesType.the_row z0-strides (StridesLaws.lowered z0-strides) ∷ value usize 1 (vint w64 1) ∷ value RowsType.the_row z0-rows (RowsLaws.lowered z0-rows) ∷ [] in
       let fit : Fit hs = ((refl, lit< tt), (z0-strides-are, ((refl, lit< tt), (z0-rows-are, tt)))) in
-      ∥∥₁_map (e.placed (pos 0) z0-strides 1 z0-rows (u 0) (StridesLaws.lowered z0-strides) (vint w64 1) (RowsLaws.lowered z0-rows) fit start All (lies-too ftrue tt tt)) (λ k. (clock_in k.0, Run.placed {strides = z0-strides} {n = 1} {rows = z0-rows} (ran-of All fit (lies-too ftrue tt tt) k), refl))
+      ∥∥₁_map (e.placed (pos 0) z0-strides 1 z0-rows (u 0) (StridesLaws.lowered z0-strides) (vint w64 1) (RowsLaws.lowered z0-rows) program has.placing fit start All (lies-too ftrue tt tt)) (λ k. (clock_in k.0, Run.placed {strides = z0-strides} {n = 1} {rows = z0-rows} (ran-of program has.placing All fit (lies-too ftrue tt tt) k), refl))
 
   date-run : Next v (Date 1976 7) (function date_code.name date_code.code)
   date-run =
       let fit : Fit (value u32 1976 (u 1976) ∷ value u32 7 (u 7) ∷ []) = ((refl, lit< tt), ((refl, lit< tt), tt)) in
-      ∥∥₁_map (e.dates 1976 7 (u 1976) (u 7) fit start All (lies-too ftrue tt tt)) (λ k. (clock_in k.0, Run.dates (ran-of All fit (lies-too ftrue tt tt) k), refl))
+      ∥∥₁_map (e.dates 1976 7 (u 1976) (u 7) program has.date fit start All (lies-too ftrue tt tt)) (λ k. (clock_in k.0, Run.dates (ran-of program has.date All fit (lies-too ftrue tt tt) k), refl))
 
   height-run : Next v (Height 0) (function height_code.name height_code.code)
   height-run =
       let fit : Fit (value u32 0 (u 0) ∷ []) = ((refl, lit< tt), tt) in
-      ∥∥₁_map (e.heights 0 (u 0) fit start All (lies-too ftrue tt tt)) (λ k. (v, Run.heights (ran-of All fit (lies-too ftrue tt tt) k), refl))
+      ∥∥₁_map (e.heights 0 (u 0) program has.height fit start All (lies-too ftrue tt tt)) (λ k. (v, Run.heights (ran-of program has.height All fit (lies-too ftrue tt tt) k), refl))
 
   series-run : Next v (Series 0 1 []) (function series_code.name series_code.code)
   series-run =
       let hs : List Handed = value u32 0 (u 0) ∷ value u32 1 (u 1) ∷ writes i64 [] 0 0 ∷ [] in
       let fit : Fit hs = ((refl, lit< tt), ((refl, lit< tt), ((lit< tt, lit< tt), tt))) in
       let lies : start ⊨ ⟦ lie hs ⟧₀ ∗ All = lies-too (lie hs) (tt, tt) (tt, tt) in
-      ∥∥₁_map (e.serieses 0 1 (u 0) (u 1) [] 0 0 fit start All lies) (λ k. (v, Run.serieses (ran-of All fit lies k), refl))
+      ∥∥₁_map (e.serieses 0 1 (u 0) (u 1) [] 0 0 program has.series fit start All lies) (λ k. (v, Run.serieses (ran-of program has.series All fit lies k), refl))
 
   turns-run : Next v (Turns 0 360 [] []) (function turns_code.name turns_code.code)
   turns-run =
       let hs : List Handed = value u32 0 (u 0) ∷ value u32 360 (u 360) ∷ writes u32 [] 0 0 ∷ writes i64 [] 0 0 ∷ [] in
       let fit : Fit hs = ((refl, lit< tt), ((refl, lit< tt), ((lit< tt, lit< tt), ((lit< tt, lit< tt), tt)))) in
       let lies : start ⊨ ⟦ lie hs ⟧₀ ∗ All = lies-too (lie hs) (tt, (tt, tt)) (tt, (tt, tt)) in
-      ∥∥₁_map (e.searches 0 360 (u 0) (u 360) [] 0 0 [] 0 0 fit start All lies) (λ k. (v, Run.searches (ran-of All fit lies k), refl))
+      ∥∥₁_map (e.searches 0 360 (u 0) (u 360) [] 0 0 [] 0 0 program has.turns fit start All lies) (λ k. (v, Run.searches (ran-of program has.turns All fit lies k), refl))
 
   year-run : Next v (Year year-sheet [] [] []) (function year_code.name year_code.code)
   year-run =
       let hs : List Handed = value SheetType.the_row year-sheet (SheetLaws.lowered year-sheet) ∷ writes i64 [] 0 0 ∷ writes u32 [] 0 0 ∷ writes i64 [] 0 0 ∷ [] in
       let fit : Fit hs = (year-sheet-is, ((lit< tt, lit< tt), ((lit< tt, lit< tt), ((lit< tt, lit< tt), tt)))) in
       let lies : start ⊨ ⟦ lie hs ⟧₀ ∗ All = lies-too (lie hs) (tt, (tt, (tt, tt))) (tt, (tt, (tt, tt))) in
-      ∥∥₁_map (e.years year-sheet (SheetLaws.lowered year-sheet) [] 0 0 [] 0 0 [] 0 0 fit start All lies) (λ k. (v, Run.years {sheet = year-sheet} (ran-of All fit lies k), refl))
+      ∥∥₁_map (e.years year-sheet (SheetLaws.lowered year-sheet) [] 0 0 [] 0 0 [] 0 0 program has.year fit start All lies) (λ k. (v, Run.years {sheet = year-sheet} (ran-of program has.year All fit lies k), refl))
 
   bookings-run : Next v (Bookings three_minutes three_places) (function booking_code.name booking_code.code)
   bookings-run =
       ∥∥₁_elim booked-lie ∥∥₁_prop (λ r.
       let fit : Fit (booked r.0 r.1) = booked-fit r.0 r.1 in
-      ∥∥₁_map (e.bookings three_minutes full_share r.0 0 three_places r.1 0 fit r.2 All r.3) (λ k. (v, Run.bookings {q = full_share} (ran-from r.2 All fit r.3 k), refl)))
+      ∥∥₁_map (e.bookings three_minutes full_share r.0 0 three_places r.1 0 program has.booking fit r.2 All r.3) (λ k. (v, Run.bookings {q = full_share} (ran-from program has.booking r.2 All fit r.3 k), refl)))
 
   hourly-run : Next v cards_asked (function hourly_code.name hourly_code.code)
   hourly-run =
       ∥∥₁_elim carding-lie ∥∥₁_prop (λ r.
-      ∥∥₁_map (e.hourlies station_number (u station_number) (stars 4_300) r.0 0 (carding-fit r.0) r.1 All r.2) (λ k. (v, Run.hourlies (ran-from r.1 All (carding-fit r.0) r.2 k), refl)))
+      ∥∥₁_map (e.hourlies station_number (u station_number) (stars 4_300) r.0 0 program has.hourly (carding-fit r.0) r.1 All r.2) (λ k. (v, Run.hourlies (ran-from program has.hourly r.1 All (carding-fit r.0) r.2 k), refl)))
 
   names-run : Next v Names (function names_code.name names_code.code)
-  names-run = ∥∥₁_map (e.hands tt start All (lies-too ftrue tt tt)) (λ k. (v, Run.hands (ran-of All tt (lies-too ftrue tt tt) k), refl))
+  names-run = ∥∥₁_map (e.hands program has.names tt start All (lies-too ftrue tt tt)) (λ k. (v, Run.hands (ran-of program has.names All tt (lies-too ftrue tt tt) k), refl))
 
   -- ---- the clock's value laid into memory, beside what is handed over, and lent
 
@@ -358,33 +358,33 @@ module _ (v : Val) (e : EveryCallEnds v) where
   held-cards-run =
       ∥∥₁_elim (with-clock start ⟦ lie (reads u8 full_share small_file 0 0 ∷ []) ⟧₀ Rest start-lies) ∥∥₁_prop (λ m.
       let fit : Fit (changes ClockType.the_row v m.0 0 ∷ reads u8 full_share small_file 0 0 ∷ []) = (file-has-room, tt) in
-      ∥∥₁_map (e.held_loads m.0 0 small_file full_share 0 0 fit m.1 Rest m.2) (λ k. (clock_at k.1 m.0 0, Run.held_loads {q = full_share} (ran-from m.1 Rest fit m.2 k), refl)))
+      ∥∥₁_map (e.held_loads m.0 0 small_file full_share 0 0 program has.held_load fit m.1 Rest m.2) (λ k. (clock_at k.1 m.0 0, Run.held_loads {q = full_share} (ran-from program has.held_load m.1 Rest fit m.2 k), refl)))
 
   held-station-run : Next v (Station z0-station) (function held_station_code.name held_station_code.code)
   held-station-run =
       ∥∥₁_elim (laid-to-read RecordType.the_row record-lays z0-records (RecordLaws.lowered z0-record ∷ []) (z0-is, tt) [] start All (lies-too ftrue tt tt)) ∥∥₁_prop (λ r.
       ∥∥₁_elim (with-clock r.1 ⟦ lie (reads RecordType.the_row full_share z0-records r.0 0 ∷ []) ⟧₀ All r.2) ∥∥₁_prop (λ m.
       let fit : Fit (changes ClockType.the_row v m.0 0 ∷ value i32 (pos 0) (u 0) ∷ value StridesType.the_row z0-strides (StridesLaws.lowered z0-strides) ∷ reads RecordType.the_row full_share z0-records r.0 0 ∷ []) = ((refl, lit< tt), (z0-strides-are, ((lit< tt, lit< tt), tt))) in
-      ∥∥₁_map (e.held_stations m.0 0 (pos 0) z0-strides (u 0) (StridesLaws.lowered z0-strides) z0-records full_share r.0 0 fit m.1 All m.2) (λ k.
-      (clock_at k.1 m.0 0, Run.held_stations {strides = z0-strides} {q = full_share} (ran-from m.1 All fit m.2 k), refl))))
+      ∥∥₁_map (e.held_stations m.0 0 (pos 0) z0-strides (u 0) (StridesLaws.lowered z0-strides) z0-records full_share r.0 0 program has.held_station fit m.1 All m.2) (λ k.
+      (clock_at k.1 m.0 0, Run.held_stations {strides = z0-strides} {q = full_share} (ran-from program has.held_station m.1 All fit m.2 k), refl))))
 
   held-date-run : Next v (Date 1976 7) (function held_date_code.name held_date_code.code)
   held-date-run =
       ∥∥₁_elim (with-clock start ⟦ ftrue ⟧₀ All (lies-too ftrue tt tt)) ∥∥₁_prop (λ m.
       let fit : Fit (changes ClockType.the_row v m.0 0 ∷ value u32 1976 (u 1976) ∷ value u32 7 (u 7) ∷ []) = ((refl, lit< tt), ((refl, lit< tt), tt)) in
-      ∥∥₁_map (e.held_dates m.0 0 1976 7 (u 1976) (u 7) fit m.1 All m.2) (λ k. (clock_at k.1 m.0 0, Run.held_dates (ran-from m.1 All fit m.2 k), refl)))
+      ∥∥₁_map (e.held_dates m.0 0 1976 7 (u 1976) (u 7) program has.held_date fit m.1 All m.2) (λ k. (clock_at k.1 m.0 0, Run.held_dates (ran-from program has.held_date m.1 All fit m.2 k), refl)))
 
   lent-height-run : Next v (Height 0) (function lent_height_code.name lent_height_code.code)
   lent-height-run =
       ∥∥₁_elim (with-clock start ⟦ ftrue ⟧₀ All (lies-too ftrue tt tt)) ∥∥₁_prop (λ m.
       let fit : Fit (sees ClockType.the_row full_share v m.0 0 ∷ value u32 0 (u 0) ∷ []) = ((refl, lit< tt), tt) in
-      ∥∥₁_map (e.lent_heights full_share m.0 0 0 (u 0) fit m.1 All m.2) (λ k. (v, Run.lent_heights (ran-from m.1 All fit m.2 k), refl)))
+      ∥∥₁_map (e.lent_heights full_share m.0 0 0 (u 0) program has.lent_height fit m.1 All m.2) (λ k. (v, Run.lent_heights (ran-from program has.lent_height m.1 All fit m.2 k), refl)))
 
   held-height-run : Next v (Height 0) (function held_height_code.name held_height_code.code)
   held-height-run =
       ∥∥₁_elim (with-clock start ⟦ ftrue ⟧₀ All (lies-too ftrue tt tt)) ∥∥₁_prop (λ m.
       let fit : Fit (sees ClockType.the_row full_share v m.0 0 ∷ value u32 0 (u 0) ∷ []) = ((refl, lit< tt), tt) in
-      ∥∥₁_map (e.held_heights full_share m.0 0 0 (u 0) fit m.1 All m.2) (λ k. (v, Run.held_heights (ran-from m.1 All fit m.2 k), refl)))
+      ∥∥₁_map (e.held_heights full_share m.0 0 0 (u 0) program has.held_height fit m.1 All m.2) (λ k. (v, Run.held_heights (ran-from program has.held_height m.1 All fit m.2 k), refl)))
 
   held-series-run : Next v (Series 0 1 (pos 0 ∷ [])) (function held_series_code.name held_series_code.code)
   held-series-run =
@@ -392,14 +392,14 @@ module _ (v : Val) (e : EveryCallEnds v) where
       let place : List Handed = writes i64 (pos 0 ∷ []) r.0 0 ∷ [] in
       ∥∥₁_elim (with-clock r.1 ⟦ lie place ⟧₀ All r.2) ∥∥₁_prop (λ m.
       let fit : Fit (sees ClockType.the_row full_share v m.0 0 ∷ value u32 0 (u 0) ∷ value u32 1 (u 1) ∷ place) = ((refl, lit< tt), ((refl, lit< tt), ((lit< tt, lit< tt), tt))) in
-      ∥∥₁_map (e.held_serieses full_share m.0 0 0 1 (u 0) (u 1) (pos 0 ∷ []) r.0 0 fit m.1 All m.2) (λ k. (v, Run.held_serieses (ran-from m.1 All fit m.2 k), refl))))
+      ∥∥₁_map (e.held_serieses full_share m.0 0 0 1 (u 0) (u 1) (pos 0 ∷ []) r.0 0 program has.held_series fit m.1 All m.2) (λ k. (v, Run.held_serieses (ran-from program has.held_series m.1 All fit m.2 k), refl))))
 
   held-turns-run : Next v (Turns 0 360 [] []) (function held_turns_code.name held_turns_code.code)
   held-turns-run =
       let none : List Handed = writes u32 [] 0 0 ∷ writes i64 [] 0 0 ∷ [] in
       ∥∥₁_elim (with-clock start ⟦ lie none ⟧₀ All (lies-too (lie none) (tt, (tt, tt)) (tt, (tt, tt)))) ∥∥₁_prop (λ m.
       let fit : Fit (sees ClockType.the_row full_share v m.0 0 ∷ value u32 0 (u 0) ∷ value u32 360 (u 360) ∷ none) = ((refl, lit< tt), ((refl, lit< tt), ((lit< tt, lit< tt), ((lit< tt, lit< tt), tt)))) in
-      ∥∥₁_map (e.held_searches full_share m.0 0 0 360 (u 0) (u 360) [] 0 0 [] 0 0 fit m.1 All m.2) (λ k. (v, Run.held_searches (ran-from m.1 All fit m.2 k), refl)))
+      ∥∥₁_map (e.held_searches full_share m.0 0 0 360 (u 0) (u 360) [] 0 0 [] 0 0 program has.held_turns fit m.1 All m.2) (λ k. (v, Run.held_searches (ran-from program has.held_turns m.1 All fit m.2 k), refl)))
 
   held-year-run : Next v (Year year-sheet (pos 0 ∷ []) [] []) (function held_year_code.name held_year_code.code)
   held-year-run =
@@ -409,34 +409,34 @@ module _ (v : Val) (e : EveryCallEnds v) where
       ∥∥₁_elim (with-clock r.1 ⟦ lie lent ⟧₀ All r.2) ∥∥₁_prop (λ m.
       let numbers : List Handed = value u32 1976 (u 1976) ∷ value u32 0 (u 0) ∷ value u32 1 (u 1) ∷ value u32 0 (u 0) ∷ value u32 360 (u 360) ∷ lent in
       let fit : Fit (sees ClockType.the_row full_share v m.0 0 ∷ numbers) = ((refl, lit< tt), ((refl, lit< tt), ((refl, lit< tt), ((refl, lit< tt), ((refl, lit< tt), ((lit< tt, lit< tt), ((lit< tt, lit< tt), ((lit< tt, lit< tt), tt)))))))) in
-      ∥∥₁_map (e.held_years full_share m.0 0 year-sheet (u 1976) (u 0) (u 1) (u 0) (u 360) (pos 0 ∷ []) r.0 0 [] 0 0 [] 0 0 fit m.1 All m.2) (λ k.
-      (v, Run.held_years {sheet = year-sheet} (ran-from m.1 All fit m.2 k), refl))))
+      ∥∥₁_map (e.held_years full_share m.0 0 year-sheet (u 1976) (u 0) (u 1) (u 0) (u 360) (pos 0 ∷ []) r.0 0 [] 0 0 [] 0 0 program has.held_year fit m.1 All m.2) (λ k.
+      (v, Run.held_years {sheet = year-sheet} (ran-from program has.held_year m.1 All fit m.2 k), refl))))
 
   lent-bookings-run : Next v (Bookings three_minutes three_places) (function lent_booking_code.name lent_booking_code.code)
   lent-bookings-run =
       ∥∥₁_elim booked-lie ∥∥₁_prop (λ r.
       ∥∥₁_elim (with-clock r.2 ⟦ lie (booked r.0 r.1) ⟧₀ All r.3) ∥∥₁_prop (λ m.
       let fit : Fit (sees ClockType.the_row full_share v m.0 0 ∷ booked r.0 r.1) = booked-fit r.0 r.1 in
-      ∥∥₁_map (e.lent_bookings full_share m.0 0 three_minutes full_share r.0 0 three_places r.1 0 fit m.1 All m.2) (λ k. (v, Run.lent_bookings {q = full_share} (ran-from m.1 All fit m.2 k), refl))))
+      ∥∥₁_map (e.lent_bookings full_share m.0 0 three_minutes full_share r.0 0 three_places r.1 0 program has.lent_booking fit m.1 All m.2) (λ k. (v, Run.lent_bookings {q = full_share} (ran-from program has.lent_booking m.1 All fit m.2 k), refl))))
 
   held-bookings-run : Next v (Bookings three_minutes three_places) (function held_booking_code.name held_booking_code.code)
   held-bookings-run =
       ∥∥₁_elim booked-lie ∥∥₁_prop (λ r.
       ∥∥₁_elim (with-clock r.2 ⟦ lie (booked r.0 r.1) ⟧₀ All r.3) ∥∥₁_prop (λ m.
       let fit : Fit (sees ClockType.the_row full_share v m.0 0 ∷ booked r.0 r.1) = booked-fit r.0 r.1 in
-      ∥∥₁_map (e.held_bookings full_share m.0 0 three_minutes full_share r.0 0 three_places r.1 0 fit m.1 All m.2) (λ k. (v, Run.held_bookings {q = full_share} (ran-from m.1 All fit m.2 k), refl))))
+      ∥∥₁_map (e.held_bookings full_share m.0 0 three_minutes full_share r.0 0 three_places r.1 0 program has.held_booking fit m.1 All m.2) (λ k. (v, Run.held_bookings {q = full_share} (ran-from program has.held_booking m.1 All fit m.2 k), refl))))
 
   held-hourly-run : Next v cards_asked (function held_hourly_code.name held_hourly_code.code)
   held-hourly-run =
       ∥∥₁_elim carding-lie ∥∥₁_prop (λ r.
       ∥∥₁_elim (with-clock r.1 ⟦ lie (carding r.0) ⟧₀ All r.2) ∥∥₁_prop (λ m.
       let fit : Fit (sees ClockType.the_row full_share v m.0 0 ∷ carding r.0) = carding-fit r.0 in
-      ∥∥₁_map (e.held_hourlies full_share m.0 0 station_number (u station_number) (stars 4_300) r.0 0 fit m.1 All m.2) (λ k. (v, Run.held_hourlies (ran-from m.1 All fit m.2 k), refl))))
+      ∥∥₁_map (e.held_hourlies full_share m.0 0 station_number (u station_number) (stars 4_300) r.0 0 program has.held_hourly fit m.1 All m.2) (λ k. (v, Run.held_hourlies (ran-from program has.held_hourly m.1 All fit m.2 k), refl))))
 
   held-names-run : Next v Names (function held_names_code.name held_names_code.code)
   held-names-run =
       ∥∥₁_elim (with-clock start ⟦ ftrue ⟧₀ All (lies-too ftrue tt tt)) ∥∥₁_prop (λ m.
-      ∥∥₁_map (e.held_hands full_share m.0 0 tt m.1 All m.2) (λ k. (v, Run.held_hands (ran-from m.1 All tt m.2 k), refl)))
+      ∥∥₁_map (e.held_hands full_share m.0 0 program has.held_names tt m.1 All m.2) (λ k. (v, Run.held_hands (ran-from program has.held_names m.1 All tt m.2 k), refl)))
 
 -- ---- one after another
 
@@ -450,28 +450,28 @@ unfolding one_more
 one-more-routine Runs.done x = refl
 one-more-routine (y then ys) x = ap (◌∷◌ (routine_of y)) (one-more-routine ys x)
 
-abbrev Reached : Val → List Request → List Routine → Type 2
+abbrev Reached : Val → List Request → List Function → Type 2
 Reached vc qs fs = ∥ ((vc' : Val) × (xs : Runs vc qs vc') × (routines_of xs ≡ fs)) ∥₁
 
-module _ (always : AlwaysEnds) where
-  next : {vc : Val} {q : Request} {f : Routine} (qs : List Request) {fs : List Routine} → Started vc → ((v : Val) → EveryCallEnds v → Next v q f) → Reached vc qs fs → Reached vc (qs ++ q ∷ []) (fs ++ f ∷ [])
+module _ (program : Env) (has : HasTheClock program) (always : AlwaysEnds) where
+  next : {vc : Val} {q : Request} {f : Function} (qs : List Request) {fs : List Function} → Started vc → ((v : Val) → EveryCallEnds v → Next v q f) → Reached vc qs fs → Reached vc (qs ++ q ∷ []) (fs ++ f ∷ [])
   next {vc} qs started one xs =
       ∥∥₁_elim xs ∥∥₁_prop (λ x. ∥∥₁_elim (always.then vc x.0 qs started x.1) ∥∥₁_prop (λ ends. ∥∥₁_map (one x.0 ends) (λ y.
-      (y.0, one_more x.1 y.1, one-more-routine x.1 y.1 ∙ ap₂ (λ (gs : List Routine) (g : Routine). gs ++ g ∷ []) x.2 y.2))))
+      (y.0, one_more x.1 y.1, one-more-routine x.1 y.1 ∙ ap₂ (λ (gs : List Function) (g : Function). gs ++ g ∷ []) x.2 y.2))))
 
   -- the calls of the list, the last one first
   pub all-reached : (vc : Val) → Started vc → Reached vc accepted_calls accepted_routines
   all-reached vc s =
-      next _ s held-names-run (next _ s held-hourly-run (next _ s held-bookings-run (next _ s lent-bookings-run (next _ s held-year-run (next _ s held-turns-run (next _ s held-series-run (next _ s held-height-run (next _ s lent-height-run (next _ s held-date-run (next _ s held-station-run (next _ s held-cards-run (next _ s names-run (next _ s hourly-run (
-      next _ s bookings-run (next _ s year-run (next _ s turns-run (next _ s series-run (next _ s height-run (next _ s date-run (next _ s placing-run (next _ s station-run (next [] s cards-run ∣ (vc, Runs.done, refl) ∣₁))))))))))))))))))))))
+      next _ s (held-names-run program has) (next _ s (held-hourly-run program has) (next _ s (held-bookings-run program has) (next _ s (lent-bookings-run program has) (next _ s (held-year-run program has) (next _ s (held-turns-run program has) (next _ s (held-series-run program has) (next _ s (held-height-run program has) (next _ s (lent-height-run program has) (next _ s (held-date-run program has) (next _ s (held-station-run program has) (next _ s (held-cards-run program has) (next _ s (names-run program has) (next _ s (hourly-run program has) (
+      next _ s (bookings-run program has) (next _ s (year-run program has) (next _ s (turns-run program has) (next _ s (series-run program has) (next _ s (height-run program has) (next _ s (date-run program has) (next _ s (placing-run program has) (next _ s (station-run program has) (next [] s (cards-run program has) ∣ (vc, Runs.done, refl) ∣₁))))))))))))))))))))))
 
   -- each `new` is run
   pub new-run : ∥ Ran (function new_code.name new_code.code) [] [] ∥₁
-  new-run = ∥∥₁_map (always.new tt start All (lies-too ftrue tt tt)) (ran-of All tt (lies-too ftrue tt tt))
+  new-run = ∥∥₁_map (always.new program has.new tt start All (lies-too ftrue tt tt)) (ran-of program has.new All tt (lies-too ftrue tt tt))
 
   pub held-new-run : ∥ ((b : ℕ) × Ran (function held_new_code.name held_new_code.code) [] (changes ClockType.the_row (zero_of ClockLaws.mir) b 0 ∷ [])) ∥₁
   held-new-run =
       ∥∥₁_elim (laid ClockType.the_row (clock-means zeroed (zero_of ClockLaws.mir) zeros-are-zeroed) clock-lawful start (⟦ ftrue ⟧₀ ∗ All) (lies-too ftrue tt tt)) ∥∥₁_prop (λ m.
       let clock : Assertion = ⟦ At ClockType.the_row full_share (zero_of ClockLaws.mir) m.0 0 ⟧₀ in
       let lies : m.1 ⊨ (clock ∗ ⟦ ftrue ⟧₀) ∗ All = sat_weaken w₀.𝓤 w₀.𝓛.H w₀.𝓜 m.1 (assoc' w₀.𝓤 clock ⟦ ftrue ⟧₀ All) m.2 in
-      ∥∥₁_map (always.held_new zeroed (zero_of ClockLaws.mir) zeros-are-zeroed m.0 0 tt m.1 All lies) (λ k. (m.0, ran-from m.1 All tt lies k)))
+      ∥∥₁_map (always.held_new zeroed (zero_of ClockLaws.mir) zeros-are-zeroed m.0 0 program has.held_new tt m.1 All lies) (λ k. (m.0, ran-from program has.held_new m.1 All tt lies k)))

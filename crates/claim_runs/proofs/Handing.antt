@@ -8,7 +8,8 @@ use mir.Val.{Val}
 use base.Logic.{ent, ex, emp, id⊢, via, mono_l, mono∗, fst∗, snd∗}
 use prog.Memory.{Memory}
 use prog.Routine as routines
-use prog.Routine.{Routine, ◌≼◌}
+use prog.Routine.{Env}
+use prog.Wired.{Wired}
 use types.Logic.{Logic}
 use contract.Adequate.{sat_weaken, sat_⇛, sat_ex∗, sat_fact}
 use denote.Laws.{Is}
@@ -20,7 +21,7 @@ use denote.Triple.Clauses.{Ended, Lasts, lasts}
 use denote.Triple.Entry.{Res, alive}
 use borrow.Fn.World.{w₀}
 use Rattle.claim.specs.Calls.{ClausesOf, Once}
-use Rattle.claim_runs.specs.Handed.{Assertion, ◌∗◌, ⟦◌⟧₀, ◌⊨◌, Handed, passed, Fit, lie, lie_after}
+use Rattle.claim_runs.specs.Handed.{Assertion, ◌∗◌, ⟦◌⟧₀, ◌⊨◌, Function, Handed, passed, Fit, lie, lie_after}
 use Rattle.claim_runs.proofs.Lending.{Meant, Names, types_of, denotes, values_of, lender, Lasting, ends, AsMany, as_many, lie_again, written, Stand, stand, Made, tokens, Lent, lend-all, lie-after, hand-over, hand-back}
 use Rattle.claim_runs.proofs.Ran.{Theorem, Entry, Ghosts, Brings, Returned, returns, every-return}
 
@@ -96,7 +97,7 @@ module _ (T : Ended) (C : ClausesOf T) (hs : List Handed) (ms : Meant hs) where
           stand = stand hs ms ls lying;
         }))
 
-    module _ (f : Routine) (met : Theorem T C f) (made : Made w₀.𝓛 hs) (holds : emp w₀.𝓤 ⊢ Q) (fit : Fit hs) (σ : Memory) (F : Assertion) (s : σ ⊨ ⟦ lie hs ⟧₀ ∗ F) where
+    module _ (f : Function) (met : Theorem T C f) (γ : Env) (has : Wired γ f.code) (made : Made w₀.𝓛 hs) (holds : emp w₀.𝓤 ⊢ Q) (fit : Fit hs) (σ : Memory) (F : Assertion) (s : σ ⊨ ⟦ lie hs ⟧₀ ∗ F) where
       lent_out : ∥ ((ns : Names hs) × (σ ⊨ Brings T C (entry ns) (ghosts ns) ∗ (⟦ lender hs ms ns ⟧₀ ∗ F))) ∥₁
       lent_out =
           ∥∥₁_map (sat_ex∗ w₀.𝓤 w₀.𝓛.H w₀.𝓜 σ (Lent w₀.𝓛 0 hs ms) F
@@ -107,14 +108,14 @@ module _ (T : Ended) (C : ClausesOf T) (hs : List Handed) (ms : Meant hs) where
                 (sat_weaken w₀.𝓤 w₀.𝓛.H w₀.𝓜 σ (hand-over W₀ 0 hs ms p.0 Q F holds) p.1),
           ))
 
-      pub comes : ∥ ((v : Val) × (σ' : Memory) × routines.ends f (passed hs) σ v σ' × Came v σ' F) ∥₁
+      pub comes : ∥ ((v : Val) × (σ' : Memory) × routines.ends (γ f.name) (passed hs) σ v σ' × Came v σ' F) ∥₁
       comes =
           ∥∥₁_elim lent_out ∥∥₁_prop (λ p.
-          ∥∥₁_elim (returns T C (entry p.0) (ghosts p.0) f met σ (⟦ lender hs ms p.0 ⟧₀ ∗ F) p.1) ∥∥₁_prop (λ k.
-          ∥∥₁_map (came p.0 k.0 k.1 F k.3) (λ c. (k.0, k.1, subst (λ (vs : List Val). routines.ends f vs σ k.0 k.1) (takes.enters p.0).2 k.2, c))))
+          ∥∥₁_elim (returns T C (entry p.0) (ghosts p.0) f met γ has σ (⟦ lender hs ms p.0 ⟧₀ ∗ F) p.1) ∥∥₁_prop (λ k.
+          ∥∥₁_map (came p.0 k.0 k.1 F k.3) (λ c. (k.0, k.1, subst (λ (vs : List Val). routines.ends (γ f.name) vs σ k.0 k.1) (takes.enters p.0).2 k.2, c))))
 
-      pub every-comes : (f' : Routine) → f ≼ f' → (v : Val) (σ' : Memory) → routines.ends f' (passed hs) σ v σ' → ∥ Came v σ' F ∥₁
-      every-comes f' below v σ' run =
+      pub every-comes : (v : Val) (σ' : Memory) → routines.ends (γ f.name) (passed hs) σ v σ' → ∥ Came v σ' F ∥₁
+      every-comes v σ' run =
           ∥∥₁_elim lent_out ∥∥₁_prop (λ p.
-          ∥∥₁_elim (every-return T C (entry p.0) (ghosts p.0) f met σ (⟦ lender hs ms p.0 ⟧₀ ∗ F) p.1 f' below v σ'
-          (subst (λ (vs : List Val). routines.ends f' vs σ v σ') (sym (takes.enters p.0).2) run)) ∥∥₁_prop (came p.0 v σ' F))
+          ∥∥₁_elim (every-return T C (entry p.0) (ghosts p.0) f met γ has σ (⟦ lender hs ms p.0 ⟧₀ ∗ F) p.1 v σ'
+          (subst (λ (vs : List Val). routines.ends (γ f.name) vs σ v σ') (sym (takes.enters p.0).2) run)) ∥∥₁_prop (came p.0 v σ' F))

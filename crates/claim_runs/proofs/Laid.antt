@@ -9,7 +9,7 @@ use lib.Dec.{T}
 use lib.ListN.{length}
 use seplogic.Bi.Sat
 use seplogic.Bi.Sat.{Sat}
-use seplogic.Ra.TreeShare.{full_share}
+use base.Fraction.{full_share}
 use mir.Syntax.{Ty, ty_array}
 use mir.Val.{Val, WT, has_ty}
 use base.Logic.{ent, emp, id⊢, ex, guard, upd, via, mono_l, mono_r, assoc∗, assoc', fst∗, snd∗, ex∗, ex_i, guard_e, Sat_exists, upd_mono, upd_frame}
@@ -87,7 +87,7 @@ all-cells : (R : RattleType) (xs : List R.Denot) (b o : ℕ) → ent w₀.𝓤 �
 all-cells R [] b o = id⊢ w₀.𝓤 (emp w₀.𝓤)
 all-cells R (x ∷ xs) b o = mono_r w₀.𝓤 ⟦ part_at R full_share x b o ⟧₀ (all-cells R xs b (o + (mem R).size))
 
-module _ (R : RattleType) (lays : Lays R) (xs : List R.Denot) (us : List Val) (are : shadow (each R.Denot R.own xs us)) (hs : List Handed) (σ : Memory) (F : Assertion) (s : σ ⊨ ⟦ lie hs ⟧₀ ∗ F) where
+module _ (R : RattleType) (lays : Lays R) (xs : List R.Denot) (us : List Val) (are : shadow (each R.Denot R.own_val xs us)) (hs : List Handed) (σ : Memory) (F : Assertion) (s : σ ⊨ ⟦ lie hs ⟧₀ ∗ F) where
   abbrev n : ℕ
   n = length xs
 
@@ -101,13 +101,13 @@ module _ (R : RattleType) (lays : Lays R) (xs : List R.Denot) (us : List Val) (a
 
   apart : (b : ℕ) → ent w₀.𝓤 ⟦ At (Array R n) full_share (array_val us) b 0 ⟧₀ ⟦ Lie R full_share xs b 0 ⟧₀
   apart b =
-      via w₀.𝓤 ⟦ part_at (Array R n) full_share xs b 0 ⟧₀ (owns-too W₀ (Array R n) full_share array b 0 (Array-Makes w₀.𝓛 W₀ R lays.makes n))
-      (Array-apart w₀.𝓛 W₀ R full_share (subst Single (sym lays.lowers.layout_is) tt) n xs b 0)
+      via w₀.𝓤 ⟦ part_at (Array R n) full_share xs b 0 ⟧₀ (owns-too W₀ (Array R n) full_share array b 0 (Array-Makes w₀.𝓛 R lays.makes n))
+      (Array-apart w₀.𝓛 R full_share (subst Single (sym lays.lowers.layout_is) tt) n xs b 0)
 
   -- in front of what else is handed over
   laid-in-front : (P : ℕ → Fml) → ((b : ℕ) → ent w₀.𝓤 ⟦ Lie R full_share xs b 0 ⟧₀ ⟦ P b ⟧₀) → ∥ ((b : ℕ) × (σ' : Memory) × (σ' ⊨ (⟦ P b ⟧₀ ∗ ⟦ lie hs ⟧₀) ∗ F)) ∥₁
   laid-in-front P so =
-      ∥∥₁_map (laid (Array R n) array (Array-Lawful w₀.𝓛 W₀ R lays.lawful n) σ (⟦ lie hs ⟧₀ ∗ F) s) (λ p. (
+      ∥∥₁_map (laid (Array R n) array (Array-Lawful w₀.𝓛 R lays.lawful n) σ (⟦ lie hs ⟧₀ ∗ F) s) (λ p. (
         p.0,
         p.1,
         sat_weaken w₀.𝓤 w₀.𝓛.H w₀.𝓜 p.1

@@ -5,30 +5,36 @@ use mathlib.Core.List.{List, [], ◌∷◌}
 use mathlib.Core.Path.{◌≡◌, refl, sym, subst, ◌∙◌}
 use lib.ListN.{length}
 use seplogic.Ra.Ura.{Ura}
-use seplogic.Ra.TreeShare.{full_share}
+use base.Fraction.{full_share}
 use mir.Syntax.{named}
 use mir.Val.{Val, vptr}
 use base.Logic.{SProp, ent, sep, ex, emp, id⊢, via, mono_r, mono∗}
-use base.Fml.{GName, Share, Fml, ftrue, feq, fsep, fres, flft, flent}
-use types.Logic.{Logic, sem}
+use base.Fml.{GName, Share, Fml, ftrue, feq, fsep, fres, flft, flent, fbor, Incl-refl}
+use types.Logic.{Logic, sem, lfts}
+use ghost.Rules.{Toks}
 use contract.Lifetimes.{Lfts, Shares}
-use types.Kit.{‵, raw, ◌⊛◌, some, later, ◌$◌, ◌∵◌, !, qed, move, keep, drop, rewrite, use0, use1, use3, split, join, pick, fsplit, fjoin, fpick, fpack, await, updating, now as at_once, show, done}
+use types.Kit.{‵, raw, ◌⊛◌, some, later, ◌$◌, ◌∵◌, !, qed, move, keep, drop, rewrite, use0, use1, use2, use3, split, join, pick, fsplit, fjoin, fpick, fpack, await, updating, now as at_once, show, done}
 use types.Tokens.{lft_new, lft_end, lent_back}
 use types.SemTy.{cells, Arr, Body}
+use types.Hole.{Holey}
+use denote.Copied.{Copied}
 use denote.RattleType.{RattleType, Denots, Valss, owns}
 use denote.Laws.{Is, Makes, shows}
 use denote.Lend.{Held, lends_slice, slice_back, lends_shr_slice, lends_ref, ref_back, lends_shr}
 use denote.Lowered.{Lowered}
 use denote.Memory.{cell_at, part_at, part_of, mem}
-use denote.Ref.{MutBor, MutRef, ShrRef}
+use denote.Ref.{Bor, MutBor, MutRef, ShrRef}
 use denote.Shadow.{shadow}
 use denote.Slice.{slice_val, MutSlice, ShrSlice, Room, finally}
 use denote.Steps.{owned, facts, nothing}
 use Rattle.claim_runs.specs.Handed.{Handed, value, reads, writes, sees, changes, Fit, Lie, At, lie, Written, lie_after}
 
--- the reference to what lies at (b, o)
+-- the reference to what lies at (b, o): to be written to, and to be read
 abbrev pub lent : {X : Type 0} → ℕ → ℕ → GName → X → MutBor X
 lent b o γ x = record { ref_ptr = (b, o); ghost_name = γ; now = x }
+
+abbrev pub shown : {X : Type 0} → ℕ → ℕ → X → Bor X
+shown b o x = record { ref_ptr = (b, o); now = x }
 
 -- ---- what the structs in memory stand for
 
@@ -94,9 +100,9 @@ types_of j (changes R v b o ∷ hs) ns = MutRef (named j) (ns.0.0 ∷ []) R ∷ 
 abbrev pub denotes : (j : ℕ) (hs : List Handed) → Meant hs → (ns : Names hs) → Denots (types_of j hs ns)
 denotes j [] ms ns = tt
 denotes j (value R x v ∷ hs) ms ns = (x, denotes j hs ms ns)
-denotes j (reads R q ys b o ∷ hs) ms ns = (lent b o ns.0.1 ys, denotes (suc j) hs ms ns.1)
+denotes j (reads R q ys b o ∷ hs) ms ns = (shown b o ys, denotes (suc j) hs ms ns.1)
 denotes j (writes R ys b o ∷ hs) ms ns = (lent b o ns.0.1 ys, denotes (suc j) hs ms ns.1)
-denotes j (sees R q v b o ∷ hs) ms ns = (lent b o ns.0.1 ms.0.it, denotes (suc j) hs ms.1 ns.1)
+denotes j (sees R q v b o ∷ hs) ms ns = (shown b o ms.0.it, denotes (suc j) hs ms.1 ns.1)
 denotes j (changes R v b o ∷ hs) ms ns = (lent b o ns.0.1 ms.0.it, denotes (suc j) hs ms.1 ns.1)
 
 abbrev pub values_of : (j : ℕ) (hs : List Handed) (ns : Names hs) → Valss (types_of j hs ns)
@@ -131,9 +137,10 @@ abbrev pub ends : (hs : List Handed) → Names hs → Lasting hs → Fml
 ends [] ns ls = ftrue
 ends (value R x v ∷ hs) ns ls = fsep ftrue (ends hs ns ls)
 ends (reads R q ys b o ∷ hs) ns ls = fsep ftrue (ends hs ns.1 ls)
-ends (writes R ys b o ∷ hs) ns ls = fsep (fsep (finally R ns.0.1 ls.0) (feq ℕ (length ls.0) (length ys))) (ends hs ns.1 ls.1)
+ends (writes R ys b o ∷ hs) ns ls =
+    fsep (fsep (fsep (finally R ns.0.1 ls.0) (feq ℕ (length ls.0) (length ys))) (fbor (ns.0.0 ∷ []) (Body (Arr (Holey (mem R)) (length ys)) b o ns.0.1))) (ends hs ns.1 ls.1)
 ends (sees R q v b o ∷ hs) ns ls = fsep ftrue (ends hs ns.1 ls)
-ends (changes R v b o ∷ hs) ns ls = fsep (fres ns.0.1 (R.coded.code ls.0)) (ends hs ns.1 ls.1)
+ends (changes R v b o ∷ hs) ns ls = fsep (fsep (fres ns.0.1 (R.coded.code ls.0)) (fbor (ns.0.0 ∷ []) (Body (mem R) b o ns.0.1))) (ends hs ns.1 ls.1)
 
 -- as many elements as there were
 abbrev pub AsMany : (hs : List Handed) → Lasting hs → Type 0
@@ -148,7 +155,7 @@ pub as_many : (hs : List Handed) (ns : Names hs) (ls : Lasting hs) → shadow (e
 as_many [] ns ls s = tt
 as_many (value R x v ∷ hs) ns ls s = as_many hs ns ls s.1
 as_many (reads R q ys b o ∷ hs) ns ls s = as_many hs ns.1 ls s.1
-as_many (writes R ys b o ∷ hs) ns ls s = (s.0.1, as_many hs ns.1 ls.1 s.1)
+as_many (writes R ys b o ∷ hs) ns ls s = (s.0.0.1, as_many hs ns.1 ls.1 s.1)
 as_many (sees R q v b o ∷ hs) ns ls s = as_many hs ns.1 ls s.1
 as_many (changes R v b o ∷ hs) ns ls s = as_many hs ns.1 ls.1 s.1
 
@@ -200,9 +207,9 @@ module _ {M : Type 1} {𝓤 : Ura M} (𝓛 : Logic 𝓤) where
   abbrev pub Made : List Handed → Type 1
   Made [] = Unit {1}
   Made (value R x v ∷ hs) = Makes 𝓛 R (Is R) × Made hs
-  Made (reads R q ys b o ∷ hs) = Made hs
+  Made (reads R q ys b o ∷ hs) = Copied 𝓛 R × Made hs
   Made (writes R ys b o ∷ hs) = Made hs
-  Made (sees R q v b o ∷ hs) = Makes 𝓛 R (Is R) × Made hs
+  Made (sees R q v b o ∷ hs) = Makes 𝓛 R (Is R) × Copied 𝓛 R × Made hs
   Made (changes R v b o ∷ hs) = Makes 𝓛 R (Is R) × Made hs
 
   abbrev pub tokens : (hs : List Handed) → Names hs → SProp 𝓤
@@ -228,6 +235,16 @@ module _ {M : Type 1} {𝓤 : Ura M} (𝓛 : Logic 𝓤) where
     lend-one P Own Kept rule =
         qed 𝓛 (‵ P ∷ []) ∵ updating ! $ lft_new ! tt (λ α. move ! (1 ∷ []) $ use1 𝓛 (later (some (λ (γ : GName). ‵ (Own α γ) ⊛ ‵ (flent (α ∷ []) (Kept α γ))))) (rule α) $ await ! tt $
         pick ! (λ γ. split ! $ move ! (2 ∷ 0 ∷ 1 ∷ []) $ at_once ! $ show ! (One Own Kept) (α, γ) $ done !))
+
+    abbrev token : ℕ → Toks
+    token α = (α ∷ [], full_share) ∷ []
+
+    -- by the rule that uses the lifetime's token, which comes back
+    lend-shown : (P : Fml) (Own : ℕ → Fml) → ((α : ℕ) → ent 𝓤 (sep 𝓤 ⟦ P ⟧ (lfts 𝓛 (token α))) (H.⇛ (sep 𝓤 (sep 𝓤 ⟦ Own α ⟧ ⟦ flent (α ∷ []) P ⟧) (lfts 𝓛 (token α)))))
+        → ent 𝓤 ⟦ P ⟧ (H.⇛ (ex 𝓤 (One (λ α γ. Own α) (λ α γ. P))))
+    lend-shown P Own rule =
+        qed 𝓛 (‵ P ∷ []) ∵ updating ! $ lft_new ! tt (λ α. move ! (1 ∷ 0 ∷ []) $ use2 𝓛 (later ((‵ (Own α) ⊛ ‵ (flent (α ∷ []) P)) ⊛ ‵ (flft (α ∷ []) full_share))) (rule α) $ await ! tt $
+        split ! $ split ! $ move ! (2 ∷ 0 ∷ 1 ∷ []) $ at_once ! $ show ! (One (λ α γ. Own α) (λ α γ. P)) (α, 0) $ done !)
 
     -- before the others
     abbrev First : (j : ℕ) (hs : List Handed) → Meant hs → (ℕ → GName → Fml) → (ℕ → GName → Fml) → (ℕ × GName) × Names hs → SProp 𝓤
@@ -262,9 +279,9 @@ module _ {M : Type 1} {𝓤 : Ura M} (𝓛 : Logic 𝓤) where
 
     -- a buffer
     take-mut : (R : RattleType) (n : ℕ) (zs : List R.Denot) (b o α : ℕ) (γ : GName)
-        → ent 𝓤 (sep 𝓤 ⟦ flft (α ∷ []) full_share ⟧ (sep 𝓤 ⟦ flent (α ∷ []) (Held R n b o γ) ⟧ ⟦ fsep (finally R γ zs) (feq ℕ (length zs) n) ⟧)) (H.⇛ ⟦ cells (mem R) zs b o ⟧)
+        → ent 𝓤 (sep 𝓤 ⟦ flft (α ∷ []) full_share ⟧ (sep 𝓤 ⟦ flent (α ∷ []) (Held R n b o γ) ⟧ ⟦ fsep (fsep (finally R γ zs) (feq ℕ (length zs) n)) (fbor (α ∷ []) (Body (Arr (Holey (mem R)) n) b o γ)) ⟧)) (H.⇛ ⟦ cells (mem R) zs b o ⟧)
     take-mut R n zs b o α γ =
-        qed 𝓛 (‵ (flft (α ∷ []) full_share) ∷ ‵ (flent (α ∷ []) (Held R n b o γ)) ∷ ‵ (fsep (finally R γ zs) (feq ℕ (length zs) n)) ∷ []) ∵ updating ! $ lft_end ! tt $ move ! (2 ∷ []) $ fsplit ! $ move ! (2 ∷ 3 ∷ 0 ∷ []) $
+        qed 𝓛 (‵ (flft (α ∷ []) full_share) ∷ ‵ (flent (α ∷ []) (Held R n b o γ)) ∷ ‵ (fsep (fsep (finally R γ zs) (feq ℕ (length zs) n)) (fbor (α ∷ []) (Body (Arr (Holey (mem R)) n) b o γ))) ∷ []) ∵ updating ! $ lft_end ! tt $ move ! (2 ∷ []) $ fsplit ! $ fsplit ! $ move ! (3 ∷ 4 ∷ 0 ∷ []) $
         use3 𝓛 (later (‵ ((Arr (mem R) n).own_at zs b o))) (slice_back 𝓛 R (α ∷ []) γ zs n b o) $ await ! tt $ at_once ! $ fsplit ! $ keep ! (1 ∷ []) $ done !
 
     -- a struct: what its type owns is made, and let go
@@ -272,7 +289,7 @@ module _ {M : Type 1} {𝓤 : Ura M} (𝓛 : Logic 𝓤) where
     unfolding part_of
     owns-too R q {v} m b o makes =
         qed 𝓛 (‵ (At R q v b o) ∷ []) ∵ owned ! R (Is R) makes m.it (v ∷ []) m.is $ move ! (1 ∷ 0 ∷ []) $ fjoin ! $
-        fpack ! (List Val) (λ vs. fsep (cell_at q R.mir vs b o) (R.own m.it vs)) (v ∷ []) $ done !
+        fpack ! (List Val) (λ vs. fsep (cell_at q R.mir vs b o) (R.own_val m.it vs)) (v ∷ []) $ done !
 
     only-lies : (R : RattleType) (q : Share) (l : Lowered R) (x : R.Denot) (us : List Val) (b o : ℕ) → us ≡ l.lowered x ∷ [] → ent 𝓤 ⟦ part_at R q x b o ⟧ ⟦ cell_at q R.mir us b o ⟧
     unfolding part_of
@@ -281,10 +298,10 @@ module _ {M : Type 1} {𝓤 : Ura M} (𝓛 : Logic 𝓤) where
         rewrite ! 0 (λ (ws : List Val). ‵ (cell_at q R.mir ws b o)) (l.val_is x vs is ∙ sym e) refl $ done !))
 
     take-changed : (R : RattleType) (x : R.Denot) (b o α : ℕ) (γ : GName)
-        → ent 𝓤 (sep 𝓤 ⟦ flft (α ∷ []) full_share ⟧ (sep 𝓤 ⟦ flent (α ∷ []) (Body (mem R) b o γ) ⟧ ⟦ fres γ (R.coded.code x) ⟧)) (H.⇛ ⟦ part_at R full_share x b o ⟧)
+        → ent 𝓤 (sep 𝓤 ⟦ flft (α ∷ []) full_share ⟧ (sep 𝓤 ⟦ flent (α ∷ []) (Body (mem R) b o γ) ⟧ ⟦ fsep (fres γ (R.coded.code x)) (fbor (α ∷ []) (Body (mem R) b o γ)) ⟧)) (H.⇛ ⟦ part_at R full_share x b o ⟧)
     take-changed R x b o α γ =
-        qed 𝓛 (‵ (flft (α ∷ []) full_share) ∷ ‵ (flent (α ∷ []) (Body (mem R) b o γ)) ∷ ‵ (fres γ (R.coded.code x)) ∷ []) ∵ updating ! $ lft_end ! tt $
-        use3 𝓛 (later (‵ (part_at R full_share x b o))) (ref_back 𝓛 R (α ∷ []) γ x b o) $ await ! tt $ at_once ! $ done !
+        qed 𝓛 (‵ (flft (α ∷ []) full_share) ∷ ‵ (flent (α ∷ []) (Body (mem R) b o γ)) ∷ ‵ (fsep (fres γ (R.coded.code x)) (fbor (α ∷ []) (Body (mem R) b o γ))) ∷ []) ∵ updating ! $ lft_end ! tt $ move ! (2 ∷ []) $ fsplit ! $ move ! (2 ∷ 3 ∷ 0 ∷ []) $
+        use3 𝓛 (later (‵ (part_at R full_share x b o))) (ref_back 𝓛 R (α ∷ []) γ x b o) $ await ! tt $ at_once ! $ keep ! (0 ∷ []) $ done !
 
     -- ---- all of them
 
@@ -297,20 +314,21 @@ module _ {M : Type 1} {𝓤 : Ura M} (𝓛 : Logic 𝓤) where
         pick ! (λ ns. split ! $ move ! (1 ∷ []) $ split ! $ owned ! R (Is R) made.0 x (v ∷ []) fit.0 $ fjoin ! $ move ! (2 ∷ 0 ∷ 1 ∷ []) $
         at_once ! $ show ! (Lent j (value R x v ∷ hs) ms) ns $ done !)
     lend-all j (reads R q ys b o ∷ hs) ms fit made =
-        let Own : ℕ → GName → Fml = λ α γ. (ShrSlice (named j) (α ∷ []) R).own_val (lent b o γ ys) (slice_val (b, o) (length ys) ∷ []) in
+        let Own : ℕ → GName → Fml = λ α γ. (ShrSlice (named j) (α ∷ []) R).own_val (shown b o ys) (slice_val (b, o) (length ys) ∷ []) in
         let Kept : ℕ → GName → Fml = λ α γ. Lie R q ys b o in
-        lend-first (suc j) hs ms (Lie R q ys b o) Own Kept (lend-one (Lie R q ys b o) Own Kept (λ α. lends_shr_slice 𝓛 R (named j) (α ∷ []) q ys b o fit.0)) (lend-all (suc j) hs ms fit.1 made)
+        lend-first (suc j) hs ms (Lie R q ys b o) Own Kept (lend-shown (Lie R q ys b o) (λ α. Own α 0) (λ α. lends_shr_slice 𝓛 R (named j) (α ∷ []) q ys b o fit.0 (α ∷ []) (made.0.shares q (α ∷ [])) (token α) (Incl-refl (α ∷ [])) (Incl-refl (α ∷ [])))) (lend-all (suc j) hs ms fit.1 made.1)
     lend-all j (writes R ys b o ∷ hs) ms fit made =
         let Own : ℕ → GName → Fml = λ α γ. (MutSlice (named j) (α ∷ []) R).own_val (lent b o γ ys) (slice_val (b, o) (length ys) ∷ []) in
         let Kept : ℕ → GName → Fml = λ α γ. Held R (length ys) b o γ in
         lend-first (suc j) hs ms (cells (mem R) ys b o) Own Kept (lend-one (cells (mem R) ys b o) Own Kept (λ α. lends_slice 𝓛 R (named j) (α ∷ []) ys b o fit.0)) (lend-all (suc j) hs ms fit.1 made)
     lend-all j (sees R q v b o ∷ hs) ms fit made =
         let x : R.Denot = ms.0.it in
-        let Own : ℕ → GName → Fml = λ α γ. (ShrRef (named j) (α ∷ []) R).own_val (lent b o γ x) (vptr b o ∷ []) in
+        let Own : ℕ → GName → Fml = λ α γ. (ShrRef (named j) (α ∷ []) R).own_val (shown b o x) (vptr b o ∷ []) in
         let Kept : ℕ → GName → Fml = λ α γ. part_at R q x b o in
         lend-first (suc j) hs ms.1 (At R q v b o) Own Kept
-        (lend-one (At R q v b o) Own Kept (λ α. via 𝓤 ⟦ part_at R q x b o ⟧ (owns-too R q ms.0 b o made.0) (lends_shr 𝓛 R (named j) (α ∷ []) q x b o)))
-        (lend-all (suc j) hs ms.1 fit made.1)
+        (via 𝓤 ⟦ part_at R q x b o ⟧ (owns-too R q ms.0 b o made.0)
+        (lend-shown (part_at R q x b o) (λ α. Own α 0) (λ α. lends_shr 𝓛 R (named j) (α ∷ []) q x b o (α ∷ []) (made.1.shares q (α ∷ []) x) (token α) (Incl-refl (α ∷ [])) (Incl-refl (α ∷ [])))))
+        (lend-all (suc j) hs ms.1 fit made.2)
     lend-all j (changes R v b o ∷ hs) ms fit made =
         let x : R.Denot = ms.0.it in
         let Own : ℕ → GName → Fml = λ α γ. (MutRef (named j) (α ∷ []) R).own_val (lent b o γ x) (vptr b o ∷ []) in
@@ -328,13 +346,13 @@ module _ {M : Type 1} {𝓤 : Ura M} (𝓛 : Logic 𝓤) where
     take_all (reads R q ys b o ∷ hs) ms ns ls =
         take-first hs ms ns.1 ls ns.0.0 (Lie R q ys b o) ftrue (Lie R q ys b o) (take-shr (Lie R q ys b o) ftrue ns.0.0) (take_all hs ms ns.1 ls)
     take_all (writes R ys b o ∷ hs) ms ns ls =
-        take-first hs ms ns.1 ls.1 ns.0.0 (Held R (length ys) b o ns.0.1) (fsep (finally R ns.0.1 ls.0) (feq ℕ (length ls.0) (length ys))) (cells (mem R) ls.0 b o)
+        take-first hs ms ns.1 ls.1 ns.0.0 (Held R (length ys) b o ns.0.1) (fsep (fsep (finally R ns.0.1 ls.0) (feq ℕ (length ls.0) (length ys))) (fbor (ns.0.0 ∷ []) (Body (Arr (Holey (mem R)) (length ys)) b o ns.0.1))) (cells (mem R) ls.0 b o)
         (take-mut R (length ys) ls.0 b o ns.0.0 ns.0.1) (take_all hs ms ns.1 ls.1)
     take_all (sees R q v b o ∷ hs) ms ns ls =
         let P : Fml = part_at R q ms.0.it b o in
         take-first hs ms.1 ns.1 ls ns.0.0 P ftrue P (take-shr P ftrue ns.0.0) (take_all hs ms.1 ns.1 ls)
     take_all (changes R v b o ∷ hs) ms ns ls =
-        take-first hs ms.1 ns.1 ls.1 ns.0.0 (Body (mem R) b o ns.0.1) (fres ns.0.1 (R.coded.code ls.0)) (part_at R full_share ls.0 b o)
+        take-first hs ms.1 ns.1 ls.1 ns.0.0 (Body (mem R) b o ns.0.1) (fsep (fres ns.0.1 (R.coded.code ls.0)) (fbor (ns.0.0 ∷ []) (Body (mem R) b o ns.0.1))) (part_at R full_share ls.0 b o)
         (take-changed R ls.0 b o ns.0.0 ns.0.1) (take_all hs ms.1 ns.1 ls.1)
 
     -- in the caller's words: of a struct, the machine's value

@@ -7,7 +7,7 @@ use mathlib.Core.Option.{Option, some}
 use mathlib.Core.Path.{◌≡◌, refl, sym, ap, ap₂, subst, ◌∙◌}
 use lib.IntN.{ℤ}
 use lib.ListN.{length}
-use seplogic.Ra.TreeShare.{full_share}
+use base.Fraction.{full_share}
 use mir.Syntax.{Width, w8, w32, w64, Ty, ty_int}
 use mir.Val.{Val, to_z, bytes}
 use mir.ValLaws.{to_z-of_z}

@@ -7,12 +7,11 @@ use mathlib.Core.HLevel.{⊥_prop, Unit-prop, ×_prop}
 use mathlib.Core.Logic.{∥∥₁_map, ∥∥₁_elim, ∥∥₁_prop}
 use mathlib.Core.Path.{◌≡◌, sym, ap, ap₂, subst, ◌∙◌}
 use lib.IntN.{ℤ}
-use seplogic.Ra.TreeShare.{full_share}
+use base.Fraction.{full_share}
 use mir.Val.{Val}
 use base.Logic.{ent, emp}
 use base.Fml.{Share}
 use prog.Memory.{Memory}
-use prog.Routine.{Routine}
 use contract.Adequate.{Satisfies}
 use contract.Monad.{fact, fact_i, top}
 use denote.Builtin.{u32}
@@ -43,7 +42,7 @@ use Rattle.claim.specs.Calls.{Call}
 use Rattle.claim.proofs.Points.{near-calls}
 use Rattle.claim.proofs.Decided.{gave-once}
 use Rattle.claim.proofs.Claim.{Agrees, new-agrees, call-agrees}
-use Rattle.claim_runs.specs.Handed.{function, Assertion, ◌∗◌, ⟦◌⟧₀, ◌⊨◌, Handed, value, sees, changes, Lie, At, Written, lie_after, Ran, Leaves}
+use Rattle.claim_runs.specs.Handed.{Function, function, Assertion, ◌∗◌, ⟦◌⟧₀, ◌⊨◌, Handed, value, sees, changes, Lie, At, Written, lie_after, Ran, Leaves}
 use Rattle.claim_runs.specs.Values.{clock_in, answer_in, turns_in, cards_in, verdict_in, turnings_in, held_cards_in, clock_at}
 use Rattle.claim_runs.specs.Runs.{Run, loads, stations, placed, dates, heights, serieses, searches, years, bookings, hourlies, hands, held_loads, held_stations, held_dates, lent_heights, held_heights, held_serieses, held_searches, held_years, lent_bookings, held_bookings, held_hourlies, held_hands, Gives, Started, returned, left, zeros, Runs, done, ◌then◌, GiveAll}
 use Rattle.claim_runs.specs.OnMachine.{OfAnyRuns, Returns, EveryCallEnds, AlwaysEnds}
@@ -64,27 +63,27 @@ asked : {vc : Val} {l : Last} (h : Holds vc l) → ent w₀.𝓤 (emp w₀.𝓤)
 asked h = fact_i w₀.𝓤 (Made h.clock) (emp w₀.𝓤) h.agrees.made
 
 -- the machine's value that a run left in a clock's place is what is loaded there
-clock-left : {f : Routine} {hs : List Handed} {vc : Val} {b o : ℕ} (x : Ran f [] (changes ClockType.the_row vc b o ∷ hs)) (ws : Written hs) (v : Val) → Leaves x (v, ws) → ∥ (v ≡ clock_at x.left b o) ∥₁
+clock-left : {f : Function} {hs : List Handed} {vc : Val} {b o : ℕ} (x : Ran f [] (changes ClockType.the_row vc b o ∷ hs)) (ws : Written hs) (v : Val) → Leaves x (v, ws) → ∥ (v ≡ clock_at x.left b o) ∥₁
 clock-left {hs = hs} {b = b} {o = o} x ws v lies =
     let P : Assertion = ⟦ At ClockType.the_row full_share v b o ⟧₀ in
     let Q : Assertion = ⟦ lie_after hs ws ⟧₀ in
     value-loads x.left ClockType.the_row full_share v b o (Q ∗ x.rest) (in-front x.left P Q x.rest lies)
 
 -- what a run left beside a clock that it saw
-beside-clock : {f : Routine} {hs : List Handed} {vc : Val} {s : Share} {b o : ℕ} (x : Ran f [] (sees ClockType.the_row s vc b o ∷ hs)) (ws : Written hs) → Leaves x ws
+beside-clock : {f : Function} {hs : List Handed} {vc : Val} {s : Share} {b o : ℕ} (x : Ran f [] (sees ClockType.the_row s vc b o ∷ hs)) (ws : Written hs) → Leaves x ws
     → x.left ⊨ ⟦ lie_after hs ws ⟧₀ ∗ (⟦ At ClockType.the_row s vc b o ⟧₀ ∗ x.rest)
 beside-clock {hs = hs} {vc = vc} {s = s} {b = b} {o = o} x ws lies = behind x.left ⟦ At ClockType.the_row s vc b o ⟧₀ ⟦ lie_after hs ws ⟧₀ x.rest lies
 
 module _ {vc : Val} (l : Last) (h : Holds vc l) where
   -- a run of a function of the clock that is handed this one
-  ran : {f : Routine} {hs : List Handed} (t : Callable h.clock f hs) (x : Ran f [] hs) → ∥ Came t.ended t.clauses hs t.meant t.takes x.value x.left x.rest ∥₁
+  ran : {f : Function} {hs : List Handed} (t : Callable h.clock f hs) (x : Ran f [] hs) → ∥ Came t.ended t.clauses hs t.meant t.takes x.value x.left x.rest ∥₁
   ran {f} {hs} t x =
-      every-comes t.ended t.clauses hs t.meant t.takes f t.met t.makes (asked h) x.fit x.before x.rest x.lent x.routine x.below x.value x.left x.run
+      every-comes t.ended t.clauses hs t.meant t.takes f t.met x.program x.has t.makes (asked h) x.fit x.before x.rest x.lent x.value x.left x.run
 
   -- a run on this value is a run that is handed the clock
-  abbrev on_value : {f : Routine} {hs : List Handed} → Ran f (vc ∷ []) hs → Ran f [] (value ClockType.the_row h.clock vc ∷ hs)
+  abbrev on_value : {f : Function} {hs : List Handed} → Ran f (vc ∷ []) hs → Ran f [] (value ClockType.the_row h.clock vc ∷ hs)
   on_value x =
-      record { routine = x.routine; below = x.below; fit = (h.is, x.fit); before = x.before; rest = x.rest; lent = x.lent; value = x.value; left = x.left; run = x.run }
+      record { program = x.program; has = x.has; fit = (h.is, x.fit); before = x.before; rest = x.rest; lent = x.lent; value = x.value; left = x.left; run = x.run }
 
   -- what a call gives is what the document gives; it leaves a clock, in what it returns, in memory, or the one that it got
   leaves : {q : Request} {g : Gave} {c' : Clock} {v : Val} → Is ClockType.the_row c' (v ∷ []) → Call h.clock q g c' → ∥ ((gives l q ≡ g) × Holds v (after l q)) ∥₁
@@ -96,7 +95,7 @@ module _ {vc : Val} (l : Last) (h : Holds vc l) where
   left-same : {q : Request} {g : Gave} → Call h.clock q g h.clock → ∥ ((gives l q ≡ g) × Holds vc (after l q)) ∥₁
   left-same k = leaves h.is k
 
-  left_there : {f : Routine} {hs : List Handed} {b o : ℕ} {q : Request} (x : Ran f [] (changes ClockType.the_row vc b o ∷ hs)) (ws : Written hs) (r : Verdict) (c' : Clock)
+  left_there : {f : Function} {hs : List Handed} {b o : ℕ} {q : Request} (x : Ran f [] (changes ClockType.the_row vc b o ∷ hs)) (ws : Written hs) (r : Verdict) (c' : Clock)
       → Is VerdictType.the_row r (x.value ∷ []) → Is ClockType.the_row c' (ClockLaws.lowered c' ∷ []) → Leaves x (ClockLaws.lowered c', ws) → Call h.clock q (told (answers.verdict_returned r)) c'
       → ∥ ((Leaves x (clock_at x.left b o, ws) × (gives l q ≡ told (verdict_in x.value))) × Holds (clock_at x.left b o) (after l q)) ∥₁
   left_there {b = b} {o = o} {q = q} x ws r c' is is-clock lies k =
@@ -232,11 +231,11 @@ module _ {vc : Val} (l : Last) (h : Holds vc l) where
       ∥∥₁_map (left-same (call.held_hands k.once)) (λ a. ((k.leaves, a.0 ∙ ap named (sym (names-read k.result x.value k.is))), a.1)))
 
   -- a routine that is handed this clock returns, and so does one on this value
-  ends-lent : {f : Routine} {hs : List Handed} → Callable h.clock f hs → Returns f [] hs
-  ends-lent {f} {hs} t fit σ F s = ∥∥₁_map (comes t.ended t.clauses hs t.meant t.takes f t.met t.makes (asked h) fit σ F s) (λ k. (k.0, k.1, k.2))
+  ends-lent : {f : Function} {hs : List Handed} → Callable h.clock f hs → Returns f [] hs
+  ends-lent {f} {hs} t γ wired fit σ F s = ∥∥₁_map (comes t.ended t.clauses hs t.meant t.takes f t.met γ wired t.makes (asked h) fit σ F s) (λ k. (k.0, k.1, k.2))
 
-  ends_on : {f : Routine} {hs : List Handed} → Callable h.clock f (value ClockType.the_row h.clock vc ∷ hs) → Returns f (vc ∷ []) hs
-  ends_on t fit = ends-lent t (h.is, fit)
+  ends_on : {f : Function} {hs : List Handed} → Callable h.clock f (value ClockType.the_row h.clock vc ∷ hs) → Returns f (vc ∷ []) hs
+  ends_on t γ has fit = ends-lent t γ has (h.is, fit)
 
   every-call-ends : EveryCallEnds vc
   every-call-ends =
@@ -316,12 +315,12 @@ all_once (x then xs) (g ∷ gs) = ×_prop (gives-once x g) (all_once xs gs)
 new-holds : {vc : Val} → Started vc → ∥ Holds vc nothing ∥₁
 unfolding new-takes held-new-takes
 new-holds (returned x) =
-    ∥∥₁_elim (every-comes new.ended (λ M 𝓤. new.clauses) [] tt new-takes (function new_code.name new_code.code) (λ M. new_met.met) tt (top w₀.𝓤 (emp w₀.𝓤)) tt x.before x.rest x.lent x.routine x.below x.value x.left x.run) ∥∥₁_prop (λ k.
+    ∥∥₁_elim (every-comes new.ended (λ M 𝓤. new.clauses) [] tt new-takes (function new_code.name new_code.code) (λ M. new_met.met) x.program x.has tt (top w₀.𝓤 (emp w₀.𝓤)) tt x.before x.rest x.lent x.value x.left x.run) ∥∥₁_prop (λ k.
     ∥∥₁_map (new-agrees (call.news k.once)) (λ a. record { clock = k.result; is = k.is; agrees = a }))
 new-holds (left {vc = vc} {b = b} {o = o} c is x) =
     let hs : List Handed = changes ClockType.the_row vc b o ∷ [] in
-    ∥∥₁_elim (every-comes held_new.ended (λ M 𝓤. held_new.clauses) hs (clock-means c vc is, tt) (held-new-takes c vc is b o) (function held_new_code.name held_new_code.code) (λ M. held_new_met.met) (clock-makes, tt) (top w₀.𝓤 (emp w₀.𝓤)) tt
-    x.before x.rest x.lent x.routine x.below x.value x.left x.run) ∥∥₁_prop (λ k.
+    ∥∥₁_elim (every-comes held_new.ended (λ M 𝓤. held_new.clauses) hs (clock-means c vc is, tt) (held-new-takes c vc is b o) (function held_new_code.name held_new_code.code) (λ M. held_new_met.met) x.program x.has (clock-makes, tt) (top w₀.𝓤 (emp w₀.𝓤)) tt
+    x.before x.rest x.lent x.value x.left x.run) ∥∥₁_prop (λ k.
     ∥∥₁_elim (clock-left x tt (ClockLaws.lowered k.last.0) k.leaves) ∥∥₁_prop (λ e.
     ∥∥₁_map (new-agrees (call.held_news k.once)) (λ a. record { clock = k.last.0; is = subst (λ (v : Val). Is ClockType.the_row k.last.0 (v ∷ [])) e k.stand.0; agrees = a })))
 new-holds zeros = ∥∥₁_map (new-agrees call.zeros) (λ a. record { clock = zeroed; is = zeros_load; agrees = a })
@@ -333,9 +332,9 @@ on-machine vc vc' qs started xs =
 pub always-ends : AlwaysEnds
 always-ends =
     record {
-      held_new = λ c vc is b o fit σ F s.
-          ∥∥₁_map (comes held_new.ended (λ M 𝓤. held_new.clauses) (changes ClockType.the_row vc b o ∷ []) (clock-means c vc is, tt) (held-new-takes c vc is b o) (function held_new_code.name held_new_code.code) (λ M. held_new_met.met) (clock-makes, tt)
+      held_new = λ c vc is b o γ has fit σ F s.
+          ∥∥₁_map (comes held_new.ended (λ M 𝓤. held_new.clauses) (changes ClockType.the_row vc b o ∷ []) (clock-means c vc is, tt) (held-new-takes c vc is b o) (function held_new_code.name held_new_code.code) (λ M. held_new_met.met) γ has (clock-makes, tt)
           (top w₀.𝓤 (emp w₀.𝓤)) tt σ F s) (λ k. (k.0, k.1, k.2));
-      new = λ fit σ F s. ∥∥₁_map (comes new.ended (λ M 𝓤. new.clauses) [] tt new-takes (function new_code.name new_code.code) (λ M. new_met.met) tt (top w₀.𝓤 (emp w₀.𝓤)) tt σ F s) (λ k. (k.0, k.1, k.2));
+      new = λ γ has fit σ F s. ∥∥₁_map (comes new.ended (λ M 𝓤. new.clauses) [] tt new-takes (function new_code.name new_code.code) (λ M. new_met.met) γ has tt (top w₀.𝓤 (emp w₀.𝓤)) tt σ F s) (λ k. (k.0, k.1, k.2));
       then = λ vc vc' qs started xs. ∥∥₁_elim (new-holds started) ∥∥₁_prop (λ h. ∥∥₁_map (runs-give nothing h xs) (λ k. every-call-ends (last_after nothing qs) k.1));
     }

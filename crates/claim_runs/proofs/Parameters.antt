@@ -4,12 +4,12 @@ use Prim.Native.Nat.{ℕ}
 use mathlib.Core.List.{List, [], ◌∷◌}
 use mathlib.Core.Path.{refl}
 use lib.IntN.{ℤ}
-use mir.Syntax.{w32, w64}
+use mir.Syntax.{w8, w32, w64}
 use mir.Val.{Val}
 use base.Fml.{Share}
-use prog.Routine.{Routine}
 use contract.Monad.{fact}
 use denote.Builtin.{u8, u32, i32, i64, usize}
+use denote.Copied.{Copied, uint_Copied}
 use denote.Laws.{Is, Makes, Lawful}
 use denote.Plain.{uint_Makes}
 use denote.Signed.{sint_Makes}
@@ -20,6 +20,7 @@ use Rattle.station.specs.declared.records.Record.{Record}
 use Rattle.station.specs.declared.records.Rows.{Rows}
 use Rattle.station.specs.declared.strides.Strides.{Strides}
 use Rattle.station.specs.contracts.records.Record as RecordType
+use Rattle.station.proofs.records.Record.TheLaws as RecordLaws
 use Rattle.station.specs.contracts.records.Rows as RowsType
 use Rattle.station.proofs.records.Rows.TheLaws as RowsLaws
 use Rattle.station.specs.contracts.strides.Strides as StridesType
@@ -103,7 +104,7 @@ use Rattle.cuvalimodo_c.specs.contracts.cuvalimodo_names as held_names
 use Rattle.cuvalimodo_c.proofs.cuvalimodo_names.Symbol as held_names_code
 use Rattle.cuvalimodo_c.proofs.cuvalimodo_names.Met as held_names_met
 use Rattle.claim.specs.Calls.{ClausesOf, clauses_at}
-use Rattle.claim_runs.specs.Handed.{function, Assertion, Handed, value, reads, writes, sees, changes}
+use Rattle.claim_runs.specs.Handed.{Function, function, Assertion, Handed, value, reads, writes, sees, changes}
 use Rattle.claim_runs.proofs.Lending as had
 use Rattle.claim_runs.proofs.Lending.{lent, Means, Meant, lifetimes, wholes, denotes, values_of}
 use Rattle.claim_runs.proofs.Ran.{Theorem}
@@ -115,7 +116,7 @@ pub clock-makes : Makes w₀.𝓛 ClockType.the_row (Is ClockType.the_row)
 clock-makes = LL.makes ClockType.the_type ClockLaws.the_plain w₀.𝓛
 
 pub clock-lawful : Lawful w₀.𝓛 ClockType.the_row
-clock-lawful = LL.lawful ClockType.the_type ClockLaws.the_laws w₀.𝓛 W₀
+clock-lawful = LL.lawful ClockType.the_type ClockLaws.the_laws w₀.𝓛
 
 pub rows-make : Makes w₀.𝓛 RowsType.the_row (Is RowsType.the_row)
 rows-make = LL.makes RowsType.the_type RowsLaws.the_plain w₀.𝓛
@@ -127,17 +128,31 @@ pub sheet-makes : Makes w₀.𝓛 SheetType.the_row (Is SheetType.the_row)
 sheet-makes = LL.makes SheetType.the_type SheetLaws.the_plain w₀.𝓛
 
 pub u32-makes : Makes w₀.𝓛 u32 (Is u32)
-u32-makes = uint_Makes w₀.𝓛 W₀ w32
+u32-makes = uint_Makes w₀.𝓛 w32
 
 pub usize-makes : Makes w₀.𝓛 usize (Is usize)
-usize-makes = uint_Makes w₀.𝓛 W₀ w64
+usize-makes = uint_Makes w₀.𝓛 w64
 
 pub i32-makes : Makes w₀.𝓛 i32 (Is i32)
-i32-makes = sint_Makes w₀.𝓛 W₀ w32
+i32-makes = sint_Makes w₀.𝓛 w32
 
--- A function of the clock and its routine f, which is handed the clock c, in one way or another, and what else there is: it meets its contract,
+-- ---- values that are copied are lent to be read
+
+pub u8-copied : Copied w₀.𝓛 u8
+u8-copied = uint_Copied w₀.𝓛 w8
+
+pub u32-copied : Copied w₀.𝓛 u32
+u32-copied = uint_Copied w₀.𝓛 w32
+
+pub record-copied : Copied w₀.𝓛 RecordType.the_row
+record-copied = LL.copied RecordType.the_type RecordLaws.the_copy w₀.𝓛
+
+pub clock-copied : Copied w₀.𝓛 ClockType.the_row
+clock-copied = LL.copied ClockType.the_type ClockLaws.the_copy w₀.𝓛
+
+-- A function of the clock, f, which is handed the clock c, in one way or another, and what else there is: it meets its contract,
 -- and asks for a clock that a call made.
-pub record Callable (c : Clock) (f : Routine) (hs : List Handed) : Type 2 where
+pub record Callable (c : Clock) (f : Function) (hs : List Handed) : Type 2 where
   pub ended : Ended
   pub clauses : ClausesOf ended
   pub met : Theorem ended clauses f
@@ -166,10 +181,10 @@ module _ (c : Clock) (vc : Val) where
       let all : List Handed = clock ∷ reads u8 q file b o ∷ [] in
       record {
         ended = load.ended;
-        clauses = λ M. load.clauses;
+        clauses = λ M 𝓤. load.clauses;
         met = λ M. load_met.met;
         meant = tt;
-        makes = (clock-makes, tt);
+        makes = (clock-makes, (u8-copied, tt));
         takes = record { enters = λ ns. ((lifetimes all ns, wholes all, tt, denotes 0 all tt ns, values_of 0 all ns), (λ w. tt), refl, refl, refl); writes = λ ns ws. (tt, refl) };
       }
 
@@ -178,10 +193,10 @@ module _ (c : Clock) (vc : Val) where
       let all : List Handed = clock ∷ value i32 latitude vl ∷ value StridesType.the_row strides vt ∷ reads RecordType.the_row q records b o ∷ [] in
       record {
         ended = station.ended;
-        clauses = λ M. station.clauses;
+        clauses = λ M 𝓤. station.clauses;
         met = λ M. station_met.met;
         meant = tt;
-        makes = (clock-makes, (i32-makes, (strides-make, tt)));
+        makes = (clock-makes, (i32-makes, (strides-make, (record-copied, tt))));
         takes = record { enters = λ ns. ((lifetimes all ns, wholes all, tt, denotes 0 all tt ns, values_of 0 all ns), (λ w. tt), refl, refl, refl); writes = λ ns ws. (tt, refl) };
       }
 
@@ -190,7 +205,7 @@ module _ (c : Clock) (vc : Val) where
       let all : List Handed = clock ∷ value i32 latitude vl ∷ value StridesType.the_row strides vt ∷ value usize n vn ∷ value RowsType.the_row rows vr ∷ [] in
       record {
         ended = placing.ended;
-        clauses = λ M. placing.clauses;
+        clauses = λ M 𝓤. placing.clauses;
         met = λ M. placing_met.met;
         meant = tt;
         makes = (clock-makes, (i32-makes, (strides-make, (usize-makes, (rows-make, tt)))));
@@ -202,7 +217,7 @@ module _ (c : Clock) (vc : Val) where
       let all : List Handed = clock ∷ value u32 year vy ∷ value u32 month vm ∷ [] in
       record {
         ended = date.ended;
-        clauses = λ M. date.clauses;
+        clauses = λ M 𝓤. date.clauses;
         met = λ M. date_met.met;
         meant = tt;
         makes = (clock-makes, (u32-makes, (u32-makes, tt)));
@@ -214,7 +229,7 @@ module _ (c : Clock) (vc : Val) where
       let all : List Handed = clock ∷ value u32 minute vm ∷ [] in
       record {
         ended = height.ended;
-        clauses = λ M. height.clauses;
+        clauses = λ M 𝓤. height.clauses;
         met = λ M. height_met.met;
         meant = tt;
         makes = (clock-makes, (u32-makes, tt));
@@ -226,7 +241,7 @@ module _ (c : Clock) (vc : Val) where
       let all : List Handed = clock ∷ value u32 start vs ∷ value u32 step vt ∷ writes i64 hs b o ∷ [] in
       record {
         ended = series.ended;
-        clauses = λ M. series.clauses;
+        clauses = λ M 𝓤. series.clauses;
         met = λ M. series_met.met;
         meant = tt;
         makes = (clock-makes, (u32-makes, (u32-makes, tt)));
@@ -238,7 +253,7 @@ module _ (c : Clock) (vc : Val) where
       let all : List Handed = clock ∷ value u32 first vf ∷ value u32 last vl ∷ writes u32 ms b o ∷ writes i64 hs b₁ o₁ ∷ [] in
       record {
         ended = turns.ended;
-        clauses = λ M. turns.clauses;
+        clauses = λ M 𝓤. turns.clauses;
         met = λ M. turns_met.met;
         meant = tt;
         makes = (clock-makes, (u32-makes, (u32-makes, tt)));
@@ -250,7 +265,7 @@ module _ (c : Clock) (vc : Val) where
       let all : List Handed = clock ∷ value SheetType.the_row sheet vs ∷ writes i64 ss b o ∷ writes u32 ms b₁ o₁ ∷ writes i64 hs b₂ o₂ ∷ [] in
       record {
         ended = year.ended;
-        clauses = λ M. year.clauses;
+        clauses = λ M 𝓤. year.clauses;
         met = λ M. year_met.met;
         meant = tt;
         makes = (clock-makes, (sheet-makes, tt));
@@ -262,10 +277,10 @@ module _ (c : Clock) (vc : Val) where
       let all : List Handed = clock ∷ reads u32 q minutes b o ∷ writes i64 hs b₁ o₁ ∷ [] in
       record {
         ended = booking.ended;
-        clauses = λ M. booking.clauses;
+        clauses = λ M 𝓤. booking.clauses;
         met = λ M. booking_met.met;
         meant = tt;
-        makes = (clock-makes, tt);
+        makes = (clock-makes, (u32-copied, tt));
         takes = record { enters = λ ns. ((lifetimes all ns, wholes all, tt, denotes 0 all tt ns, values_of 0 all ns), (λ w. tt), refl, refl, refl); writes = λ ns ws. ((ws.1.1.0, tt), refl) };
       }
 
@@ -274,7 +289,7 @@ module _ (c : Clock) (vc : Val) where
       let all : List Handed = clock ∷ value u32 number vn ∷ writes u8 cards b o ∷ [] in
       record {
         ended = hourly.ended;
-        clauses = λ M. hourly.clauses;
+        clauses = λ M 𝓤. hourly.clauses;
         met = λ M. hourly_met.met;
         meant = tt;
         makes = (clock-makes, (u32-makes, tt));
@@ -286,7 +301,7 @@ module _ (c : Clock) (vc : Val) where
       let all : List Handed = clock ∷ [] in
       record {
         ended = names.ended;
-        clauses = λ M. names.clauses;
+        clauses = λ M 𝓤. names.clauses;
         met = λ M. names_met.met;
         meant = tt;
         makes = (clock-makes, tt);
@@ -309,10 +324,10 @@ module _ (c : Clock) (vc : Val) (is : Is ClockType.the_row c (vc ∷ [])) where
       let all : List Handed = changes ClockType.the_row vc b o ∷ reads u8 q file b₁ o₁ ∷ [] in
       record {
         ended = held_load.ended;
-        clauses = λ M. held_load.clauses;
+        clauses = λ M 𝓤. held_load.clauses;
         met = λ M. held_load_met.met;
         meant = (clock-means, tt);
-        makes = (clock-makes, tt);
+        makes = (clock-makes, (u8-copied, tt));
         takes = record { enters = λ ns. ((lifetimes all ns, wholes all, tt, denotes 0 all (clock-means, tt) ns, values_of 0 all ns), (λ w. tt), refl, refl, refl); writes = λ ns ws. ((ws.0, tt), refl) };
       }
 
@@ -321,10 +336,10 @@ module _ (c : Clock) (vc : Val) (is : Is ClockType.the_row c (vc ∷ [])) where
       let all : List Handed = changes ClockType.the_row vc b o ∷ value i32 latitude vl ∷ value StridesType.the_row strides vt ∷ reads RecordType.the_row q records b₁ o₁ ∷ [] in
       record {
         ended = held_station.ended;
-        clauses = λ M. held_station.clauses;
+        clauses = λ M 𝓤. held_station.clauses;
         met = λ M. held_station_met.met;
         meant = (clock-means, tt);
-        makes = (clock-makes, (i32-makes, (strides-make, tt)));
+        makes = (clock-makes, (i32-makes, (strides-make, (record-copied, tt))));
         takes = record { enters = λ ns. ((lifetimes all ns, wholes all, tt, denotes 0 all (clock-means, tt) ns, values_of 0 all ns), (λ w. tt), refl, refl, refl); writes = λ ns ws. ((ws.0, tt), refl) };
       }
 
@@ -333,7 +348,7 @@ module _ (c : Clock) (vc : Val) (is : Is ClockType.the_row c (vc ∷ [])) where
       let all : List Handed = changes ClockType.the_row vc b o ∷ value u32 year vy ∷ value u32 month vm ∷ [] in
       record {
         ended = held_date.ended;
-        clauses = λ M. held_date.clauses;
+        clauses = λ M 𝓤. held_date.clauses;
         met = λ M. held_date_met.met;
         meant = (clock-means, tt);
         makes = (clock-makes, (u32-makes, (u32-makes, tt)));
@@ -345,10 +360,10 @@ module _ (c : Clock) (vc : Val) (is : Is ClockType.the_row c (vc ∷ [])) where
       let all : List Handed = sees ClockType.the_row s vc b o ∷ value u32 minute vm ∷ [] in
       record {
         ended = lent_height.ended;
-        clauses = λ M. lent_height.clauses;
+        clauses = λ M 𝓤. lent_height.clauses;
         met = λ M. lent_height_met.met;
         meant = (clock-means, tt);
-        makes = (clock-makes, (u32-makes, tt));
+        makes = (clock-makes, clock-copied, (u32-makes, tt));
         takes = record { enters = λ ns. ((lifetimes all ns, wholes all, tt, denotes 0 all (clock-means, tt) ns, values_of 0 all ns), (λ w. tt), refl, refl, refl); writes = λ ns ws. (tt, refl) };
       }
 
@@ -357,10 +372,10 @@ module _ (c : Clock) (vc : Val) (is : Is ClockType.the_row c (vc ∷ [])) where
       let all : List Handed = sees ClockType.the_row s vc b o ∷ value u32 minute vm ∷ [] in
       record {
         ended = held_height.ended;
-        clauses = λ M. held_height.clauses;
+        clauses = λ M 𝓤. held_height.clauses;
         met = λ M. held_height_met.met;
         meant = (clock-means, tt);
-        makes = (clock-makes, (u32-makes, tt));
+        makes = (clock-makes, clock-copied, (u32-makes, tt));
         takes = record { enters = λ ns. ((lifetimes all ns, wholes all, tt, denotes 0 all (clock-means, tt) ns, values_of 0 all ns), (λ w. tt), refl, refl, refl); writes = λ ns ws. (tt, refl) };
       }
 
@@ -369,10 +384,10 @@ module _ (c : Clock) (vc : Val) (is : Is ClockType.the_row c (vc ∷ [])) where
       let all : List Handed = sees ClockType.the_row s vc b o ∷ value u32 start vs ∷ value u32 step vt ∷ writes i64 hs b₁ o₁ ∷ [] in
       record {
         ended = held_series.ended;
-        clauses = λ M. held_series.clauses;
+        clauses = λ M 𝓤. held_series.clauses;
         met = λ M. held_series_met.met;
         meant = (clock-means, tt);
-        makes = (clock-makes, (u32-makes, (u32-makes, tt)));
+        makes = (clock-makes, clock-copied, (u32-makes, (u32-makes, tt)));
         takes = record { enters = λ ns. ((lifetimes all ns, wholes all, tt, denotes 0 all (clock-means, tt) ns, values_of 0 all ns), (λ w. tt), refl, refl, refl); writes = λ ns ws. ((ws.1.1.1.0, tt), refl) };
       }
 
@@ -381,10 +396,10 @@ module _ (c : Clock) (vc : Val) (is : Is ClockType.the_row c (vc ∷ [])) where
       let all : List Handed = sees ClockType.the_row s vc b o ∷ value u32 first vf ∷ value u32 last vl ∷ writes u32 ms b₁ o₁ ∷ writes i64 hs b₂ o₂ ∷ [] in
       record {
         ended = held_turns.ended;
-        clauses = λ M. held_turns.clauses;
+        clauses = λ M 𝓤. held_turns.clauses;
         met = λ M. held_turns_met.met;
         meant = (clock-means, tt);
-        makes = (clock-makes, (u32-makes, (u32-makes, tt)));
+        makes = (clock-makes, clock-copied, (u32-makes, (u32-makes, tt)));
         takes = record { enters = λ ns. ((lifetimes all ns, wholes all, tt, denotes 0 all (clock-means, tt) ns, values_of 0 all ns), (λ w. tt), refl, refl, refl); writes = λ ns ws. ((ws.1.1.1.0, (ws.1.1.1.1.0, tt)), refl) };
       }
 
@@ -393,10 +408,10 @@ module _ (c : Clock) (vc : Val) (is : Is ClockType.the_row c (vc ∷ [])) where
       let all : List Handed = sees ClockType.the_row s vc b o ∷ value u32 sheet.year vy ∷ value u32 sheet.start vs ∷ value u32 sheet.step vt ∷ value u32 sheet.first vf ∷ value u32 sheet.last vl ∷ writes i64 ss b₁ o₁ ∷ writes u32 ms b₂ o₂ ∷ writes i64 hs b₃ o₃ ∷ [] in
       record {
         ended = held_year.ended;
-        clauses = λ M. held_year.clauses;
+        clauses = λ M 𝓤. held_year.clauses;
         met = λ M. held_year_met.met;
         meant = (clock-means, tt);
-        makes = (clock-makes, (u32-makes, (u32-makes, (u32-makes, (u32-makes, (u32-makes, tt))))));
+        makes = (clock-makes, clock-copied, (u32-makes, (u32-makes, (u32-makes, (u32-makes, (u32-makes, tt))))));
         takes = record { enters = λ ns. ((lifetimes all ns, wholes all, tt, denotes 0 all (clock-means, tt) ns, values_of 0 all ns), (λ w. tt), refl, refl, refl); writes = λ ns ws. ((ws.1.1.1.1.1.1.0, (ws.1.1.1.1.1.1.1.0, (ws.1.1.1.1.1.1.1.1.0, tt))), refl) };
       }
 
@@ -405,10 +420,10 @@ module _ (c : Clock) (vc : Val) (is : Is ClockType.the_row c (vc ∷ [])) where
       let all : List Handed = sees ClockType.the_row s vc b o ∷ reads u32 q minutes b₁ o₁ ∷ writes i64 hs b₂ o₂ ∷ [] in
       record {
         ended = lent_booking.ended;
-        clauses = λ M. lent_booking.clauses;
+        clauses = λ M 𝓤. lent_booking.clauses;
         met = λ M. lent_booking_met.met;
         meant = (clock-means, tt);
-        makes = (clock-makes, tt);
+        makes = (clock-makes, clock-copied, (u32-copied, tt));
         takes = record { enters = λ ns. ((lifetimes all ns, wholes all, tt, denotes 0 all (clock-means, tt) ns, values_of 0 all ns), (λ w. tt), refl, refl, refl); writes = λ ns ws. ((ws.1.1.0, tt), refl) };
       }
 
@@ -417,10 +432,10 @@ module _ (c : Clock) (vc : Val) (is : Is ClockType.the_row c (vc ∷ [])) where
       let all : List Handed = sees ClockType.the_row s vc b o ∷ reads u32 q minutes b₁ o₁ ∷ writes i64 hs b₂ o₂ ∷ [] in
       record {
         ended = held_booking.ended;
-        clauses = λ M. held_booking.clauses;
+        clauses = λ M 𝓤. held_booking.clauses;
         met = λ M. held_booking_met.met;
         meant = (clock-means, tt);
-        makes = (clock-makes, tt);
+        makes = (clock-makes, clock-copied, (u32-copied, tt));
         takes = record { enters = λ ns. ((lifetimes all ns, wholes all, tt, denotes 0 all (clock-means, tt) ns, values_of 0 all ns), (λ w. tt), refl, refl, refl); writes = λ ns ws. ((ws.1.1.0, tt), refl) };
       }
 
@@ -429,10 +444,10 @@ module _ (c : Clock) (vc : Val) (is : Is ClockType.the_row c (vc ∷ [])) where
       let all : List Handed = sees ClockType.the_row s vc b o ∷ value u32 number vn ∷ writes u8 cards b₁ o₁ ∷ [] in
       record {
         ended = held_hourly.ended;
-        clauses = λ M. held_hourly.clauses;
+        clauses = λ M 𝓤. held_hourly.clauses;
         met = λ M. held_hourly_met.met;
         meant = (clock-means, tt);
-        makes = (clock-makes, (u32-makes, tt));
+        makes = (clock-makes, clock-copied, (u32-makes, tt));
         takes = record { enters = λ ns. ((lifetimes all ns, wholes all, tt, denotes 0 all (clock-means, tt) ns, values_of 0 all ns), (λ w. tt), refl, refl, refl); writes = λ ns ws. ((ws.1.1.0, tt), refl) };
       }
 
@@ -441,9 +456,9 @@ module _ (c : Clock) (vc : Val) (is : Is ClockType.the_row c (vc ∷ [])) where
       let all : List Handed = sees ClockType.the_row s vc b o ∷ [] in
       record {
         ended = held_names.ended;
-        clauses = λ M. held_names.clauses;
+        clauses = λ M 𝓤. held_names.clauses;
         met = λ M. held_names_met.met;
         meant = (clock-means, tt);
-        makes = (clock-makes, tt);
+        makes = (clock-makes, clock-copied, tt);
         takes = record { enters = λ ns. ((lifetimes all ns, wholes all, tt, denotes 0 all (clock-means, tt) ns, values_of 0 all ns), (λ w. tt), refl, refl, refl); writes = λ ns ws. (tt, refl) };
       }

@@ -9,10 +9,12 @@ use mir.Val.{Val}
 use base.Logic.{ex, via, mono_l, comm∗, assoc∗, assoc', fst∗, snd∗}
 use prog.Memory.{Memory}
 use prog.Model.{Model}
-use prog.Routine.{Routine, any_name, ends, ends-one, ◌≼◌}
+use prog.Routine.{Env, ends, ends-one}
+use prog.Wired.{Wired}
 use types.Logic.{Logic, sem}
+use contract.Closed.{real⁺_strict}
 use contract.Adequate.{sat_weaken, sat_⇛, sat_ex∗, sat_fact}
-use contract.Running.{Running, tables}
+use contract.Running.{Running, tables, within}
 use denote.Laws.{Is, shows}
 use denote.RattleType.{RattleType}
 use denote.Signature.{type_at}
@@ -24,13 +26,13 @@ use denote.Triple.Spec.{Back, Meets, triple_of}
 use borrow.Fn.World.{World, w₀}
 use Rattle.claim.specs.Calls.{ClausesOf, clauses_at, Once}
 use Rattle.claim.proofs.Backed.{backed}
-use Rattle.claim_runs.specs.Handed.{Assertion, ◌∗◌, ◌⊨◌}
+use Rattle.claim_runs.specs.Handed.{Assertion, ◌∗◌, ◌⊨◌, Function}
 
 module _ (T : Ended) (C : ClausesOf T) where
-  -- that the routine r meets the contract: the type of a function's theorem, its `Statement`
-  abbrev pub Theorem : Routine → Type 2
-  Theorem r = (M : Type 1) (𝓤 : Ura M) (𝓛 : Logic 𝓤) (𝓜 : Model 𝓤 𝓛.H) (𝓡 : Running 𝓤 𝓛.H 𝓜)
-      → Meets 𝓛 T.signature (𝓡.run r) (closing 𝓛 T (C M 𝓤 𝓛 𝓜.mem 𝓡.run))
+  -- that the function f meets the contract, in whatever has its code: the type of a function's theorem, its `Statement`
+  abbrev pub Theorem : Function → Type 2
+  Theorem f = (M : Type 1) (𝓤 : Ura M) (𝓛 : Logic 𝓤) (𝓜 : Model 𝓤 𝓛.H) (𝓡 : Running 𝓤 𝓛.H 𝓜) → Wired 𝓡.env f.code
+      → Meets 𝓛 T.signature (𝓡.run (𝓡.env f.name)) (closing 𝓛 T (C M 𝓤 𝓛 𝓜.mem 𝓡.returns))
 
   -- the lifetimes, their shares and bounds, the arguments and the machine's values for them
   abbrev pub Entry : Type 0
@@ -59,13 +61,13 @@ module _ (T : Ended) (C : ClausesOf T) where
 
     -- from what adequacy gives of the memory at the return
     returned : (v : Val) (σ' : Memory) (F : Assertion)
-        → σ' ⊨ (triple_of w₀.𝓛 T.signature (closing w₀.𝓛 T (C w₀.M w₀.𝓤 w₀.𝓛 w₀.𝓜.mem w₀.𝓡.run))).post (x, g w₀) v ∗ F
+        → σ' ⊨ (triple_of w₀.𝓛 T.signature (closing w₀.𝓛 T (C w₀.M w₀.𝓤 w₀.𝓛 w₀.𝓜.mem w₀.𝓡.returns))).post (x, g w₀) v ∗ F
         → ∥ Returned v σ' F ∥₁
     returned v σ' F s =
         let 𝓤 : Ura w₀.M = w₀.𝓤 in
         let R : RattleType = type_at T.signature.result x.0 in
         let Al : Assertion = alive w₀.𝓛 T.signature x.0 x.1 in
-        let O : Res T.signature x.0 → Assertion = λ r. sem w₀.𝓛 (R.own r (v ∷ [])) in
+        let O : Res T.signature x.0 → Assertion = λ r. sem w₀.𝓛 (R.own_val r (v ∷ [])) in
         let B : Res T.signature x.0 → Assertion = Back w₀.𝓛 T.signature x v in
         let L : Lasts T x.0 x.3 → Assertion = λ ws. sem w₀.𝓛 (lasts T x.0 x.3 ws) in
         let Q : Res T.signature x.0 → Lasts T x.0 x.3 → Assertion = λ r ws. (clauses_at T C x.0 x.3 w₀).ensures (g w₀) r (at_exit T x.0 x.3 ws) in
@@ -90,19 +92,17 @@ module _ (T : Ended) (C : ClausesOf T) where
           };
         })))
 
-    module _ (f : Routine) (met : Theorem f) (σ : Memory) (F : Assertion) (s : σ ⊨ Brings ∗ F) where
+    module _ (f : Function) (met : Theorem f) (γ : Env) (has : Wired γ f.code) (σ : Memory) (F : Assertion) (s : σ ⊨ Brings ∗ F) where
       -- The call returns,
-      pub returns : ∥ ((v : Val) × (σ' : Memory) × ends f (passed w₀.𝓛 T.signature x) σ v σ' × Returned v σ' F) ∥₁
+      pub returns : ∥ ((v : Val) × (σ' : Memory) × ends (γ f.name) (passed w₀.𝓛 T.signature x) σ v σ' × Returned v σ' F) ∥₁
       returns =
-          ∥∥₁_elim (adequate w₀.𝓤 w₀.𝓛.H w₀.𝓜 (tables w₀.𝓤 w₀.𝓛.H w₀.𝓜 w₀.𝓡 (λ _. f)) any_name
-          (triple_of w₀.𝓛 T.signature (closing w₀.𝓛 T (C w₀.M w₀.𝓤 w₀.𝓛 w₀.𝓜.mem w₀.𝓡.run)))
-          (met w₀.M w₀.𝓤 w₀.𝓛 w₀.𝓜 w₀.𝓡) (x, g w₀) σ F s) ∥∥₁_prop (λ c.
+          ∥∥₁_elim (adequate w₀.𝓤 w₀.𝓛.H w₀.𝓜 (tables w₀.𝓤 w₀.𝓛.H w₀.𝓜 w₀.𝓡 γ) real⁺_strict f.name
+          (triple_of w₀.𝓛 T.signature (closing w₀.𝓛 T (C w₀.M w₀.𝓤 w₀.𝓛 w₀.𝓜.mem w₀.𝓡.returns)))
+          (met w₀.M w₀.𝓤 w₀.𝓛 w₀.𝓜 (within w₀.𝓤 w₀.𝓛.H w₀.𝓜 w₀.𝓡 γ) has) (x, g w₀) σ F s) ∥∥₁_prop (λ c.
           ∥∥₁_map (returned c.1 c.2 F c.4) (λ k. (c.1, c.2, (c.0, c.3), k)))
 
-      -- and every return of it keeps the contract, with whatever fuel, of the routine or of whatever does all that the routine does (`≼`):
-      -- the function of that name in a program that has the routine's code.
-      pub every-return : (f' : Routine) → f ≼ f' → (v : Val) (σ' : Memory) → ends f' (passed w₀.𝓛 T.signature x) σ v σ' → ∥ Returned v σ' F ∥₁
-      every-return f' below v σ' run =
+      -- and every return of it keeps the contract, with whatever fuel.
+      pub every-return : (v : Val) (σ' : Memory) → ends (γ f.name) (passed w₀.𝓛 T.signature x) σ v σ' → ∥ Returned v σ' F ∥₁
+      every-return v σ' run =
           let vs : List Val = passed w₀.𝓛 T.signature x in
-          ∥∥₁_map returns (λ c.
-          subst (λ (p : Val × Memory). Returned p.0 p.1 F) (ends-one f' vs σ (c.0, c.1) (v, σ') (below vs σ c.0 c.1 c.2) run) c.3)
+          ∥∥₁_map returns (λ c. subst (λ (p : Val × Memory). Returned p.0 p.1 F) (ends-one (γ f.name) vs σ (c.0, c.1) (v, σ') c.2 run) c.3)
