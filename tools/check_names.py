@@ -56,7 +56,7 @@ def missing_code(path):
 def missing_behind(crate, file, names):
     """What is not there of the names behind a crate's, or behind a crate's and a file's of its specs/."""
     patterns = (f"specs/**/{file.strip()}.antt",) if file else ("src/**/*.rt", "specs/**/*.antt", "proofs/**/*.antt")
-    for name in re.findall(r"`([\w-]+|_\S+_)`", names):
+    for name in re.findall(r"`([\w-]+|◌\S+◌)`", names):
         if not is_said(name, crate, patterns):
             yield f"{crate}{file} `{name}`"
 
@@ -86,8 +86,8 @@ def floors_listed():
     floor = ""
     for line in (kit.ROOT / "crates.txt").read_text().split("\n"):
         floor = line[2:].split(":")[0] if line.startswith("# ") else floor
-        if re.match(r"\w+:", line):
-            yield line.split(":")[0], floor
+        if re.match(r"\w+( staticlib)?:", line):
+            yield re.split(r"[: ]", line)[0], floor
 
 
 def floors_drawn():

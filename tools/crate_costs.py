@@ -3,7 +3,7 @@
 
     tools/crate_costs.py        a table of every crate, dearest first, as docs/COSTS.md has it
 
-Needs the crates proved (`rt check`). A crate's time is the processor time of one check over the built crates below it; two checks run at a time.
+Needs the crates built (`rt ci`, in a checkout that had no crates/*/out). A crate's time is the processor time of one check over the built crates below it; two checks run at a time.
 """
 import concurrent.futures
 import os
@@ -15,10 +15,10 @@ import tempfile
 import kit
 
 
-def run(command):
+def run(command, folder):
     """Seconds of processor time, the peak in MiB and the functions proved of a check, which must succeed."""
     log = tempfile.TemporaryFile()
-    child = subprocess.Popen(command, stdout=log, stderr=subprocess.STDOUT)
+    child = subprocess.Popen(command, cwd=folder, stdout=log, stderr=subprocess.STDOUT)
     _, status, usage = os.wait4(child.pid, 0)
     log.seek(0)
     said = log.read().decode(errors="replace")
@@ -30,7 +30,7 @@ def run(command):
 def cost(name):
     """A crate's row: seconds, name, functions, peak, wrong answers."""
     folder = kit.ROOT / "crates" / name
-    seconds, peak, functions = run(kit.check(name, folder))
+    seconds, peak, functions = run(kit.check(name), folder)
     return seconds, name, functions, peak, len(list((folder / "must-fail").glob("*.edit")))
 
 

@@ -4,7 +4,7 @@
     tools/must_fail.py CRATE [LABEL ...]
     tools/must_fail.py --apply            tries none; fails where an edit of any crate no longer applies
 
-The crates below CRATE must be proved (`rt check CRATE`). For each edit of crates/CRATE/must-fail and extra-edits it prints where it was refused first and the
+The crates below CRATE must be built (`rt check` in its folder, or `rt ci`). For each edit of crates/CRATE/must-fail and extra-edits it prints where it was refused first and the
 first error, to be looked at: a good wrong answer is refused at a fact that no longer holds.
 """
 
@@ -64,9 +64,9 @@ def tried(crate, edit):
         except (BadEdit, FileNotFoundError) as bad:
             return False, str(bad)
         began = time.time()
-        run = subprocess.run(kit.check(crate, copy), capture_output=True, text=True)
+        run = subprocess.run(kit.check(crate), cwd=copy, capture_output=True, text=True)
         said = (run.stdout + run.stderr).replace(room + "/", "")
-        where = refused_at.first(list(refused_at.refusals(copy, said)))
+        where = refused_at.first(list(refused_at.refusals(crate, said)))
     errors = [line for line in said.split("\n") if ": error" in line]
     refused = run.returncode == 1 and "\nlogic=not-proved" in said
     verdict = "refused" if refused else "NOT REFUSED"

@@ -3,7 +3,7 @@
 
     tools/part_ci.py CRATE ...        tools/part_ci.py cosine calendar demo: the ground
 
-It is what `rt ci` would do if the repository had no other crate: everything from nothing, wrong answers and programs included.
+It is what `rt ci --anew` would do if the repository had no other crate: everything from nothing, wrong answers and programs included.
 """
 
 import pathlib
@@ -33,11 +33,11 @@ def main():
     part = below(sys.argv[1:])
     with tempfile.TemporaryDirectory() as room:
         for name in part:
-            shutil.copytree(kit.ROOT / "crates" / name, pathlib.Path(room) / "crates" / name)
-        lines = (f"{name}: {' '.join(deps)}".rstrip() + "\n" for name, deps in part.items())
+            shutil.copytree(kit.ROOT / "crates" / name, pathlib.Path(room) / "crates" / name, ignore=shutil.ignore_patterns("out"))
+        lines = (f"{' '.join([name, *kind])}: {' '.join(deps)}".rstrip() + "\n" for name, kind, deps in kit.listed() if name in part)
         (pathlib.Path(room) / "crates.txt").write_text("".join(lines))
         began = time.time()
-        run = subprocess.run(["rt", "ci"], cwd=room, capture_output=True, text=True)
+        run = subprocess.run(["rt", "ci", "--anew"], cwd=room, capture_output=True, text=True)
     print(run.stdout[-3000:] if run.returncode else run.stdout.splitlines()[-1])
     print(f"rt ci of {', '.join(part)}: {time.time() - began:.0f} s")
     sys.exit(run.returncode)

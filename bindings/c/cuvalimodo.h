@@ -7,7 +7,7 @@
  *
  * The functions are those of crates/cuvalimodo_c, proved for every input: what they return, write and leave in the clock follows document 01.
  * A refused call returns 01's number and place, and leaves the clock and the lent buffers as they were.
- * Link target/staticlib/libcuvalimodo_c.a (`rt staticlib cuvalimodo_c`; x86-64 Linux).
+ * Link target/staticlib/libcuvalimodo_c.a (`tools/build cuvalimodo_lib`; x86-64 Linux).
  * Nothing checks these declarations against the Rattle source but bindings/test: change both together.
  *
  * What the proofs assume of a caller:

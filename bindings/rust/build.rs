@@ -1,4 +1,4 @@
-//! Links the static library that `rt staticlib cuvalimodo_c` writes: target/staticlib of this repository, or the folder in CUVALIMODO_LIB_DIR.
+//! Links the static library that `tools/build cuvalimodo_lib` writes: target/staticlib of this repository, or the folder in CUVALIMODO_LIB_DIR.
 
 use std::env;
 use std::path::PathBuf;

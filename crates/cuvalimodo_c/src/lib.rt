@@ -4,7 +4,7 @@
 // refusal, with its `place`. Nothing is asked of the caller but a clock: memory that is all zeros, or that one of these calls left. A refused call
 // leaves the clock and the lent buffers as they were. bindings/c/cuvalimodo.h declares all of it for C.
 //
-// (Each function over a lent clock is thin: its proof is a walk by hand.)
+// (Each function over a lent clock is thin. The archive that C links is made of cuvalimodo_lib, whose exports call these.)
 #![tactic(auto)]
 
 ghost use Rattle.std.specs.Prelude.{◌≡◌};
@@ -18,7 +18,7 @@ ghost use Rattle.clock.specs.View.{view, Made};
 ghost use Rattle.clock.specs.Posts.{NewPost, CardsPost, StationPost, DatePost, HeightPost, SeriesPost, TurnsPost, YearPost, BookingsPost, HourlyPost};
 ghost use Rattle.cuvalimodo_c.specs.Answers.{verdict_returned, reading_returned, turnings_returned, cards_told, Plain, PlainReading, PlainTurnings, PlainCards};
 
-mod answers; // what the calls say, in numbers
+pub mod answers; // what the calls say, in numbers
 mod byvalue; // the calls by value, in numbers
 
 use crate::answers::{Cards, Reading, Text, Turnings, Verdict};
