@@ -11,6 +11,7 @@ import sys
 from math import factorial
 
 STEPS = 2048  # in a quarter turn
+WIDTH = 99
 
 TURN = 788_400_000_000_000
 QUARTER = TURN // 4
@@ -33,6 +34,16 @@ def nearest(m, n):
     return (2 * m + n) // (2 * n)
 
 
+def rows(entries):
+    """The entries as rt fmt lays them out: as many in a line as 99 columns take."""
+    laid = ["   "]
+    for entry in entries:
+        if len(laid[-1]) + len(" %d," % entry) > WIDTH:
+            laid.append("   ")
+        laid[-1] += " %d," % entry
+    return laid
+
+
 def text():
     entries = [nearest(2**30 * base(i * STEP), WHOLE) for i in range(STEPS + 1)]
     lines = [
@@ -46,7 +57,7 @@ def text():
         "",
         "pub const COSINES: [u32; ENTRIES] = [",
     ]
-    return "\n".join(lines + ["    %d," % c for c in entries] + ["];", ""])
+    return "\n".join(lines + rows(entries) + ["];", ""])
 
 
 def main():
@@ -59,4 +70,5 @@ def main():
     path.write_text(text())
 
 
-main()
+if __name__ == "__main__":
+    main()
