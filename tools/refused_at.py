@@ -23,15 +23,15 @@ PROMISED = ("what the function ensures", "the invariant of the loop holds")
 PROMISE = re.compile(r"^(\w+-)?returns\b|^loop\b.*-(init|preserved)\b")
 TRIED = re.compile(r"^(?:rt: )?must-fail (\w+)/([\w.-]+)\.edit: (.*)")
 FIRST = re.compile(r"refused, as it must be(?: \((.*?)\))?(?:: (.*))?$")
-# Wrong answers whose first refusal, in the order in which today's prover speaks, is a need; each falls at a fact, too (docs/port/gate.md).
-NEEDS_FIRST = {"turns/one_cut_once_more"}
 
 
 def is_need(crate, name, declared):
-    """Whether what an error names is a goal of a function, as its proof file has it, and no promise. (What is not declared as a goal there is a law of its own.)"""
+    """Whether what an error names is a goal of a function, as its proof file has it, and no promise. What a function asks of
+    its call of itself is what a loop promises. (What is not declared as a goal there is a law of its own.)"""
     path = kit.ROOT / "crates" / crate / name
     goals = re.findall(r"(?m)^\s*(?:pub )?(\S+) : goal\.", path.read_text()) if path.exists() else []
-    return declared in goals and not PROMISE.match(declared)
+    itself = declared.startswith(path.parent.name.lstrip("+") + "-requires")
+    return declared in goals and not itself and not PROMISE.match(declared)
 
 
 def of_error(crate, found):
@@ -82,9 +82,8 @@ def main():
     at_facts = 0
     for crate, label in edits:
         kind, name, line, declared = tried.get((crate, label), ("not tried", "-", "-", "-"))
-        good = kind == "fact" or kind == "need" and f"{crate}/{label}" in NEEDS_FIRST
-        at_facts += good
-        if not good or "--facts" not in sys.argv:
+        at_facts += kind == "fact"
+        if kind != "fact" or "--facts" not in sys.argv:
             print(f"{crate}/{label}: {kind} at {name}:{line}, {declared}")
     print(f"{at_facts} of {len(edits)} wrong answers are refused first at a fact")
     sys.exit(at_facts != len(edits))
