@@ -7,7 +7,7 @@ seed=${1:?tools/compare.sh SEED COUNT [CARD_FILES]}
 count=${2:?tools/compare.sh SEED COUNT [CARD_FILES]}
 files=${3:-$((3 * count))}
 program=target/bin/replay
-[ -x "$program" ] || { echo "no $program: run rt check replay"; exit 2; }
+[ -x "$program" ] || { echo "no $program: run tools/build replay"; exit 2; }
 folder=$(mktemp -d)
 trap 'rm -rf "$folder"' EXIT
 standard=data/standard-cards.txt

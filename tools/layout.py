@@ -14,7 +14,7 @@ import sys
 import kit
 
 TEXTS = re.compile(r"(^|/)[^/]+\.(rt|antt|py|sh|md|rs|c|h)$|^(\.ci/|tools/|bindings/|bench/run$)")
-QUOTING = re.compile(r"^docs/port/|^docs/PORT|\.(patch|svg)$")
+QUOTING = re.compile(r"^docs/PORT|\.(patch|svg)$")
 
 
 def files():

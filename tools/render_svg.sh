@@ -1,6 +1,6 @@
 #!/usr/bin/env bash
 # Draws a day, a month and a year of a semidiurnal, a mixed and a diurnal station, and a day of an estuary with both strides, and renders each by a browser engine: target/drawings/*.png.
-# It needs target/bin/cuvalimodo (rt check cuvalimodo) and chromium (Debian: apt-get install chromium).
+# It needs target/bin/cuvalimodo (tools/build cuvalimodo) and chromium (Debian: apt-get install chromium).
 set -eu
 cd "$(dirname "$0")/.."
 folder=target/drawings
