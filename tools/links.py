@@ -111,8 +111,9 @@ def main():
     for crate in CRATES:
         (kit.ROOT / "crates" / crate / "proofs" / "Linked.antt").write_text(handed_on(crate, laws[crate]))
         names = kit.ROOT / "crates" / crate / "proofs" / "Lib.antt"
-        if "pub mod Linked" not in names.read_text():
-            names.write_text(names.read_text().rstrip("\n") + "\npub mod Linked\n")
+        text = names.read_text() if names.exists() else "-- What other crates cite.\n"
+        if "pub mod Linked" not in text:
+            names.write_text(text.rstrip("\n") + "\npub mod Linked\n")
     (kit.ROOT / "crates" / "claim_runs" / "proofs" / "Program.antt").write_text(program(asked))
 
 
