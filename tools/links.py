@@ -41,16 +41,28 @@ def called(folder, crate):
         yield re.match(r"Rattle\.(\w+)\.proofs\.(.*)", modules[short]).groups()
 
 
-def law(crate, function):
-    return f"linked-{crate}::" + function.replace(".", "::")
+def law(function):
+    return "linked-" + function.replace(".", "-")
 
 
-def handed_on(crate, laws):
-    return (
-        "-- What leaves the crate for a link: the table of its functions' code, what the table asks of the crates below, and that a world with both has\n"
-        "-- the code of each function that is called from above. Assumes nothing.\n"
-        f"pub use Rattle.{crate}.proofs.TheLink.{{{', '.join(['table', 'Below'] + sorted(laws))}}}\n"
-    )
+def handed_on(crate, functions):
+    lines = [
+        "-- What leaves the crate for a link: the table of its functions' code, what the table asks of the crates below, and that a world with both has",
+        "-- the code of each function that is called from above. By what the kit generates, which the crate alone can name. Assumes nothing.",
+        "use prog.Linked.{Tree, World, Holds, in_world}",
+    ]
+    if functions:
+        lines += ["use mathlib.Core.Bool.{true}", "use prog.LinkedThreads.{HasT}"]
+    lines += [f"use Rattle.{crate}.proofs.TheLink as link"]
+    lines += [f"use Rattle.{crate}.proofs.{function}.Symbol as {function.replace('.', '-')}" for function in sorted(functions)]
+    lines += ["", "abbrev pub table : Tree", "table = link.table", "", "abbrev pub Below : World → Type 0", "Below = link.Below", ""]
+    for function in sorted(functions):
+        lines += [
+            f'pub {law(function)} : (W : World) → Holds W "{crate}" table → Below W → HasT (in_world W) true {function.replace(".", "-")}.code',
+            f"{law(function)} = link.linked-{crate}::{function.replace('.', '::')}",
+            "",
+        ]
+    return "\n".join(lines) if functions else "\n".join(lines).replace(", Holds, in_world}", "}")
 
 
 def dashed(crate):
@@ -58,7 +70,7 @@ def dashed(crate):
 
 
 def there(crate, function):
-    return f"{crate}.{law(crate, function)} crates {dashed(crate)}-there {dashed(crate)}-below"
+    return f"{crate}.{law(function)} crates {dashed(crate)}-there {dashed(crate)}-below"
 
 
 def program(asked):
@@ -81,7 +93,9 @@ def program(asked):
     for crate in CRATES:
         lines += [f'{dashed(crate)}-there : Holds crates "{crate}" {crate}.table', f"{dashed(crate)}-there = refl", ""]
         parts = [there(below, function) for below, function in asked[crate]]
-        proof = "(\n" + "".join(f"  {part},\n" for part in parts) + "  tt,\n)" if parts else "tt"
+        proof = "tt"
+        for part in reversed(parts):
+            proof = f"({part}, {proof})"
         lines += [f"{dashed(crate)}-below : {crate}.Below crates", f"{dashed(crate)}-below = {proof}", ""]
     lines += [
         "-- at a call of a name it runs the code of the function of that name",
@@ -104,12 +118,12 @@ def main():
         sys.exit(__doc__)
     folder = pathlib.Path(sys.argv[1])
     asked = {crate: list(called(folder, crate)) for crate in CRATES}
-    laws = {crate: {law(crate, function) for name, owner, function in RUN if owner == crate} for crate in CRATES}
+    functions = {crate: {function for name, owner, function in RUN if owner == crate} for crate in CRATES}
     for parts in asked.values():
         for crate, function in parts:
-            laws[crate].add(law(crate, function))
+            functions[crate].add(function)
     for crate in CRATES:
-        (kit.ROOT / "crates" / crate / "proofs" / "Linked.antt").write_text(handed_on(crate, laws[crate]))
+        (kit.ROOT / "crates" / crate / "proofs" / "Linked.antt").write_text(handed_on(crate, functions[crate]))
         names = kit.ROOT / "crates" / crate / "proofs" / "Lib.antt"
         text = names.read_text() if names.exists() else "-- What other crates cite.\n"
         if "pub mod Linked" not in text:

@@ -4,3 +4,4 @@ pub mod Angles
 pub mod Machine
 pub mod Known
 pub mod Sums
+pub mod Linked

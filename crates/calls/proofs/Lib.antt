@@ -8,3 +8,4 @@ pub mod Usual
 pub mod Booked
 pub mod Carded
 pub mod Singly
+pub mod Linked

@@ -71,7 +71,8 @@ use Rattle.claim.specs.Zeroed.{zeroed, zero_of}
 use Rattle.claim.proofs.Zeros.{zeros-are-zeroed}
 use Rattle.claim.specs.Document.{Last, worked_out, gives, after, gives_all}
 use prog.Routine.{Env}
-use Rattle.claim_runs.specs.Accepted.{z0, frequency_line, five_line, main_line, card_lines, ended, small_file, z0-records, z0-station, none-station, year-sheet, three_minutes, three_places, station_number, stars, july_cards, accepted_calls, AcceptedByTheDocument, AcceptedFrom, HasTheClock, AcceptedInAnyProgram}
+use Rattle.claim_runs.specs.Accepted.{z0, frequency_line, five_line, main_line, card_lines, ended, small_file, z0-records, z0-station, none-station, year-sheet, three_minutes, three_places, station_number, stars, july_cards, accepted_calls, AcceptedByTheDocument, AcceptedFrom, HasTheClock, AcceptedByTheMachine, AcceptedInAnyProgram}
+use Rattle.claim_runs.proofs.Program.{clock_program, has-the-clock}
 use Rattle.claim_runs.specs.Values.{clock_at, zero_memory}
 use Rattle.claim_runs.specs.Runs.{Started, GiveAll}
 use Rattle.claim_runs.proofs.EachKind.{all-reached, new-run, held-new-run}
@@ -307,10 +308,14 @@ module _ (program : Env) (has : HasTheClock program) where
     ∥∥₁_map (all-reached program has always-ends vc started) (λ x. (x.0, x.1, x.2, subst (GiveAll x.1) accepted-by-the-document (on-machine vc x.0 accepted_calls started x.1).exactly)),
   )
 
-pub accepted-by-the-machine : AcceptedInAnyProgram
-accepted-by-the-machine program has =
+pub accepted-in-any-program : AcceptedInAnyProgram
+accepted-in-any-program program has =
     record {
       returned = ∥∥₁_map (new-run program has always-ends) (λ x. (x, accepted-from program has x.value (Started.returned x)));
       left = ∥∥₁_map (held-new-run program has always-ends) (λ m. (zero_of ClockLaws.mir, m.0, m.1, accepted-from program has (clock_at m.1.left m.0 0) (Started.left zeroed zeros-are-zeroed m.1)));
       zeros = accepted-from program has (clock_at zero_memory 0 0) Started.zeros;
     }
+
+-- and some program has the clock's code
+pub accepted-by-the-machine : AcceptedByTheMachine
+accepted-by-the-machine = accepted-in-any-program clock_program has-the-clock

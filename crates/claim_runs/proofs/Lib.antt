@@ -6,5 +6,6 @@ mod Values
 mod Loads
 mod Laid
 mod EachKind
+mod Program
 pub mod OnMachine
 pub mod Accepted

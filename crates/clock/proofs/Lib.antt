@@ -7,3 +7,4 @@ pub mod Lent
 pub mod OneMonth
 pub mod Sheets
 pub mod Hours
+pub mod Linked

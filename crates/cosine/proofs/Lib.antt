@@ -8,3 +8,4 @@ pub mod Claim
 pub mod Rule
 pub mod Computed
 pub mod Quadrants
+pub mod Linked

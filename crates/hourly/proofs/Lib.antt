@@ -8,3 +8,4 @@ pub mod Formats
 pub mod Cards
 pub mod Nearest
 pub mod ReadBack
+pub mod Linked

@@ -3,3 +3,4 @@ pub mod Records
 pub mod Structs
 pub mod Whole
 pub mod Ranges
+pub mod Linked

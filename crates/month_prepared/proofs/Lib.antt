@@ -1,3 +1,4 @@
 pub mod Places
 pub mod Owners
 pub mod OneMonth
+pub mod Linked

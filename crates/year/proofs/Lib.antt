@@ -3,3 +3,4 @@ pub mod Put
 pub mod Recorded
 pub mod Twelve
 pub mod Prepared
+pub mod Linked
