@@ -5,7 +5,7 @@
 
 For each crate NAME it writes crates/NAME/proofs/Linked.antt: the table of its functions' code (`table`), what that asks of the crates below (`Below`), and
 that a world with both has the code of each function which is called from above (`linked-..`). For claim_runs it writes proofs/Program.antt: the
-world of all the tables, and that it has the clock's code. docs/PORT.md, "What is left".
+world of all the tables, and that it has the clock's code. docs/PORT.md, "That a program has the clock's code".
 """
 
 import pathlib
