@@ -17,8 +17,9 @@ use native.Mathlib.Omega.{arith}
 use native.Mathlib.Numerals.{add-one}
 use Rattle.fields.specs.Number as field
 use Rattle.fields.specs.Number.{ranged}
-use Rattle.fields.specs.declared.Field.TheVariants.{Value, OutOfRange}
-use Rattle.fields.specs.declared.Field.{Field}
+use Rattle.std.specs.Prelude.{Result, Ok, Err}
+use Rattle.fields.specs.declared.FieldError.{FieldError}
+use Rattle.fields.proofs.Ranges.{ranged-within, le_z-trans}
 use Rattle.columns.specs.Columns.{columns}
 use Rattle.card.specs.declared.formats.NumberField.{NumberField}
 use Rattle.card.specs.declared.formats.Row.{Row}
@@ -29,7 +30,7 @@ use Rattle.refusals.specs.Checked.{good, ◌>>=◌}
 use Rattle.card.specs.Card.{field_gives, field_on, number, numbers_from}
 
 -- a field whose range fits eight bits
-pub small-fits : (low high v : ℤ) (x : field.Contents) → (le_z (neg_ℤ (pos 127)) low ≡ true) × (le_z high (pos 127) ≡ true) → Value v ≡ ranged low high x → SFits w8 v
+pub small-fits : (low high v : ℤ) (x : field.Contents) → (le_z (neg_ℤ (pos 127)) low ≡ true) × (le_z high (pos 127) ≡ true) → Ok v ≡ ranged low high x → SFits w8 v
 small-fits low high v x (l, h) e = let r = ranged-within low high v x e in fits v (le_z-trans (neg_ℤ (pos 127)) low v l r.0) (le_z-trans v high (pos 127) r.1 h)
   where
     fits : (v : ℤ) → le_z (neg_ℤ (pos 127)) v ≡ true → le_z v (pos 127) ≡ true → SFits w8 v
@@ -51,7 +52,7 @@ pub take-stored : {A : Type 0} (vs : List A) (k : ℕ) (v : A) → k < length vs
 take-stored vs k v h = rw (add-one k) (take-suc-set vs k v h)
 
 -- the number in a field of the line is what the field gives
-pub number_is : (line : List ℕ) (f : NumberField) (x : Field) → x ≡ field_on line f → field_gives f x ≡ number line f
+pub number_is : (line : List ℕ) (f : NumberField) (x : Result ℤ FieldError) → x ≡ field_on line f → field_gives f x ≡ number line f
 unfolding number
 number_is line f x e = ap (field_gives f) e
 
@@ -59,3 +60,12 @@ number_is line f x e = ap (field_gives f) e
 pub row_small : (row : Row) (k : ℕ) → IsSmall (row_field row k)
 row_small row.Doodson k = (refl, refl)
 row_small (row.Differences j) k = (refl, refl)
+
+-- where a number was read, the field gave it
+pub number-in : (line : List ℕ) (f : NumberField) (v : ℤ) → good v ≡ number line f → Ok v ≡ field_on line f
+unfolding number
+number-in line f v e = go (field_on line f) e
+  where
+    go : (x : Result ℤ FieldError) → good v ≡ field_gives f x → Ok v ≡ x
+    go (Ok w) q = let is : v ≡ w = cc in ap Ok is
+    go (Err error) q = let z : ◌≡◌ {A = ℕ} 0 1 = cc in absurd (omega arith)
