@@ -17,7 +17,6 @@ use calendar::day_count;
 use cosine::ENTRIES;
 use limits::FREQUENCIES;
 use month_arguments::astronomy::longitudes_on;
-use month_pairs::pairs::Corrected;
 use month_prepared::{Month, held, no_constituents};
 use month_satellites::latitude::latitude_factors;
 use month_workings::worked::{from_mains, work_mains};
@@ -26,18 +25,10 @@ use station::Station;
 use table::definitions::{find, first_rows};
 use table::{Table, at_u64};
 
-// What preparing a month says: that it is ready, or the record, from 1, that is refused by 11.
-#[derive(Clone, Copy)]
-pub enum Preparation {
-    Ready,
-    TooLarge(usize),
-}
-
-// The answer, and the month where it is ready.
-#[derive(Clone, Copy)]
-pub struct Prepared {
-    pub answer: Preparation,
-    pub month: Month,
+// A record, from 1, whose constituent is refused by 11: its nodal correction is too large.
+#[derive(Clone, Copy, Debug, PartialEq, Eq)]
+pub struct TooLarge {
+    pub record: usize,
 }
 
 // The weight of an amplitude, from X or Y.
@@ -65,7 +56,7 @@ fn prepare_records(
     table: Table,
     station: Station,
     given: Given,
-) -> Prepared
+) -> Result<Month, TooLarge>
     requires table { IsTable cosines.now }
     requires given { IsGiven given }
     requires mains_value { given.mains ≡ table.mains }
@@ -76,8 +67,7 @@ fn prepare_records(
     let shallows = first_rows(&table.shallowcards, 6, table.shallows);
     let mut kept = none_kept();
     let mut month = no_constituents();
-    let mut k = 0;
-    while k < n {
+    for k in 0..n {
         let place = station.places[k];
         let found = find(&mains, table.mains, &shallows, table.shallows, place);
         work_mains(
@@ -92,31 +82,18 @@ fn prepare_records(
             &mut kept,
         );
         let w = from_mains(found, &kept, &table.shallowcards, &table.coefficients);
-        let c = w.corrected;
-        match c {
-            Corrected::TooLarge => {
-                return Prepared {
-                    answer: Preparation::TooLarge(k + 1),
-                    month,
-                };
-            }
-            Corrected::Within(xy) => {
-                let p = weight_of(station.amplitudes[k], xy.x);
-                let q = weight_of(station.amplitudes[k], xy.y);
-                month.arguments[k] = w.argument;
-                month.lags[k] = station.lags[k];
-                month.frequencies[k] = frequency_at(&table.speeds, table.frequencies, place);
-                month.ps[k] = p;
-                month.qs[k] = q;
-                k += 1;
-            }
-        }
+        let xy = w.corrected.ok_or(TooLarge { record: k + 1 })?;
+        let amplitude = station.amplitudes[k];
+        let p = weight_of(amplitude, xy.x);
+        let q = weight_of(amplitude, xy.y);
+        month.arguments[k] = w.argument;
+        month.lags[k] = station.lags[k];
+        month.frequencies[k] = frequency_at(&table.speeds, table.frequencies, place);
+        month.ps[k] = p;
+        month.qs[k] = q;
     }
     month.count = n;
-    Prepared {
-        answer: Preparation::Ready,
-        month,
-    }
+    Ok(month)
 }
 
 // A station's month: every record's constituent, or the first record, from 1, that is refused by 11.
@@ -126,7 +103,7 @@ pub fn prepare(
     station: Station,
     year: u32,
     month: u32,
-) -> Prepared
+) -> Result<Month, TooLarge>
     requires table { IsTable cosines.now }
     requires month_value { in_range year month ≡ true }
     ensures { prepared_of result ≡ month_of (table_of table) (station_of station) year month }
