@@ -21,15 +21,10 @@ use month_prepared::{Month, held, no_constituents};
 use month_satellites::latitude::latitude_factors;
 use month_workings::worked::{from_mains, work_mains};
 use month_workings::workings::{Given, none_kept};
+use refusals::{Refusal, Refused};
 use station::Station;
 use table::definitions::{find, first_rows};
 use table::{Table, at_u64};
-
-// A record, from 1, whose constituent is refused by 11: its nodal correction is too large.
-#[derive(Clone, Copy, Debug, PartialEq, Eq)]
-pub struct TooLarge {
-    pub record: usize,
-}
 
 // The weight of an amplitude, from X or Y.
 fn weight_of(amplitude: u16, x: i64) -> i32
@@ -56,7 +51,7 @@ fn prepare_records(
     table: Table,
     station: Station,
     given: Given,
-) -> Result<Month, TooLarge>
+) -> Result<Month, Refused>
     requires table { IsTable cosines.now }
     requires given { IsGiven given }
     requires mains_value { given.mains ≡ table.mains }
@@ -82,7 +77,10 @@ fn prepare_records(
             &mut kept,
         );
         let w = from_mains(found, &kept, &table.shallowcards, &table.coefficients);
-        let xy = w.corrected.ok_or(TooLarge { record: k + 1 })?;
+        let xy = w.corrected.ok_or(Refused {
+            refusal: Refusal::TooLarge,
+            place: k + 1,
+        })?;
         let amplitude = station.amplitudes[k];
         let p = weight_of(amplitude, xy.x);
         let q = weight_of(amplitude, xy.y);
@@ -103,7 +101,7 @@ pub fn prepare(
     station: Station,
     year: u32,
     month: u32,
-) -> Result<Month, TooLarge>
+) -> Result<Month, Refused>
     requires table { IsTable cosines.now }
     requires month_value { in_range year month ≡ true }
     ensures { prepared_of result ≡ month_of (table_of table) (station_of station) year month }
