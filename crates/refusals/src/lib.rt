@@ -35,6 +35,18 @@ pub struct Refused {
     pub place: usize,
 }
 
+impl Refusal {
+    // This refusal, at a place.
+    pub fn at(self, place: usize) -> Refused
+        ensures { result ≡ record { refusal = self; place = place } }
+    {
+        Refused {
+            refusal: self,
+            place,
+        }
+    }
+}
+
 // What a call says: it is accepted, or refused.
 pub type Answer = Result<(), Refused>;
 
