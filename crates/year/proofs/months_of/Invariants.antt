@@ -5,4 +5,4 @@ use Rattle.calendar.specs.Calendar.{month_minutes}
 use Rattle.year.proofs.months_of.Given as goal
 
 abbrev pub invariant-loop-m : goal.invariant-loop-m
-invariant-loop-m l = (j : ℕ) → j < l.m → get_or l.lasts j 0 ≡ month_minutes l.year (j + 1)
+invariant-loop-m l = (j : ℕ) → j < l.m → get_or l.last-items j 0 ≡ month_minutes l.year (j + 1)
