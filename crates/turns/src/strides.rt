@@ -18,12 +18,10 @@ fn amplitude_at(station: Station, place: usize) -> u16
     ensures { result ≡ amplitude_at (station_of station).records place }
 {
     let count = month_prepared::held(station.count);
-    let mut k = 0;
-    while k < count {
+    for k in 0..count {
         if station.places[k] as usize == place {
             return station.amplitudes[k];
         }
-        k += 1;
     }
     0
 }

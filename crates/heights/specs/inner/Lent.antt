@@ -28,7 +28,9 @@ pub record AreLent (l : LentMonths) : Type 0 where
   pub following : Following l.months
   pub rows : HasRows l.months l.arguments.now l.ps.now l.qs.now
 
--- the constituents of month m of them
+-- the constituents of month m of them, with the frequencies that are the same in each
 pub record IsMonth (l : LentMonths) (m : ℕ) (r : Lent) : Type 0 where
   pub lent : IsLent r
+  pub count : r.count ≡ l.months.count
+  pub frequencies : r.frequencies.now ≡ l.frequencies.now
   pub is : constituents_lent r ≡ (month_at l.arguments.now l.lags.now l.frequencies.now l.ps.now l.qs.now l.months m).constituents
