@@ -77,10 +77,12 @@ fn prepare_records(
             &mut kept,
         );
         let w = from_mains(found, &kept, &table.shallowcards, &table.coefficients);
-        let xy = w.corrected.ok_or(Refused {
-            refusal: Refusal::TooLarge,
-            place: k + 1,
-        })?;
+        let Some(xy) = w.corrected else {
+            return Err(Refused {
+                refusal: Refusal::TooLarge,
+                place: k + 1,
+            });
+        };
         let amplitude = station.amplitudes[k];
         let p = weight_of(amplitude, xy.x);
         let q = weight_of(amplitude, xy.y);

@@ -60,7 +60,10 @@ pub fn shallow_pair<'a>(
     let count = index(natural_at(cards, 6, k, 1));
     let mut p = Pair { x: 1_048_576, y: 0 };
     for j in 0..count {
-        p = times_row_part(kept, cards, coefficients, k, j, p)?;
+        let Some(q) = times_row_part(kept, cards, coefficients, k, j, p) else {
+            return None;
+        };
+        p = q;
     }
     Some(p)
 }
