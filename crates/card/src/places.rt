@@ -43,7 +43,7 @@ pub fn is_among(place: u16, cards: &[u16], width: usize, count: usize) -> bool
 {
     let mut k = 0;
     while k < count {
-        if place == table::at_u16(cards, width * k) {
+        if place == *table::at(cards, width * k, &0) {
             return true;
         }
         k = k + 1;
@@ -70,7 +70,7 @@ pub fn main_at(j: usize, place: u16, cards: &[u16], count: usize) -> Place
 {
     let mut k = 0;
     while k < count {
-        if place == table::at_u16(cards, 3 * k) {
+        if place == *table::at(cards, 3 * k, &0) {
             return Place::At(k as u16);
         }
         k = k + 1;

@@ -24,7 +24,7 @@ use month_workings::worked::{from_mains, work_mains};
 use month_workings::workings::{Given, none_kept};
 use station::Station;
 use table::definitions::{find, first_rows};
-use table::{Table, at_u64};
+use table::{Table, at};
 
 // What preparing a month says: that it is ready, or the record, from 1, that is refused by 11.
 #[derive(Clone, Copy)]
@@ -53,7 +53,7 @@ fn frequency_at(speeds: &[u64; FREQUENCIES], frequencies: usize, place: u8) -> u
     ensures { result ≡ get_or (frequencies_of speeds.now frequencies) place 0 }
 {
     if (place as usize) < frequencies {
-        at_u64(speeds, place as usize)
+        *at(speeds, place as usize, &0)
     } else {
         0
     }

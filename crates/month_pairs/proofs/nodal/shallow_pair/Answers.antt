@@ -16,7 +16,7 @@ use Rattle.month_pairs.proofs.nodal.shallow_pair.Goals as goal
 pub loop-j-init : goal.loop-j-init
 unfolding pair_from_parts shallow_of
 loop-j-init c =
-    (rw (sub-zero, c.index-count.ensures.value ∙ c.natural_at.ensures), record { x = lit≤ tt; y = lit≤ tt }, c.index-count.ensures.upper_bound)
+    (rw (sub-zero, c.index-count.ensures.value ∙ c.entry_at.ensures), record { x = lit≤ tt; y = lit≤ tt }, c.index-count.ensures.upper_bound)
 
 pub times_row_part-c-requires : goal.times_row_part-c-requires
 times_row_part-c-requires c =

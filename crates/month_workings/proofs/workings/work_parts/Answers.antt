@@ -20,10 +20,10 @@ work_main-requires c =
 
 pub loop-j-preserved : goal.loop-j-preserved
 loop-j-preserved c =
-    let main = c.index-main.ensures.value ∙ c.natural_at-in-loop-j.ensures in
+    let main = c.index-main.ensures.value ∙ c.entry_at-in-loop-j.ensures in
     (c.work_main.ensures.kept, one-part-more _ _ c.index-main.result c.loop-j.kept _ (naturals 6 c.args.shallowcards.now c.args.row) c.loop-j.j main c.loop-j.invariant.1 c.work_main.ensures, c.loop-j.invariant.2)
 
 pub returns : goal.returns
 returns c =
-    let count = c.index-count.ensures.value ∙ c.natural_at.ensures in
+    let count = c.index-count.ensures.value ∙ c.entry_at.ensures in
     record { kept = c.loop-j.invariant.0; has = λ j h. c.loop-j.invariant.1 j (omega (arith, h, count, c.loop-j-test.false)) }
