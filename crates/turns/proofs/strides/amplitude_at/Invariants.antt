@@ -8,6 +8,3 @@ use Rattle.turns.proofs.strides.amplitude_at.Given as goal
 
 abbrev pub invariant-loop-k : goal.invariant-loop-k
 invariant-loop-k l = (amplitude_at (records_from l.station.places l.station.amplitudes l.station.lags l.k (l.count - l.k)) l.place ≡ amplitude_at (station_of l.station).records l.place) × (l.count ≤ most_records)
-
-abbrev pub decreases-loop-k : goal.decreases-loop-k
-decreases-loop-k l = l.count - l.k
