@@ -86,15 +86,13 @@ pub fn shallow_argument<'a>(
 {
     let parts = *entry_at(cards, 6, row, 1, &0) as usize;
     let mut v = 0;
-    let mut part = 0;
-    while part < parts {
+    for part in 0..parts {
         let main = *entry_at(cards, 6, row, 2 + part, &0) as usize;
         v = advanced(
             v,
             *entry_at(coefficients, 4, row, part, &0),
             argument_at(kept, main),
         );
-        part += 1;
     }
     v
 }

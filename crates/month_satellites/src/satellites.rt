@@ -156,12 +156,10 @@ pub fn main_sum<'a>(
     let end = start + index(count);
     let mut x: i64 = 1_048_576;
     let mut y: i64 = 0;
-    let mut k = start;
-    while k < end {
+    for k in start..end {
         let t = terms_of(cosines, satellite_at(angles, ratios, k), g, l);
         x = x + t.x;
         y = y + t.y;
-        k = k + 1;
     }
     Pair { x, y }
 }
