@@ -36,7 +36,7 @@ pub fn is_among(place: u16, cards: &[u16], width: usize, count: usize) -> bool
     ensures { result ≡ is_among place (places_in width cards.now count) }
 {
     for k in 0..count {
-        if place == table::at_u16(cards, width * k) {
+        if place == *table::at(cards, width * k, &0) {
             return true;
         }
     }
@@ -61,7 +61,7 @@ pub fn main_at(j: usize, place: u16, cards: &[u16], count: usize) -> Result<u16,
     ensures { card_gives (λ p. p) result ≡ main_at j place (places_in 3 cards.now count) 0 }
 {
     for k in 0..count {
-        if place == table::at_u16(cards, 3 * k) {
+        if place == *table::at(cards, 3 * k, &0) {
             return Ok(k as u16);
         }
     }
