@@ -15,3 +15,8 @@ extreme-more high heights from i h =
     let more : i + 1 - from ≡ suc (i - from) = omega arith in
     let at : from + (i - from) ≡ i = omega arith in
     rw (more, at)
+
+-- by whether turn i lies beyond the best so far
+pub extreme-next : (high : Bool) (heights : List ℤ) (from i : ℕ) {best x y : ℕ} {t : Bool} → from ≤ i → best ≡ extreme_turn high heights from (i - from) → x ≡ raised_at heights i → y ≡ raised_at heights best → t ≡ is_beyond high x y
+    → cond t i best ≡ extreme_turn high heights from (i + 1 - from)
+extreme-next high heights from i {best} {x} {y} {t} h e f g l = rw (extreme-more high heights from i h, ← e, ← f, ← g, ← l)

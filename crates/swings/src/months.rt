@@ -55,13 +55,7 @@ fn extreme_turn(high: bool, heights: &[i64], from: usize, to: usize) -> usize
 }
 
 // A month of a year, of so many turns in two lent rows.
-pub fn month_of(
-    year: u32,
-    month: u32,
-    count: usize,
-    minutes: &[u32],
-    heights: &[i64],
-) -> Month
+pub fn month_of(year: u32, month: u32, count: usize, minutes: &[u32], heights: &[i64]) -> Month
     ensures { result ≡ month_of year month count minutes.now heights.now }
 {
     let before = days_before(year, month);
