@@ -3,6 +3,8 @@
 
 ghost use Rattle.std.specs.Prelude.{◌≡◌, ◌≤◌, min, length, IfOk};
 
+pub mod pages; // a page with the place behind what was put last
+
 use std::io;
 
 // Writes out the first bytes of a page; the next byte goes to its start.
