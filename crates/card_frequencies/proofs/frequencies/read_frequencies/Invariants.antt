@@ -12,7 +12,6 @@ use Rattle.table.specs.inner.View.{listed, frequency_of}
 use Rattle.limits.specs.Limits.{most_frequencies}
 use Rattle.card.specs.Formats.{frequency_name}
 use Rattle.card_frequencies.specs.Frequencies.{frequencies_from}
-use Rattle.card_frequencies.specs.inner.Answers.{frequency_gives}
 use Rattle.card_frequencies.proofs.frequencies.Rows.{frequency-room, frequency-put, frequencies-end}
 use Rattle.card_frequencies.proofs.frequencies.Rows.{frequencies-step}
 use Rattle.card_frequencies.proofs.frequencies.read_frequencies.Given as goal

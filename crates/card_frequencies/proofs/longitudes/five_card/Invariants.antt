@@ -16,6 +16,3 @@ use Rattle.card_frequencies.proofs.longitudes.five_card.Given as goal
 
 abbrev pub invariant-loop-k : goal.invariant-loop-k
 invariant-loop-k l = (l.k ≤ 5) × (length l.values ≡ 5) × (numbers_from l.line (five_field l.card) (map pos (take l.k l.values)) l.k (5 - l.k) ≡ numbers l.line (five_field l.card) 5)
-
-abbrev pub decreases-loop-k : goal.decreases-loop-k
-decreases-loop-k l = 5 - l.k

@@ -9,7 +9,7 @@ use Rattle.card_mains.proofs.mains.main_made.Goals as goal
 pub returns-then-satellites-count-gt-SATELLITES : goal.returns-then-satellites-count-gt-SATELLITES
 unfolding main_made
 returns-then-satellites-count-gt-SATELLITES c =
-    rw (lt-ltb _ _ c.if-satellites-count-gt-SATELLITES.true) (rw c.only.ensures at c.failed.ensures)
+    rw (c.only.ensures, lt-ltb _ _ c.if-satellites-count-gt-SATELLITES.true)
 
 pub returns : goal.returns
 unfolding main_made

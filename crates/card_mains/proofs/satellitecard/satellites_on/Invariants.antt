@@ -15,6 +15,3 @@ use Rattle.card_mains.proofs.satellitecard.satellites_on.Given as goal
 abbrev pub invariant-loop-j : goal.invariant-loop-j
 invariant-loop-j l = (l.j ≤ l.count) × (satellites_on l.line (listed (satellite_of l.angles l.ratios) l.first l.j) l.j (l.count - l.j) ≡ satellites_on l.line [] 0 l.count)
     × AsBefore (satellite_of l.angles l.ratios) (satellite_of l.initial.angles l.initial.ratios) l.first × SatelliteRoom l.angles l.ratios
-
-abbrev pub decreases-loop-j : goal.decreases-loop-j
-decreases-loop-j l = l.count - l.j
