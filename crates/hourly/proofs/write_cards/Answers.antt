@@ -10,7 +10,6 @@ use Rattle.calendar.specs.Calendar.{month_days}
 use Prim.{Unit}
 use Prim.Native.Nat.{ℕ}
 use Rattle.refusals.specs.Outcome.{Outcome, accepted, refused, number_of}
-use Rattle.std.proofs.lemmas.Result.{err_from_is_err_and}
 use Rattle.hourly.specs.Format.{heights_a_card, narrow}
 use Rattle.hourly.specs.Month.{centimetres, heights_asked}
 use Rattle.hourly.specs.Writing.{cards_written}
