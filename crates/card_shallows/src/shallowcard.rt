@@ -12,22 +12,14 @@ ghost use Rattle.card.specs.inner.Places.{places_in};
 ghost use Rattle.card_shallows.specs.inner.Answers.{in_row};
 
 use crate::parts::{ShallowRow, parts_on};
+use crate::shallows::Shallows;
 use card::faults::{Fault, Trouble, What};
 use card::formats::SHALLOW_NAME;
-use card::lines::{Opening, Reached, begins};
+use card::lines::{Opening, begins};
 use card::places::{is_among, place_named};
 use card::{faults, formats, natural_field};
 use limits::SHALLOWS;
-use table::{COEFFICIENTS, SHALLOW_CARDS, Table};
-
-// Where the reader of part 4 stands, and the shallow constituents that it has read.
-#[derive(Clone, Copy)]
-pub struct Shallows {
-    pub reached: Reached,
-    pub count: usize,
-    pub cards: [u16; SHALLOW_CARDS],
-    pub coefficients: [i8; COEFFICIENTS],
-}
+use table::Table;
 
 // The place of a card's own name, if no main and no shallow constituent before it has it. The table is that of the parts before.
 fn own_place(line: &[u8], table: &Table, before: &Shallows) -> Result<u16, Fault>

@@ -10,11 +10,20 @@ ghost use Rattle.card.specs.inner.Lines.{reading_gives, WithinFile};
 ghost use Rattle.card_shallows.specs.inner.Answers.{shallows_in};
 
 use crate::parts::ShallowRow;
-use crate::shallowcard::{Shallows, next_shallow};
+use crate::shallowcard::next_shallow;
 use card::faults;
 use card::faults::{Trouble, What};
 use card::lines::{Misread, Reached, after_line, line_at};
 use table::{COEFFICIENTS, SHALLOW_CARDS, Table};
+
+// Where the reader of part 4 stands, and the shallow constituents that it has read.
+#[derive(Clone, Copy)]
+pub struct Shallows {
+    pub reached: Reached,
+    pub count: usize,
+    pub cards: [u16; SHALLOW_CARDS],
+    pub coefficients: [i8; COEFFICIENTS],
+}
 
 // Stores the rows of shallow constituent k.
 fn put_shallow(

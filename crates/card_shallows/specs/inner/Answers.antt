@@ -6,7 +6,7 @@ use Rattle.refusals.specs.Checked.{good, ◌>>=◌}
 use Rattle.card.specs.Card.{Card}
 use Rattle.card_shallows.specs.declared.parts.PartRead.{PartRead}
 use Rattle.card_shallows.specs.declared.parts.ShallowRow.{ShallowRow}
-use Rattle.card_shallows.specs.declared.shallowcard.Shallows.{Shallows}
+use Rattle.card_shallows.specs.declared.shallows.Shallows.{Shallows}
 
 -- a part
 abbrev pub part_in : PartRead → Part
