@@ -37,6 +37,7 @@ fn frequency_fields(line: &[u8], names: &[u8], count: usize) -> Result<u64, Faul
 fn frequency_card(line: &[u8], names: &[u8], count: usize) -> Result<Option<u64>, Fault>
     ensures { next_gives (frequency_on line.now) result ≡ next_frequency (names_from names.now 0 count) line.now }
 {
+    // No `?`: `has-the-clock` of claim_runs cannot have std's code.
     match begins(line, count, FREQUENCIES, Trouble::TooManyFrequencies) {
         Ok(Opening::Ends) => Ok(None),
         Ok(Opening::Fields) => match frequency_fields(line, names, count) {
@@ -76,6 +77,7 @@ pub fn read_frequencies(file: &[u8]) -> Result<Frequencies, Misread>
     let mut count = 0;
     let mut at = 0;
     let mut n = 1;
+    // No iterator over the lines, and no `?`: `has-the-clock` of claim_runs cannot have std's code.
     while at < file.len() {
         let line = line_at(file, at);
         let next = after_line(file, at, line.len());

@@ -17,6 +17,7 @@ pub fn five_card(line: &[u8], card: FiveCard) -> Result<[u64; 5], Fault>
 {
     let mut values = [0u64; 5];
     for k in 0..5 {
+        // No `?`: `has-the-clock` of claim_runs cannot have std's code.
         match natural_field(line, formats::five_field(card, k)) {
             Ok(value) => values[k] = value,
             Err(fault) => return Err(fault),
@@ -48,6 +49,7 @@ pub fn read_five(file: &[u8], from: Reached, card: FiveCard) -> Result<FiveRead,
     let line = line_at(file, at);
     if columns::line_good(line) {
         let next = after_line(file, at, line.len());
+        // No `map_err`: `has-the-clock` of claim_runs cannot have std's code.
         return match five_card(line, card) {
             Ok(values) => Ok(FiveRead {
                 reached: Reached {

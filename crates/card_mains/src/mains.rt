@@ -54,6 +54,7 @@ fn main_numbers(line: &[u8], place: u16, satellites: usize) -> Result<MainRead, 
     requires { satellites ≤ most_satellites }
     ensures { card_gives main_read result ≡ main_numbers place satellites line.now }
 {
+    // No `?`: `has-the-clock` of claim_runs cannot have std's code.
     let doodson = match small_row(line, Row::Doodson, 6) {
         Ok(doodson) => doodson,
         Err(fault) => return Err(fault),
@@ -79,6 +80,7 @@ fn main_place(
     requires { (frequencies ≤ most_frequencies) × (mains ≤ most_mains) }
     ensures { card_gives (λ p. p) result ≡ new_place (names_from names.now 0 frequencies) (places_in 3 cards.now mains) (columns line.now main_name 5) }
 {
+    // No `?`: `has-the-clock` of claim_runs cannot have std's code.
     match place_named(line, MAIN_NAME, names, frequencies) {
         Ok(place) => {
             if is_among(place, cards, 3, mains) {
@@ -102,6 +104,7 @@ fn main_card(
     requires { (frequencies ≤ most_frequencies) × (mains ≤ most_mains) × (satellites ≤ most_satellites) }
     ensures { card_gives main_read result ≡ main_card (names_from names.now 0 frequencies) (places_in 3 cards.now mains) satellites line.now }
 {
+    // No `?`: `has-the-clock` of claim_runs cannot have std's code.
     match main_place(line, names, frequencies, cards, mains) {
         Ok(place) => main_numbers(line, place, satellites),
         Err(fault) => Err(fault),
@@ -120,6 +123,7 @@ pub fn next_main(
     requires { (frequencies ≤ most_frequencies) × (mains ≤ most_mains) × (satellites ≤ most_satellites) }
     ensures { next_gives main_read result ≡ next_main (names_from names.now 0 frequencies) (places_in 3 cards.now mains) satellites line.now }
 {
+    // No `?`: `has-the-clock` of claim_runs cannot have std's code.
     match begins(line, mains, MAINS, Trouble::TooManyMains) {
         Ok(Opening::Ends) => Ok(None),
         Ok(Opening::Fields) => match main_card(line, names, frequencies, cards, mains, satellites) {

@@ -44,6 +44,7 @@ fn satellites_on(
     ensures as_before { AsBefore (satellite_of angles.new ratios.new) (satellite_of angles.old ratios.old) first × SatelliteRoom angles.new ratios.new }
 {
     for j in 0..count {
+        // No `?`: `has-the-clock` of claim_runs cannot have std's code.
         match satellite_fields(line, j) {
             Ok(s) => put_satellite(angles, ratios, first + j, s),
             Err(fault) => return Err(fault),

@@ -23,6 +23,7 @@ pub fn satellite_fields(line: &[u8], j: usize) -> Result<SatelliteRead, Fault>
     requires { j < satellites_a_card }
     ensures { (card_gives satellite_read result ≡ satellite line.now j) × IfOk result (λ s. length s.differences ≡ 6) }
 {
+    // No `?`: `has-the-clock` of claim_runs cannot have std's code.
     let differences = match small_row(line, Row::Differences(j), 3) {
         Ok(differences) => differences,
         Err(fault) => return Err(fault),

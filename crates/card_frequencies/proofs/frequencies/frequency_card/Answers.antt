@@ -1,5 +1,4 @@
 -- `card_frequencies::frequencies::frequency_card` meets its contract: how the card begins, then its fields.
-use borrow.Author.Rules.{rules}
 use Rattle.card_frequencies.specs.Frequencies.{next_frequency}
 use Rattle.columns.proofs.names.Names.{names-count}
 use Rattle.card_frequencies.proofs.frequencies.frequency_card.Goals as goal

@@ -1,5 +1,4 @@
 -- `card_frequencies::frequencies::frequency_fields` meets its contract: the name, then the number to the right of it.
-use borrow.Author.Rules.{rules}
 use mathlib.Core.Path.{refl}
 use Rattle.card.specs.Card.{new_name}
 use Rattle.card_frequencies.specs.Frequencies.{frequency_card}

@@ -1,10 +1,7 @@
-use borrow.Author.Rules.{rules}
-use native.Mathlib.Nat.{add-zero}
 use mathlib.Core.Path.{◌≡◌}
 use Prim.Native.Nat.{◌+◌, ◌-◌, ◌*◌}
 use lib.Seq.{sets}
 use Rattle.columns.specs.Columns.{columns}
-use Rattle.card_frequencies.proofs.frequencies.Rows.{store-more, store-none}
 use Rattle.card_frequencies.proofs.frequencies.put_name.Given as goal
 
 abbrev pub invariant-loop-j : goal.invariant-loop-j

@@ -3,18 +3,15 @@
 use borrow.Author.Rules.{rules}
 use native.Mathlib.Omega.{arith}
 use mathlib.Core.Path.{◌≡◌, refl, sym, ap, ◌∙◌}
-use mathlib.Core.List.{[]}
 use Rattle.std.specs.Prelude.{Ok}
-use Prim.Native.Nat.{◌+◌, ◌-◌, ◌*◌, ◌≤◌, ◌<◌}
-use lib.ListN.{length, drop}
+use Prim.Native.Nat.{◌*◌, ◌<◌}
+use lib.ListN.{length}
 use lib.Seq.{sets, length-sets}
 use Rattle.columns.specs.Columns.{columns}
-use Rattle.columns.specs.Lines.{lines_of}
 use Rattle.columns.proofs.Columns.{length-padded}
-use Rattle.table.specs.inner.View.{listed, frequency_of}
+use Rattle.table.specs.inner.View.{listed}
 use Rattle.limits.specs.Limits.{most_frequencies}
 use Rattle.card.specs.Formats.{frequency_name}
-use Rattle.card_frequencies.specs.Frequencies.{frequencies_from}
 use Rattle.card_frequencies.specs.inner.Answers.{frequency_on}
 use Rattle.card.specs.inner.Lines.{next_gives}
 use Rattle.card_frequencies.proofs.frequencies.Rows.{frequency-room, frequency-put, frequencies-end}

@@ -1,14 +1,13 @@
 -- `card_frequencies::longitudes::five_card` meets its contract. The loop keeps that reading on from field k gives what reading the whole card gives.
 use borrow.Author.Rules.{rules}
 use native.Mathlib.Omega.{arith}
-use mathlib.Core.Path.{◌≡◌, refl}
+use mathlib.Core.Path.{refl}
 use mathlib.Core.List.{map}
-use Prim.Native.Nat.{◌-◌, ◌≤◌, ◌<◌}
+use Prim.Native.Nat.{◌≤◌, ◌<◌}
 use lib.ListN.{length, take}
 use lib.Seq.{take_all}
 use lib.IntN.{pos}
 use Rattle.card.specs.Formats.{five_field}
-use Rattle.card.specs.Card.{numbers_from, numbers}
 use Rattle.card_frequencies.specs.Longitudes.{five_card}
 use Rattle.card.proofs.Ranges.{numbers_more, numbers-none, take-stored}
 use Rattle.card_frequencies.proofs.longitudes.Fives.{map-nat_abs-pos, five-natural}

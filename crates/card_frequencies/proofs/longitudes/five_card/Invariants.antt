@@ -1,17 +1,10 @@
-use borrow.Author.Rules.{rules}
-use native.Mathlib.Omega.{arith}
-use mathlib.Core.Path.{◌≡◌, refl}
+use mathlib.Core.Path.{◌≡◌}
 use mathlib.Core.List.{map}
-use Prim.Native.Nat.{◌-◌, ◌≤◌, ◌<◌}
+use Prim.Native.Nat.{◌-◌, ◌≤◌}
 use lib.ListN.{length, take}
-use lib.Seq.{take_all}
 use lib.IntN.{pos}
 use Rattle.card.specs.Formats.{five_field}
 use Rattle.card.specs.Card.{numbers_from, numbers}
-use Rattle.card_frequencies.specs.Longitudes.{five_card}
-use Rattle.card.proofs.Ranges.{numbers_more, numbers-none, take-stored}
-use Rattle.card_frequencies.proofs.longitudes.Fives.{map-nat_abs-pos, five-natural}
-use mathlib.Core.List.{map-append, ◌∷◌, []}
 use Rattle.card_frequencies.proofs.longitudes.five_card.Given as goal
 
 abbrev pub invariant-loop-k : goal.invariant-loop-k

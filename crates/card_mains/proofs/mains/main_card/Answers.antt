@@ -1,5 +1,4 @@
 -- `card_mains::mains::main_card` meets its contract: its name, then its numbers.
-use borrow.Author.Rules.{rules}
 use Rattle.card_mains.specs.Mains.{main_card}
 use Rattle.card_mains.proofs.mains.main_card.Goals as goal
 

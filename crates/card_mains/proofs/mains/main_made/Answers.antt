@@ -1,5 +1,4 @@
 -- `card_mains::mains::main_made` meets its contract: the one test of the definition.
-use borrow.Author.Rules.{rules}
 use borrow.Author.Tests.{lt-ltb, le-ltb}
 use mir.Syntax.{w8}
 use mir.ValLaws.{to_z-of_z}

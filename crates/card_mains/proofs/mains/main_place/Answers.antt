@@ -1,5 +1,4 @@
 -- `card_mains::mains::main_place` meets its contract: the place of the name, then whether it is defined.
-use borrow.Author.Rules.{rules}
 use Rattle.card.specs.Card.{new_place}
 use Rattle.card_mains.proofs.mains.main_place.Goals as goal
 

@@ -1,5 +1,4 @@
 -- `card_mains::mains::next_main` meets its contract: how the card begins, then what it gives.
-use borrow.Author.Rules.{rules}
 use lib.ListN.{get_or}
 use Prim.Native.Nat.{◌*◌}
 use Rattle.table.proofs.Rows.{listed-length}

@@ -1,17 +1,14 @@
 -- `card_mains::satellitecard::satellites_on` meets its contract. The loop keeps that reading on from satellite j gives what reading all of them gives,
 -- and that the satellites stored before are as they were. Rests on the laws of part 3.
-use borrow.Author.Rules.{rules}
 use mathlib.Core.Path.{◌≡◌, refl, ap, ◌∙◌}
 use mathlib.Core.List.{[], ◌∷◌}
 use native.Mathlib.Omega.{arith}
 use native.Mathlib.Nat.{sub-zero}
-use Prim.Native.Nat.{◌+◌, ◌-◌, ◌*◌, ◌≤◌}
+use Prim.Native.Nat.{◌+◌, ◌*◌}
 use lib.ListN.{length, length-set, take, set}
 use lib.Seq.{length-sets, length-take-le, sets}
 use Rattle.table.specs.inner.View.{listed, satellite_of}
-use Rattle.card_mains.specs.Satellites.{satellites_on}
 use Rattle.card_mains.proofs.satellitecard.OfSatellites.{satellite-put, satellite-kept, satellites-grow, satellites-more, satellites-none}
-use Rattle.card_mains.specs.inner.Satellites.{AsBefore, SatelliteRoom}
 use Rattle.card_mains.proofs.satellitecard.satellites_on.Goals as goal
 
 pub loop-j-init : goal.loop-j-init
