@@ -49,8 +49,8 @@ pub fn from_mains<'a>(found: Option<Defined>, kept: &'a [i64; KEPT], table: &'a 
             corrected: pair_at(kept, row),
         },
         Some(Defined::Shallow(row)) => Worked {
-            argument: shallow_argument(kept, &table.shallowcards, &table.coefficients, row),
-            corrected: shallow_pair(kept, &table.shallowcards, &table.coefficients, row),
+            argument: shallow_argument(kept, table, row),
+            corrected: shallow_pair(kept, table, row),
         },
         None => Worked {
             argument: 0,

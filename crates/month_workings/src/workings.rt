@@ -77,15 +77,7 @@ fn sum_of<'a>(cosines: &'a [u32; ENTRIES], table: &'a Table, k: usize, given: Gi
     let l = nodal_of(given.longitudes);
     let first = *entry_at(&table.maincards, 3, k, 1, &0);
     let count = *entry_at(&table.maincards, 3, k, 2, &0);
-    main_sum(
-        cosines,
-        &table.satelliteangles,
-        &table.satelliteratios,
-        first,
-        count,
-        given.factors,
-        l,
-    )
+    main_sum(cosines, table, first, count, given.factors, l)
 }
 
 // Works out the main in row k, if it is not yet.

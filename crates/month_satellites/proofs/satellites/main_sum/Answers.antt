@@ -50,7 +50,7 @@ loop-k-preserved c = record {
 pub returns : goal.returns
 returns c =
     record {
-      result_value = pair_is (factors_of c.args.g) (longitudes_of c.args.l) (satellite_of c.args.angles.now c.args.ratios.now) (to_z w64 c.loop-k.x-bits) (to_z w64 c.loop-k.y-bits) c.index-start.result c.index.result c.args.first c.args.count
+      result_value = pair_is (factors_of c.args.g) (longitudes_of c.args.l) (satellite_of c.args.table.now.satelliteangles c.args.table.now.satelliteratios) (to_z w64 c.loop-k.x-bits) (to_z w64 c.loop-k.y-bits) c.index-start.result c.index.result c.args.first c.args.count
           (done _ _ _ _ _ c.loop-k.k (to_z w64 c.loop-k.x-bits) c.loop-k-test.false c.loop-k.invariant.x) (done _ _ _ _ _ c.loop-k.k (to_z w64 c.loop-k.y-bits) c.loop-k-test.false c.loop-k.invariant.y) c.index-start.ensures.value c.index.ensures.value;
       sized = record {
         x = le_trans (room _ _ _ _ _ c.loop-k.k (to_z w64 c.loop-k.x-bits) (omega arith) (omega arith) c.loop-k.invariant.x) (lit≤ tt);

@@ -10,6 +10,6 @@ use Rattle.month_satellites.proofs.satellites.main_sum.Given as goal
 
 abbrev pub invariant-loop-k : goal.invariant-loop-k
 invariant-loop-k l = record {
-  x : Running (satellite_term fixed_cosine (factors_of l.g) (longitudes_of l.l)) (satellite_of l.angles l.ratios) (pos (2 ^ 20)) l.start l.end l.k l.x;
-  y : Running (satellite_term fixed_sine (factors_of l.g) (longitudes_of l.l)) (satellite_of l.angles l.ratios) (pos 0) l.start l.end l.k l.y;
+  x : Running (satellite_term fixed_cosine (factors_of l.g) (longitudes_of l.l)) (satellite_of l.table.satelliteangles l.table.satelliteratios) (pos (2 ^ 20)) l.start l.end l.k l.x;
+  y : Running (satellite_term fixed_sine (factors_of l.g) (longitudes_of l.l)) (satellite_of l.table.satelliteangles l.table.satelliteratios) (pos 0) l.start l.end l.k l.y;
 }
