@@ -49,20 +49,16 @@ pub fn no_rows() -> Rows
 pub fn at_most(n: usize) -> usize
     ensures { result ≡ min n most_records }
 {
-    if n < RECORDS { n } else { RECORDS }
+    n.min(RECORDS)
 }
 
 // The records taken apart, the first 146 of them: the thin function over the lent slice of structs.
 pub fn rows_of(rs: &[Record]) -> Rows
     ensures { result ≡ rows_of rs.now }
 {
-    let m = at_most(rs.len());
     let mut rows = no_rows();
-    let mut i: usize = 0;
-    while i < m {
-        let r = rs[i];
+    for (i, r) in rs[..at_most(rs.len())].iter().enumerate() {
         rows = put(rows, i, r.place, r.amplitude, r.phase);
-        i += 1;
     }
     rows
 }
