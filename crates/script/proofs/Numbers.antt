@@ -11,7 +11,7 @@ use Rattle.script.specs.Words.{Reading, read, unread, reading, onward, ended, la
 use Rattle.script.specs.Script.{cards_of, date_of, height_of, series_of, turns_of, year_search_of, year_of, bookings_of, hourly_of, with_strides}
 use Rattle.script.specs.declared.Call.{Call}
 use Rattle.script.specs.declared.Call.TheVariants.{Cards, Station, Date, Height, Series, Turns, Year, Bookings, Hourly}
-use Rattle.script.specs.declared.Record.{Record}
+use Rattle.station.specs.declared.records.Record.{Record}
 
 module _ {A : Type 0} (g : Option (List ℕ) → Option A) (none : g None ≡ None) where
   -- a number, with others behind it

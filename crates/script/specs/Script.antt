@@ -5,7 +5,7 @@ use Rattle.station.specs.Strides.{usual_strides}
 use Rattle.script.specs.Words.{words, largest, reading, onward, last_number, given, last_two, given_two}
 use Rattle.script.specs.declared.Call.{Call}
 use Rattle.script.specs.declared.Call.TheVariants.{Cards, Station, Date, Height, Series, Turns, Year, Bookings, Hourly}
-use Rattle.script.specs.declared.Record.{Record}
+use Rattle.station.specs.declared.records.Record.{Record}
 
 -- ---- the calls, from the words behind the first
 

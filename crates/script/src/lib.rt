@@ -9,6 +9,7 @@ ghost use Rattle.script.specs.inner.Left.{words_from};
 mod words; // words and decimal numbers
 
 use crate::words::{field_at, numbers_at, word_end};
+use station::records::Record;
 use station::strides;
 use station::strides::Strides;
 
@@ -37,14 +38,6 @@ pub enum Call {
     Year(YearLine),
     Bookings(u32, u32),
     Hourly(u32, u32),
-}
-
-// A line of a station.
-#[derive(Clone, Copy)]
-pub struct Record {
-    pub place: u8,
-    pub amplitude: u32,
-    pub phase: u32,
 }
 
 // cards BYTES
