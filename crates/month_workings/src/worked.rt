@@ -8,18 +8,17 @@ use cosine::ENTRIES;
 use month_arguments::KEPT;
 use month_arguments::arguments::{argument_at, shallow_argument};
 use month_pairs::nodal::{pair_at, shallow_pair};
-use month_pairs::pairs::Corrected;
 use month_satellites::satellites::Pair;
 use table::definitions::Found;
 use table::{
     COEFFICIENTS, MAIN_ANGLES, MAIN_CARDS, SATELLITE_ANGLES, SATELLITE_RATIOS, SHALLOW_CARDS,
 };
 
-// What stands at a place of the table: its V, and its pair or refusal 11.
+// What stands at a place of the table: its V, and its pair, or none by refusal 11.
 #[derive(Clone, Copy)]
 pub struct Worked {
     pub argument: u64,
-    pub corrected: Corrected,
+    pub corrected: Option<Pair>,
 }
 
 // Works out the mains that a constituent needs, those that are not yet.
@@ -89,7 +88,7 @@ pub fn from_mains<'a>(
         },
         Found::Nothing => Worked {
             argument: 0,
-            corrected: Corrected::Within(Pair { x: 0, y: 0 }),
+            corrected: Some(Pair { x: 0, y: 0 }),
         },
     }
 }

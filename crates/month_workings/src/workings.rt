@@ -136,8 +136,7 @@ pub fn work_parts<'a>(
     ensures { WithParts (argument_by given angles.now) (corrected_by given cards.now satelliteangles.now ratios.now) (naturals 6 shallowcards.now row) kept.new }
 {
     let count = index(natural_at(shallowcards, 6, row, 1));
-    let mut j = 0;
-    while j < count {
+    for j in 0..count {
         let main = index(natural_at(shallowcards, 6, row, 2 + j));
         work_main(
             cosines,
@@ -149,6 +148,5 @@ pub fn work_parts<'a>(
             given,
             kept,
         );
-        j = j + 1;
     }
 }

@@ -5,7 +5,7 @@ ghost use Rattle.std.specs.Prelude.{◌≡◌};
 ghost use Rattle.refusals.specs.Outcome.{number_of};
 
 // The rows of 01's two tables of refusals, in their order, and those that 02's requests add, each with the number that it is given.
-#[derive(Clone, Copy, Debug, PartialEq, Eq)]
+#[derive(Clone, Copy, PartialEq, Eq)]
 pub enum Refusal {
     BadLine = 1,
     Malformed = 2,
@@ -28,8 +28,8 @@ pub enum Refusal {
     BadStride = 35,
 }
 
-// A refusal, with the place that 01 gives it.
-#[derive(Clone, Copy, Debug, PartialEq, Eq)]
+// A refusal, with the place that 01 gives it. (No PartialEq or Debug: they call std's code, which `has-the-clock` of claim_runs can't have.)
+#[derive(Clone, Copy)]
 pub struct Refused {
     pub refusal: Refusal,
     pub place: usize,

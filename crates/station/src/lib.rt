@@ -49,7 +49,12 @@ fn is_repeated(places: &[u8; RECORDS], k: usize, place: u8) -> bool
     requires { k ≤ most_records }
     ensures { result ≡ is_among place (places_before places.now k) }
 {
-    places[..k].contains(&place)
+    for earlier in &places[..k] {
+        if *earlier == place {
+            return true;
+        }
+    }
+    false
 }
 
 // Whether an amplitude is out of range.
@@ -113,7 +118,10 @@ fn take_records(
 {
     let mut station = empty;
     for k in 0..n {
-        record_answer(frequencies, rows, k)?;
+        // No `?`: it calls std's code, which `has-the-clock` of claim_runs can't have.
+        if let Err(refused) = record_answer(frequencies, rows, k) {
+            return Err(refused);
+        }
         let amplitude = narrow(rows.amplitudes[k]);
         let phase = narrow(rows.phases[k]);
         station = with_record(station, k, rows.places[k], amplitude, phase);

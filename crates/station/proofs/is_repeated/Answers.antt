@@ -1,32 +1,49 @@
--- A place is among the first k where the slice of them contains it. By induction on k. Assumes nothing.
-use mathlib.Core.Path.{◌≡◌, refl, sym, ◌∙◌}
-use mathlib.Core.Bool.{Bool, true, false, or_comm, or-false}
+-- A place is among the first k where it is one of them. By induction on k. Assumes nothing.
+use mathlib.Core.Path.{◌≡◌, refl, sym}
+use mathlib.Core.Bool.{Bool, true, false, ◌||◌}
+use mathlib.Core.Logic.{⊎_elim}
 use Prim.Native.Nat.{ℕ, zero, suc, ◌≤◌, ◌<◌}
 use mathlib.Core.List.{List}
+use native.Mathlib.Nat.{eq-or-lt_of_le}
 use native.Mathlib.Omega.{arith}
-use lib.Dec.{eqb}
-use borrow.Author.Tests.{eqb-true, eqb-false, ne_eqb}
-use lib.ListN.{length, get_or, take}
-use lib.Seq.{take-suc}
-use Rattle.std.specs.List.{list_any}
-use Rattle.std.proofs.lemmas.List.Folds.{list_any-append}
+use borrow.Author.Count.{below_none, below_more}
+use borrow.Author.Tests.{eq-eqb, ne_eqb}
+use lib.ListN.{get_or}
+use lib.Seq.{get_or-take, length-take-le}
 use Rattle.refusals.specs.Places.{is_among}
 use Rattle.station.specs.inner.Station.{places_before}
 use Rattle.station.proofs.is_repeated.Goals as goal
 
-eqb-swap : (a b : ℕ) → eqb a b ≡ eqb b a
-eqb-swap a b = by (eqb a b) refl
-  where
-    by : (t : Bool) → eqb a b ≡ t → eqb a b ≡ eqb b a
-    by true e = rw (eqb-true a b e)
-    by false e = e ∙ sym (ne_eqb b a (λ s. eqb-false a b e (sym s)))
+or-true : (b : Bool) → (b || true) ≡ true
+or-true true = refl
+or-true false = refl
 
-any-is : (place : ℕ) (places : List ℕ) (k : ℕ) → k ≤ length places → list_any (λ y. eqb y place) (take k places) ≡ is_among place (places_before places k)
+found : (place : ℕ) (places : List ℕ) (k i : ℕ) → i < k → get_or places i 0 ≡ place → is_among place (places_before places k) ≡ true
 unfolding is_among places_before
-any-is place places zero h = refl
-any-is place places (suc k) h =
-    let within : k < length places = omega arith in
-    rw (take-suc places k 0 within, list_any-append (λ y. eqb y place) (take k places) _, any-is place places k (omega arith), or-false (eqb (get_or places k 0) place), eqb-swap (get_or places k 0) place) (or_comm (is_among place (places_before places k)) (eqb place (get_or places k 0)))
+found place places zero i h e = absurd (omega arith)
+found place places (suc k) i h e =
+    let below : i ≤ k = omega arith in
+    ⊎_elim (λ s. rw (← s, eq-eqb place (get_or places i 0) (sym e))) (λ l. rw (found place places k i l e) (or-true _)) (eq-or-lt_of_le below)
+
+none-found : (place : ℕ) (places : List ℕ) (k : ℕ) → ((i : ℕ) → i < k → get_or places i 0 ≡ place → ⊥) → is_among place (places_before places k) ≡ false
+unfolding is_among places_before
+none-found place places zero h = refl
+none-found place places (suc k) h =
+    rw (ne_eqb place (get_or places k 0) (λ e. h k (omega arith) (sym e)), none-found place places k (λ i l. h i (omega arith)))
+
+pub loop-earlier-init : goal.loop-earlier-init
+loop-earlier-init c = below_none _
+
+pub returns-then-earlier-place : goal.returns-then-earlier-place
+returns-then-earlier-place c =
+    let below : c.loop-earlier.earlier-index < c.args.k = omega (arith, length-take-le c.args.k c.args.places.now (omega arith)) in
+    sym (found c.args.place c.args.places.now c.args.k c.loop-earlier.earlier-index below (rw (get_or-take c.args.k c.args.places.now c.loop-earlier.earlier-index 0 below) at c.if-earlier-place.true))
+
+pub loop-earlier-preserved : goal.loop-earlier-preserved
+loop-earlier-preserved c =
+    let below : c.loop-earlier.earlier-index < c.args.k = omega (arith, length-take-le c.args.k c.args.places.now (omega arith)) in
+    below_more _ _ c.loop-earlier.invariant (rw (get_or-take c.args.k c.args.places.now c.loop-earlier.earlier-index 0 below) at c.if-earlier-place.false)
 
 pub returns : goal.returns
-returns c = c.contains.ensures.value ∙ any-is c.args.place c.args.places.now c.args.k (omega arith)
+returns c =
+    sym (none-found c.args.place c.args.places.now c.args.k (λ i l. c.loop-earlier.invariant i (omega (arith, length-take-le c.args.k c.args.places.now (omega arith)))))

@@ -19,9 +19,9 @@ returns-in-Accepted c =
       keeps = rw (to_z-of_z w32 c.args.latitude c.ranges.latitude) at c.take_station.ensures.keeps;
     }
 
-pub returns-in-Refused : goal.returns-in-Refused
-returns-in-Refused c =
+pub returns-in-Err : goal.returns-in-Err
+returns-in-Err c =
     record {
-      says = sym (table-missing c.args.tabled _ _ _ _ (sym c.state_answer.ensures ∙ ap outcome_of c.in-Refused.is));
-      keeps = not-accepted _ c.in-Refused.refusal c.in-Refused.place refl;
+      says = sym (table-missing c.args.tabled _ _ _ _ (sym c.state_answer.ensures ∙ ap outcome_of c.in-Err.is));
+      keeps = not-accepted _ c.in-Err.refusal c.in-Err.place refl;
     }
