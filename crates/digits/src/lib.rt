@@ -109,12 +109,12 @@ pub fn four_decimals(size: u64) -> [u8; 5]
 pub fn minute_at(minutes: &[u32], i: usize) -> u32
     ensures { result ≡ get_or minutes.now i 0 }
 {
-    if i < minutes.len() { minutes[i] } else { 0 }
+    minutes.get(i).copied().unwrap_or(0)
 }
 
 // The height at a place of a row; 0 past its end.
 pub fn height_at(heights: &[i64], i: usize) -> i64
     ensures { result ≡ get_or heights.now i (pos 0) }
 {
-    if i < heights.len() { heights[i] } else { 0 }
+    heights.get(i).copied().unwrap_or(0)
 }

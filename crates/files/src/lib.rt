@@ -122,8 +122,5 @@ fn open_above<R: Files + Env>(rt: &R, name: &[u8]) -> io::Result<R::File> {
 
 // Opens a file of the program's own data, in the current folder or else two folders above the program.
 pub fn open_own<R: Files + Env>(rt: &R, name: &[u8]) -> io::Result<R::File> {
-    match open_read(rt, name) {
-        Ok(file) => Ok(file),
-        Err(_) => open_above(rt, name),
-    }
+    open_read(rt, name).or_else(|_| open_above(rt, name))
 }

@@ -184,6 +184,7 @@ fn is_word(word: &[u8], name: &[u8]) -> bool
 }
 
 // The call of a word and of the numbers at a byte of a line.
+#[tactic(auto, unfolding(crate::specs::Script::call_of_words))]
 fn call_at(word: &[u8], line: &[u8], at: usize) -> Option<Call>
     requires { at ≤ length line.now + 1 }
     ensures { result ≡ call_of_words (word.now ∷ words_from line.now at) }
