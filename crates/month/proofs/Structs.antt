@@ -9,7 +9,8 @@ use Rattle.limits.specs.Limits.{most_records}
 use Rattle.table.specs.Table.{Main, Shallow}
 use Rattle.table.proofs.definitions.OfRows.{found_at}
 use Rattle.table.specs.declared.Table.{Table}
-use Rattle.table.specs.declared.definitions.Found.{Found}
+use Rattle.std.specs.Prelude.{Option}
+use Rattle.table.specs.declared.definitions.Defined.{Defined}
 use Rattle.station.specs.Records.{records_from}
 use Rattle.station.specs.inner.Station.{station_of}
 use Rattle.station.specs.declared.Station.{Station}
@@ -70,7 +71,7 @@ module _ (t : Table) (s : Station) (given : Given) where
 
   -- ---- what was worked out at record k
 
-  module _ (same : given.mains ≡ t.mains) (k : ℕ) (found : Found) (kept : List ℤ) (w : Worked) (finds : found ≡ found_at t.maincards t.mains t.shallowcards t.shallows (get_or s.places k 0))
+  module _ (same : given.mains ≡ t.mains) (k : ℕ) (found : Option Defined) (kept : List ℤ) (w : Worked) (finds : found ≡ found_at t.maincards t.mains t.shallowcards t.shallows (get_or s.places k 0))
       (ready : Ready (argument_by given t.mainangles) (corrected_by given t.maincards t.satelliteangles t.satelliteratios) t.shallowcards found kept) (from : FromMains kept t.shallowcards t.coefficients found w) where
     worked : IsWorked g l ms ss (get_or s.places k 0) w
     worked =

@@ -24,7 +24,7 @@ use month_workings::workings::{Given, none_kept};
 use refusals::{Refusal, Refused};
 use station::Station;
 use table::definitions::{find, first_rows};
-use table::{Table, at_u64};
+use table::{Table, at};
 
 // The weight of an amplitude, from X or Y.
 fn weight_of(amplitude: u16, x: i64) -> i32
@@ -39,7 +39,7 @@ fn frequency_at(speeds: &[u64; FREQUENCIES], frequencies: usize, place: u8) -> u
     ensures { result ≡ get_or (frequencies_of speeds.now frequencies) place 0 }
 {
     if (place as usize) < frequencies {
-        at_u64(speeds, place as usize)
+        *at(speeds, place as usize, &0)
     } else {
         0
     }
@@ -77,10 +77,12 @@ fn prepare_records(
             &mut kept,
         );
         let w = from_mains(found, &kept, &table.shallowcards, &table.coefficients);
-        let xy = w.corrected.ok_or(Refused {
-            refusal: Refusal::TooLarge,
-            place: k + 1,
-        })?;
+        let Some(xy) = w.corrected else {
+            return Err(Refused {
+                refusal: Refusal::TooLarge,
+                place: k + 1,
+            });
+        };
         let amplitude = station.amplitudes[k];
         let p = weight_of(amplitude, xy.x);
         let q = weight_of(amplitude, xy.y);

@@ -14,7 +14,7 @@ use crate::pairs::{check, times_part};
 use limits::MAINS;
 use month_arguments::KEPT;
 use month_satellites::satellites::{Pair, index};
-use table::entries::{integer_at, natural_at};
+use table::entries::entry_at;
 use table::{COEFFICIENTS, SHALLOW_CARDS};
 
 // The pair of main k by its sums X and Y, from what is kept of the mains in rows of V, X and Y: none where it is too large, or (2^20, 0) past the last.
@@ -43,8 +43,8 @@ fn times_row_part<'a>(
     ensures result_value { corrected_of result ≡ times_part (pairs_of kept.now) (pair_of p) (part_of (naturals 6 cards.now k) (integers 4 coefficients.now k) j) }
     ensures small { Small result }
 {
-    let main = index(natural_at(cards, 6, k, 2 + j));
-    times_part(p, pair_at(kept, main), integer_at(coefficients, 4, k, j))
+    let main = index(*entry_at(cards, 6, k, 2 + j, &0));
+    times_part(p, pair_at(kept, main), *entry_at(coefficients, 4, k, j, &0))
 }
 
 // The pair of the shallow constituent in row k.
@@ -57,10 +57,13 @@ pub fn shallow_pair<'a>(
     ensures result_value { corrected_of result ≡ pair_from_parts (pairs_of kept.now) (shallow_of cards.now coefficients.now k) }
     ensures small { Small result }
 {
-    let count = index(natural_at(cards, 6, k, 1));
+    let count = index(*entry_at(cards, 6, k, 1, &0));
     let mut p = Pair { x: 1_048_576, y: 0 };
     for j in 0..count {
-        p = times_row_part(kept, cards, coefficients, k, j, p)?;
+        let Some(q) = times_row_part(kept, cards, coefficients, k, j, p) else {
+            return None;
+        };
+        p = q;
     }
     Some(p)
 }

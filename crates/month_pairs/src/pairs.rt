@@ -75,7 +75,10 @@ fn times_often(start: Pair, by: Pair, n: u64) -> Option<Pair>
 {
     let mut p = start;
     for _ in 0..n {
-        p = check(multiplied(p, by))?;
+        let Some(q) = check(multiplied(p, by)) else {
+            return None;
+        };
+        p = q;
     }
     Some(p)
 }
@@ -95,6 +98,8 @@ pub fn times_part(p: Pair, main: Option<Pair>, coefficient: i8) -> Option<Pair>
     ensures result_value { corrected_of result ≡ times_main (pair_of p) (corrected_of main) coefficient }
     ensures small_2 { Small result }
 {
-    let q = main?;
+    let Some(q) = main else {
+        return None;
+    };
     times_often(p, turn(coefficient, q), size(widened(coefficient)))
 }

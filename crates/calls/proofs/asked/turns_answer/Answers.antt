@@ -1,5 +1,4 @@
 -- `calls::asked::turns_answer` meets its contract, by the definition. Assumes nothing.
-use borrow.Author.Rules.{rules}
 use mathlib.Core.Path.{ap, ◌∙◌}
 use Rattle.calls.specs.inner.Flags.{minutes_by}
 use Rattle.calls.proofs.asked.turns_answer.Goals as goal

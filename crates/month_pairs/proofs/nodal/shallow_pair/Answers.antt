@@ -1,11 +1,12 @@
 -- `month_pairs::nodal::shallow_pair` meets its contract. The invariant: the parts that are left, from the pair so far, give what all give from (2^20, 0) (`Multiplying`).
-use mathlib.Core.Path.{◌∙◌}
+use mathlib.Core.Path.{sym, ◌∙◌, ap}
 use native.Mathlib.Omega.{arith}
 use native.Mathlib.Nat.{sub-zero}
 use lib.Dec.{lit≤}
 use Rattle.table.specs.inner.View.{naturals, integers, part_of, shallow_of}
 use Rattle.month_satellites.specs.inner.View.{pair_of}
 use Rattle.refusals.specs.Checked.{good, bad}
+use Rattle.month_pairs.specs.inner.Corrected.{corrected_of}
 use Rattle.month_pairs.specs.Shallow.{pair_from_parts}
 use Rattle.month_pairs.specs.inner.Rows.{pairs_of}
 use Rattle.month_pairs.proofs.nodal.Multiplying.{parts_next, parts_none}
@@ -15,7 +16,7 @@ pub loop-j-init : goal.loop-j-init
 unfolding pair_from_parts shallow_of
 loop-j-init c =
     record {
-      same = rw (sub-zero, c.index-count.ensures.value ∙ c.natural_at.ensures);
+      same = rw (sub-zero, c.index-count.ensures.value ∙ c.entry_at.ensures);
       sized = record { x = lit≤ tt; y = lit≤ tt };
     }
 
@@ -23,21 +24,20 @@ pub times_row_part-requires : goal.times_row_part-requires
 times_row_part-requires c =
     (omega (arith, c.index-count.ensures.upper_bound, c.loop-j-test.true), c.loop-j.invariant.sized)
 
-pub returns-in_err-p : goal.returns-in_err-p
-returns-in_err-p c =
-    rw c.from_residual.ensures
-    (record {
+pub returns-in_default : goal.returns-in_default
+returns-in_default c =
+    record {
       result_value = parts_next (pairs_of c.args.kept.now) (part_of (naturals 6 c.args.cards.now c.args.k) (integers 4 c.args.coefficients.now c.args.k))
-          c.loop-j.j c.index-count.result (pair_of c.loop-j.p) (bad 11) c.loop-j-test.true c.in_err-p.ensures.result_value ∙ c.loop-j.invariant.same;
+          c.loop-j.j c.index-count.result (pair_of c.loop-j.p) (bad 11) c.loop-j-test.true (sym (ap corrected_of c.in_default.is) ∙ c.times_row_part.ensures.result_value) ∙ c.loop-j.invariant.same;
       small = tt;
-    })
+    }
 
 pub loop-j-preserved : goal.loop-j-preserved
 loop-j-preserved c =
     record {
       same = parts_next (pairs_of c.args.kept.now) (part_of (naturals 6 c.args.cards.now c.args.k) (integers 4 c.args.coefficients.now c.args.k))
-          c.loop-j.j c.index-count.result (pair_of c.loop-j.p) (good (pair_of c.in_ok-p.p)) c.loop-j-test.true c.in_ok-p.ensures.result_value ∙ c.loop-j.invariant.same;
-      sized = c.in_ok-p.ensures.small;
+          c.loop-j.j c.index-count.result (pair_of c.loop-j.p) (good (pair_of c.in-Some.q)) c.loop-j-test.true c.in-Some.ensures.result_value ∙ c.loop-j.invariant.same;
+      sized = c.in-Some.ensures.small;
     }
 
 pub returns : goal.returns

@@ -20,7 +20,7 @@ work_main-requires c =
 
 pub loop-j-preserved : goal.loop-j-preserved
 loop-j-preserved c =
-    let main = c.index-main.ensures.value ∙ c.natural_at-in-loop-j.ensures in
+    let main = c.index-main.ensures.value ∙ c.entry_at-in-loop-j.ensures in
     record {
       kept = c.work_main.ensures.kept;
       has = one-part-more _ _ c.index-main.result c.loop-j.kept _ (naturals 6 c.args.shallowcards.now c.args.row) c.loop-j.j main c.loop-j.invariant.has c.work_main.ensures;
@@ -28,5 +28,5 @@ loop-j-preserved c =
 
 pub returns : goal.returns
 returns c =
-    let count = c.index-count.ensures.value ∙ c.natural_at.ensures in
+    let count = c.index-count.ensures.value ∙ c.entry_at.ensures in
     record { kept = c.loop-j.invariant.kept; has = λ j h. c.loop-j.invariant.has j (omega (arith, h, count, c.loop-j-test.false)) }
