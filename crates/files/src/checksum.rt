@@ -4,6 +4,7 @@ ghost use Rattle.files.specs.Crc as crc;
 ghost use Rattle.files.specs.Crc.{bits_of, divided};
 
 // The register after one bit of the message.
+#[tactic(auto, unfolding(crate::specs::Crc::step))]
 fn step(register: u32, bit: u8) -> u32
     ensures { result ≡ crc.step register bit }
 {

@@ -3,31 +3,29 @@
 // It takes a card file of 262,143 bytes and 65,536 places in each lent buffer. What asks for more ends the run as a line that is not of the form does; but hourly cards may ask for any buffer.
 #![tactic(auto)]
 
-ghost use Rattle.std.specs.Prelude.{◌≡◌, ◌≤◌, length, IfOk};
+ghost use Rattle.std.specs.Prelude.{◌≡◌, ◌≤◌, length};
 ghost use Rattle.clock.specs.View.{Made};
+ghost use Rattle.hourly.specs.Answers.{cards_returned};
+ghost use Rattle.refusals.specs.Outcome.{on_accepted};
 ghost use Rattle.transcript.specs.inner.Posts.{Lent};
-ghost use Rattle.transcript.specs.inner.Window.{Within};
 
 use calls::annual::Sheet;
-use clock::{After, Clock, Turns};
+use clock::{After, Clock};
 use hourly::LONGEST;
 use refusals::Refused;
 use script::YearLine;
 use std::io;
 use std::io::Read;
-use transcript::input::Window;
 use transcript::reading::{Asked, Halt};
 use transcript::{answers, input, reading};
-
-// How many places each lent buffer has.
-const PLACES: usize = 65_536;
+use turns::Summary;
 
 // The places that are lent: for a year's series, for minutes and for heights.
 #[derive(Drop)]
-struct Places {
-    series: [i64; PLACES],
-    minutes: [u32; PLACES],
-    heights: [i64; PLACES],
+struct Places<'a> {
+    series: &'a mut [i64],
+    minutes: &'a mut [u32],
+    heights: &'a mut [i64],
 }
 
 // The line of a call that sets something, and the clock as the call leaves it.
@@ -63,14 +61,12 @@ fn put_turns(
     rt: &impl Print,
     page: &mut [u8],
     at: usize,
-    answer: Result<Turns, Refused>,
+    answer: Result<Summary, Refused>,
     minutes: &[u32],
     heights: &[i64],
 ) -> io::Result<usize> {
     match answer {
-        Ok(turns) => {
-            answers::put_turns(rt, page, at, turns.count, turns.high, minutes, heights)
-        }
+        Ok(turns) => { answers::put_turns(rt, page, at, turns.count, turns.high, minutes, heights) }
         Err(refused) => answers::put_refused(rt, page, at, refused),
     }
 }
@@ -80,7 +76,7 @@ fn put_sheet(
     rt: &impl Print,
     page: &mut [u8],
     at: usize,
-    answer: Result<Turns, Refused>,
+    answer: Result<Summary, Refused>,
     series: &[i64],
     minutes: &[u32],
     heights: &[i64],
@@ -108,16 +104,21 @@ fn year_call(
     rt: &impl Print,
     clock: &Clock,
     line: YearLine,
-    places: &mut Places,
+    places: Places,
     page: &mut [u8],
     at: usize,
 ) -> io::Result<usize>
     requires made { Made clock.now }
-    requires lent { (line.count ≤ 65536) × (line.minutes ≤ 65536) × (line.heights ≤ 65536) }
+    requires lent { (line.count ≤ length places.series.now) × (line.minutes ≤ length places.minutes.now) × (line.heights ≤ length places.heights.now) }
 {
-    let series = &mut places.series[..line.count as usize];
-    let minutes = &mut places.minutes[..line.minutes as usize];
-    let heights = &mut places.heights[..line.heights as usize];
+    let Places {
+        series,
+        minutes,
+        heights,
+    } = places;
+    let series = &mut series[..line.count as usize];
+    let minutes = &mut minutes[..line.minutes as usize];
+    let heights = &mut heights[..line.heights as usize];
     let answer = clock::year(*clock, sheet_of(line), series, minutes, heights);
     put_sheet(rt, page, at, answer, series, minutes, heights)
 }
@@ -130,7 +131,7 @@ fn put_cards(
     answer: Result<usize, Refused>,
     cards: &[u8],
 ) -> io::Result<usize>
-    requires { IfOk answer (λ count. count ≤ length cards.now) }
+    requires { on_accepted (cards_returned answer) (λ count. count) 0 ≤ length cards.now }
 {
     match answer {
         Ok(count) => answers::put_hourly(rt, page, at, &cards[..count]),
@@ -162,40 +163,21 @@ fn hourly_call(
     put_cards(rt, page, at, answer, lent)
 }
 
-// The answer to a call that leaves the clock as it is, in the places that it is lent.
-fn put_asked(
+// The line of a search for turns, which are written into as many of the places as its line asks.
+fn turns_call(
     rt: &impl Print,
     clock: &Clock,
-    asked: Asked,
-    places: &mut Places,
+    first: u32,
+    last: u32,
+    minutes: &mut [u32],
+    heights: &mut [i64],
     page: &mut [u8],
     at: usize,
 ) -> io::Result<usize>
-    requires made { Made clock.now }
-    requires lent { Lent 262144 65536 65536 asked }
+    requires { Made clock.now }
 {
-    match asked {
-        Asked::Height(minute) => put_height(rt, page, at, clock::height(*clock, minute)),
-        Asked::Series(start, step, n) => {
-            let heights = &mut places.heights[..n];
-            let answer = clock::series(*clock, start, step, heights);
-            answers::put_series(rt, page, at, answer, heights)
-        }
-        Asked::Turns(first, last, m, h) => {
-            let minutes = &mut places.minutes[..m];
-            let heights = &mut places.heights[..h];
-            let answer = clock::turns(*clock, first, last, minutes, heights);
-            put_turns(rt, page, at, answer, minutes, heights)
-        }
-        Asked::Year(line) => year_call(rt, clock, line, places, page, at),
-        Asked::Bookings(n, h) => {
-            let heights = &mut places.heights[..h];
-            let answer = clock::bookings(*clock, &places.minutes[..n], heights);
-            answers::put_series(rt, page, at, answer, heights)
-        }
-        Asked::Hourly(number, bytes) => hourly_call(rt, clock, number, bytes, page, at),
-        _ => Ok(at),
-    }
+    let answer = clock::turns(*clock, first, last, minutes, heights);
+    put_turns(rt, page, at, answer, minutes, heights)
 }
 
 // The answer to a call, and the clock as the call leaves it.
@@ -204,15 +186,20 @@ fn answer_call(
     clock: &mut Clock,
     asked: Asked,
     buffer: &[u8],
-    places: &mut Places,
+    places: Places,
     page: &mut [u8],
     at: usize,
 ) -> io::Result<usize>
     requires made { Made clock.old }
-    requires buffer_len { length buffer.now ≡ 262144 }
-    requires lent { Lent 262144 65536 65536 asked }
+    requires lent { Lent (length buffer.now) (length places.minutes.now) (length places.heights.now) asked }
+    requires series_len { length places.series.now ≡ length places.heights.now }
     ensures { Made clock.new }
 {
+    let Places {
+        series,
+        minutes,
+        heights,
+    } = places;
     match asked {
         Asked::Cards(from, end) => {
             let after = clock::load_cards(*clock, &buffer[from..end]);
@@ -226,33 +213,30 @@ fn answer_call(
             let after = clock::set_date(*clock, year, month);
             put_after(rt, clock, after, page, at)
         }
-        _ => put_asked(rt, clock, asked, places, page, at),
-    }
-}
-
-// The next call with its answer on the page; or why the run ends, at the end of the input or at a line.
-fn answer_next(
-    rt: &impl Print,
-    input: &mut impl Read,
-    buffer: &mut [u8],
-    window: &mut Window,
-    clock: &mut Clock,
-    places: &mut Places,
-    page: &mut [u8],
-    at: usize,
-) -> io::Result<Result<usize, Halt>>
-    requires within { Within 262144 window.old }
-    requires buffer_len { length buffer.old ≡ 262144 }
-    requires made { Made clock.old }
-    ensures within { Within 262144 window.new }
-    ensures made { Made clock.new }
-{
-    match reading::next_call(input, buffer, window, &mut places.minutes, PLACES) {
-        Ok(heard) => {
-            let next = answer_call(rt, clock, heard.asked, buffer, places, page, at)?;
-            Ok(Ok(next))
+        Asked::Height(minute) => put_height(rt, page, at, clock::height(*clock, minute)),
+        Asked::Series(start, step, n) => {
+            let heights = &mut heights[..n];
+            let answer = clock::series(*clock, start, step, heights);
+            answers::put_series(rt, page, at, answer, heights)
         }
-        Err(halt) => Ok(Err(halt)),
+        Asked::Turns(first, last, m, h) => {
+            let minutes = &mut minutes[..m];
+            turns_call(rt, clock, first, last, minutes, &mut heights[..h], page, at)
+        }
+        Asked::Year(line) => {
+            let lent = Places {
+                series,
+                minutes,
+                heights,
+            };
+            year_call(rt, clock, line, lent, page, at)
+        }
+        Asked::Bookings(n, h) => {
+            let heights = &mut heights[..h];
+            let answer = clock::bookings(*clock, &minutes[..n], heights);
+            answers::put_series(rt, page, at, answer, heights)
+        }
+        Asked::Hourly(number, bytes) => hourly_call(rt, clock, number, bytes, page, at),
     }
 }
 
@@ -261,23 +245,34 @@ fn run(
     rt: &impl Print,
     input: &mut impl Read,
     buffer: &mut [u8],
-    places: &mut Places,
+    places: Places,
     page: &mut [u8],
 ) -> io::Result<()>
-    requires { length buffer.old ≡ 262144 }
+    requires { length places.series.now ≡ length places.heights.now }
 {
+    let Places {
+        series,
+        minutes,
+        heights,
+    } = places;
     let mut clock = clock::new();
     let mut window = input::start();
     let mut at = 0;
     for _call in 0..u64::MAX {
-        match answer_next(rt, input, buffer, &mut window, &mut clock, places, page, at)? {
-            Ok(next) => at = next,
+        let asked = match reading::next_call(input, buffer, &mut window, minutes, heights.len()) {
+            Ok(heard) => heard.asked,
             Err(Halt::End) => break,
             Err(Halt::BadLine(line)) => {
                 at = answers::put_script(rt, page, at, line)?;
                 break;
             }
-        }
+        };
+        let lent = Places {
+            series,
+            minutes,
+            heights,
+        };
+        at = answer_call(rt, &mut clock, asked, buffer, lent, page, at)?;
     }
     output::flush(rt, page, at)?;
     Ok(())
@@ -290,18 +285,30 @@ fn input_buffer() -> [u8; 262144]
     [0; 262144]
 }
 
-// The places for minutes and for heights.
-fn lent_places() -> Places {
-    Places {
-        series: [0; PLACES],
-        minutes: [0; PLACES],
-        heights: [0; PLACES],
-    }
+// The places for minutes.
+fn minute_places() -> [u32; 65536]
+    ensures { 65536 ≡ length result }
+{
+    [0; 65536]
+}
+
+// The places for heights.
+fn height_places() -> [i64; 65536]
+    ensures { 65536 ≡ length result }
+{
+    [0; 65536]
 }
 
 fn main(rt: HostRuntime) -> io::Result<()> {
     let mut buffer = input_buffer();
-    let mut places = lent_places();
+    let mut series = height_places();
+    let mut minutes = minute_places();
+    let mut heights = height_places();
     let mut page = [0u8; 65536];
-    run(&rt, &mut rt.stdin(), &mut buffer, &mut places, &mut page)
+    let places = Places {
+        series: &mut series,
+        minutes: &mut minutes,
+        heights: &mut heights,
+    };
+    run(&rt, &mut rt.stdin(), &mut buffer, places, &mut page)
 }

@@ -183,7 +183,7 @@ fn is_word(word: &[u8], name: &[u8]) -> bool
     word == name
 }
 
-// The call of a word and of the numbers at a byte of a line.
+// The call of a word and of the numbers at a byte of a line. (No match on the words: it compares letter by letter, and leaves a goal for each.)
 #[tactic(auto, unfolding(crate::specs::Script::call_of_words))]
 fn call_at(word: &[u8], line: &[u8], at: usize) -> Option<Call>
     requires { at ≤ length line.now + 1 }

@@ -5,6 +5,8 @@ ghost use Rattle.transcript.specs.inner.Window.{Within, Ends, feeds_from};
 use std::io::Read;
 use std::num::wrapping_add_u64;
 
+// (The input and the buffer travel beside the window and are no fields of it: two fields behind a reference cannot be lent at once, as a read does.)
+//
 // What is read and not yet taken: the bytes of the buffer from `from` to `to`. `line` is the input line, from 1, on which the first of them stands.
 #[derive(Clone, Copy)]
 pub struct Window {

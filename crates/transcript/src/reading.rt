@@ -144,44 +144,6 @@ fn read_minutes(
     Some(())
 }
 
-// cards BYTES, and the file behind its line. One that the buffer cannot hold is not of the form.
-fn hear_cards(
-    input: &mut impl Read,
-    buffer: &mut [u8],
-    window: &mut Window,
-    line: u64,
-    bytes: usize,
-) -> Result<Asked, u64>
-    requires { Within (length buffer.old) window.old }
-    ensures within { Within (length buffer.old) window.new }
-    ensures lent { IfOk result (λ asked. Lent (length buffer.old) 0 0 asked) }
-{
-    if buffer.len() <= bytes {
-        return Err(line);
-    }
-    let (from, end) = read_file(input, buffer, window, bytes)?;
-    Ok(Asked::Cards(from, end))
-}
-
-// station LATITUDE COUNT with its strides, and the records behind its line.
-fn hear_station(
-    input: &mut impl Read,
-    buffer: &mut [u8],
-    window: &mut Window,
-    latitude: i32,
-    count: u32,
-    strides: Strides,
-) -> Result<Asked, u64>
-    requires { Within (length buffer.old) window.old }
-    ensures within { Within (length buffer.old) window.new }
-    ensures lent { IfOk result (λ asked. Lent (length buffer.old) 0 0 asked) }
-{
-    match read_records(input, buffer, window, count) {
-        Some(rows) => Ok(Asked::Station(latitude, count as usize, strides, rows)),
-        None => Err(window.line),
-    }
-}
-
 // series START STEP COUNT, where so many places can be lent.
 fn asked_series(places: usize, start: u32, step: u32, count: u32) -> Option<Asked>
     ensures { IfSome result (λ asked. Lent 0 0 places asked) }
@@ -225,32 +187,6 @@ fn asked_year(minutes: usize, heights: usize, line: YearLine) -> Option<Asked>
     Some(Asked::Year(line))
 }
 
-// bookings COUNT HEIGHTS, where so many places can be lent, and the minutes behind its line.
-fn hear_bookings(
-    input: &mut impl Read,
-    buffer: &mut [u8],
-    window: &mut Window,
-    line: u64,
-    minutes: &mut [u32],
-    heights: usize,
-    count: u32,
-    h: u32,
-) -> Result<Asked, u64>
-    requires { Within (length buffer.old) window.old }
-    ensures within { Within (length buffer.old) window.new }
-    ensures lent { IfOk result (λ asked. Lent (length buffer.old) (length minutes.old) heights asked) }
-{
-    let n = count as usize;
-    let places = h as usize;
-    if minutes.len() < n || heights < places {
-        return Err(line);
-    }
-    match read_minutes(input, buffer, window, &mut minutes[..n]) {
-        Some(()) => Ok(Asked::Bookings(n, places)),
-        None => Err(window.line),
-    }
-}
-
 // What the call of a line asks, with what stands behind the line, for a program that lends these places for minutes and so many for heights; or the line of what is wrong.
 fn hear(
     input: &mut impl Read,
@@ -266,9 +202,20 @@ fn hear(
     ensures lent { IfOk result (λ asked. Lent (length buffer.old) (length minutes.old) heights asked) }
 {
     match call {
-        Call::Cards(bytes) => hear_cards(input, buffer, window, line, bytes as usize),
+        // A file that the buffer cannot hold is not of the form.
+        Call::Cards(bytes) => {
+            let n = bytes as usize;
+            if buffer.len() <= n {
+                return Err(line);
+            }
+            let (from, end) = read_file(input, buffer, window, n)?;
+            Ok(Asked::Cards(from, end))
+        }
         Call::Station(latitude, count, strides) => {
-            hear_station(input, buffer, window, latitude, count, strides)
+            match read_records(input, buffer, window, count) {
+                Some(rows) => Ok(Asked::Station(latitude, count as usize, strides, rows)),
+                None => Err(window.line),
+            }
         }
         Call::Date(year, month) => Ok(Asked::Date(year, month)),
         Call::Height(minute) => Ok(Asked::Height(minute)),
@@ -278,7 +225,14 @@ fn hear(
         }
         Call::Year(year) => asked_year(minutes.len(), heights, year).ok_or(line),
         Call::Bookings(count, h) => {
-            hear_bookings(input, buffer, window, line, minutes, heights, count, h)
+            let n = count as usize;
+            if minutes.len() < n || heights < h as usize {
+                return Err(line);
+            }
+            match read_minutes(input, buffer, window, &mut minutes[..n]) {
+                Some(()) => Ok(Asked::Bookings(n, h as usize)),
+                None => Err(window.line),
+            }
         }
         Call::Hourly(station, bytes) => Ok(Asked::Hourly(station, bytes)),
     }

@@ -58,13 +58,7 @@ fn load_cards(kept: &mut Kept, file: &[u8]) -> Answer {
 }
 
 // A station of n records, of which the first 146 are in the rows; or it is refused.
-fn place_station(
-    kept: &mut Kept,
-    latitude: i32,
-    strides: Strides,
-    n: usize,
-    rows: Rows,
-) -> Answer {
+fn place_station(kept: &mut Kept, latitude: i32, strides: Strides, n: usize, rows: Rows) -> Answer {
     let tabled = kept.table.is_some();
     let table = kept.some_table();
     let station = settings::station_answer(tabled, table, latitude, strides, n, rows)?;
@@ -110,7 +104,13 @@ fn put_prepared(
     requires { in_range year month ≡ true }
 {
     let cosines = cosine::cosines();
-    match month::prepare(&cosines, kept.some_table(), kept.some_station(), year, month) {
+    match month::prepare(
+        &cosines,
+        kept.some_table(),
+        kept.some_station(),
+        year,
+        month,
+    ) {
         Ok(prepared) => put_month(rt, page, at, prepared),
         Err(refused) => answers::put_refused(rt, page, at, refused),
     }
