@@ -88,7 +88,7 @@ fn put_sheet(
     put_turns(rt, page, next, answer, minutes, heights)
 }
 
-// The year's sheet that a line asks.
+// The year's sheet that a line asks. (No From: both types are other crates'.)
 fn sheet_of(line: YearLine) -> Sheet {
     Sheet {
         year: line.year,

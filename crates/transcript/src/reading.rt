@@ -255,11 +255,8 @@ pub fn next_call(
         return Err(Halt::End);
     }
     let line = window.line;
-    let Some(call) = read_call(input, buffer, window) else {
-        return Err(Halt::BadLine(line));
-    };
-    match hear(input, buffer, window, call, line, minutes, heights) {
-        Ok(asked) => Ok(Heard { asked, line }),
-        Err(wrong) => Err(Halt::BadLine(wrong)),
-    }
+    let call = read_call(input, buffer, window).ok_or(Halt::BadLine(line))?;
+    let heard = hear(input, buffer, window, call, line, minutes, heights);
+    let asked = heard.map_err(Halt::BadLine)?;
+    Ok(Heard { asked, line })
 }

@@ -32,18 +32,13 @@ struct Kept {
 impl Kept {
     // The table, or one with no cards.
     fn some_table(&self) -> Table {
-        match self.table {
-            Some(table) => table,
-            None => table::no_cards(),
-        }
+        self.table.unwrap_or_else(table::no_cards)
     }
 
     // The station, or one with no records.
     fn some_station(&self) -> Station {
-        match self.station {
-            Some(station) => station,
-            None => station::no_station(0, strides::usual()),
-        }
+        self.station
+            .unwrap_or_else(|| station::no_station(0, strides::usual()))
     }
 }
 
