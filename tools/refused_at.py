@@ -38,7 +38,7 @@ def of_error(crate, found):
     _, name, line, declared, said = found.groups()
     if FOLLOWS.search(said):
         return "follows", name, line, declared or "-"
-    return "need" if is_need(crate, name, declared) else "fact", name, line, declared or "-"
+    return "need" if is_need(crate, name, declared or "-") else "fact", name, line, declared or "-"
 
 
 def of_note(found):

@@ -1,4 +1,4 @@
--- `replay::cards_into` meets its contract: the bytes that the clock's call returns stand in the lent buffer, as it leaves it. Assumes nothing.
+-- `replay::hourly_call` meets its contract: the bytes that the clock's call returns stand in the lent buffer, as it leaves it. Assumes nothing.
 use mathlib.Core.Path.{◌≡◌, ap}
 use mathlib.Core.List.{List, ◌++◌}
 use Prim.Native.Nat.{ℕ, ◌≤◌}
@@ -8,7 +8,7 @@ use Rattle.refusals.specs.Outcome.{Outcome, accepted, refused, on_accepted}
 use Rattle.hourly.specs.Month.{CardsGiven, into_buffer}
 use Rattle.calls.specs.State.{State}
 use Rattle.calls.specs.Hourly.{hourly_bytes, hourly_gives}
-use Rattle.replay.proofs.cards_into.Goals as goal
+use Rattle.replay.proofs.hourly_call.Goals as goal
 
 -- what is written stands in the buffer
 written-within : (new : Outcome (List ℕ)) (buffer left : List ℕ) (returned : Outcome ℕ) → record { returned = returned; buffer = left } ≡ into_buffer new buffer → on_accepted returned (λ count. count) 0 ≤ length left
