@@ -1,7 +1,7 @@
--- `commandline::word_end` meets its contract: the bytes that are not 0 end at the next 0. Assumes nothing.
+-- `commandline::row::word_end` meets its contract: the bytes that are not 0 end at the next 0. Assumes nothing.
 use Rattle.commandline.specs.Words.{word_at}
 use Rattle.commandline.proofs.Words.{row_from}
-use Rattle.commandline.proofs.word_end.Goals as goal
+use Rattle.commandline.proofs.row.word_end.Goals as goal
 
 pub returns : goal.returns
 unfolding word_at
