@@ -7,6 +7,7 @@ use crate::numbers::number;
 use station::strides::Strides;
 
 // Where the bytes of a length end that begins at a byte: a comma is below each of them.
+#[tactic(auto, using(crate::proofs::Words::row_from), unfolding(crate::specs::Lengths::length_end))]
 fn length_end(word: &[u8], at: usize) -> usize
     ensures { result ≡ length_end word.now at }
 {
@@ -14,6 +15,7 @@ fn length_end(word: &[u8], at: usize) -> usize
 }
 
 // Whether a comma stands at a byte.
+#[tactic(auto, unfolding(crate::specs::Lengths::comma_at))]
 fn comma_at(word: &[u8], at: usize) -> bool
     ensures { result ≡ comma_at word.now at }
 {
@@ -21,6 +23,7 @@ fn comma_at(word: &[u8], at: usize) -> bool
 }
 
 // The length that stands from one byte up to another, of any size: the clock says which it takes.
+#[tactic(auto, unfolding(crate::specs::Lengths::length_in))]
 fn length_in(word: &[u8], from: usize, end: usize) -> Option<u32>
     requires { from ≤ end }
     ensures { result ≡ number_in (length_in word.now from end) }

@@ -144,7 +144,11 @@ pub fn parse(words: &[u8]) -> Result<Request, WrongWord>
     let parsed = all_words(words);
     let strides = lengths_at(words, parsed.lengths);
     let asked = asked_by(words, &parsed, strides)?;
-    let unit = if parsed.station.is_none() { FEET } else { METRES };
+    let unit = if parsed.station.is_none() {
+        FEET
+    } else {
+        METRES
+    };
     Ok(Request {
         asked,
         cards: parsed.cards.unwrap_or(CARDS),

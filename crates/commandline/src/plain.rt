@@ -64,9 +64,8 @@ impl PlainWord {
     // What is wrong with it at a place of a form.
     fn check(&self, wanted: Wanted) -> Result<(), WrongWord> {
         match (wanted, self.says) {
-            (Wanted::File, _)
-            | (Wanted::Number, Says::Number(_))
-            | (Wanted::Time, Says::Time(_)) => Ok(()),
+            (Wanted::File, _) | (Wanted::Number, Says::Number(_)) | (Wanted::Time, Says::Time(_)) =>
+                Ok(()),
             (Wanted::Number, _) => Err(Wrong::NotNumber.at(self.start)),
             (Wanted::Time, _) => Err(Wrong::NotTime.at(self.start)),
         }

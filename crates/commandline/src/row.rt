@@ -28,6 +28,7 @@ pub fn default_byte(k: usize) -> u8
 }
 
 // Where the word ends that begins at a byte, or the row where nothing ends it.
+#[tactic(auto, using(crate::proofs::Words::row_from), unfolding(crate::specs::Words::word_at))]
 fn word_end(words: &[u8], at: usize) -> usize
     ensures { result ≡ at + length (word_at words.now at) }
 {
@@ -35,6 +36,7 @@ fn word_end(words: &[u8], at: usize) -> usize
 }
 
 // The word that begins at a byte, as a part of the row.
+#[tactic(auto, unfolding(crate::specs::Words::word_at))]
 pub fn word(words: &[u8], at: usize) -> &[u8]
     ensures { result.now ≡ word_at words.now at }
 {
