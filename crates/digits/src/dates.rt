@@ -39,9 +39,9 @@ pub fn year_behind(year: u32, month: u32) -> u32
 fn iso_date(year: u32, month: u32, day: u32) -> [u8; 11]
     ensures { result ≡ iso_date year month day }
 {
-    let y = year as u64;
-    let m = month as u64;
-    let d = day as u64;
+    let y = u64::from(year);
+    let m = u64::from(month);
+    let d = u64::from(day);
     [
         crate::last_digit(y / 100 / 10),
         crate::last_digit(y / 100),
@@ -72,14 +72,8 @@ pub fn iso_day(year: u32, month: u32, minute: u32) -> [u8; 11]
 pub fn minute_of_month(day: u32, minute: u32) -> u32
     ensures { result ≡ minute_of_month day minute }
 {
-    if 1_000_000 < day {
-        return 4_294_967_295;
-    }
-    if 1_440 < minute {
-        return 4_294_967_295;
-    }
-    if day < 1 {
-        return 4_294_967_295;
+    if 1_000_000 < day || 1_440 < minute || day < 1 {
+        return u32::MAX;
     }
     (day - 1) * 1_440 + minute
 }

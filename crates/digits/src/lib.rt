@@ -19,7 +19,7 @@ pub fn thousandths(size: u64) -> u64
 pub fn last_digit(number: u64) -> u8
     ensures { result ≡ last_digit number }
 {
-    48 + (number % 10) as u8
+    b'0' + (number % 10) as u8
 }
 
 // The day of the month in which a minute lies, from 1.
@@ -40,8 +40,8 @@ fn hour_of(minute: u32) -> u32
 pub fn time_of_day(minute: u32) -> [u8; 5]
     ensures { result ≡ time_of_day minute }
 {
-    let hour = hour_of(minute) as u64;
-    let past = (minute % 60) as u64;
+    let hour = u64::from(hour_of(minute));
+    let past = u64::from(minute % 60);
     [
         last_digit(hour / 10),
         last_digit(hour),
@@ -58,7 +58,7 @@ pub fn time_on_day(day: u32, minute: u32) -> [u8; 5]
     if day_of(minute) <= day {
         return time_of_day(minute);
     }
-    [b'2', b'4', b':', b'0', b'0']
+    *b"24:00"
 }
 
 // What stands behind the degrees of a latitude of a size in minutes: " deg ", the minutes past the degree, "' ", and N or S.
@@ -67,15 +67,15 @@ pub fn latitude_end(size: u64, south: bool) -> [u8; 10]
 {
     let past = size % 60;
     [
-        32,
+        b' ',
         b'd',
         b'e',
         b'g',
-        32,
+        b' ',
         last_digit(past / 10),
         last_digit(past),
-        39,
-        32,
+        b'\'',
+        b' ',
         if south { b'S' } else { b'N' },
     ]
 }

@@ -14,12 +14,10 @@ pub fn same<'a>(a: &'a [u8], b: &'a [u8]) -> bool
 fn trimmed_length(text: &[u8]) -> usize
     ensures { take result text.now ≡ trimmed text.now }
 {
-    let mut n = text.len();
-    while 0 < n {
-        if columns::column(text, n - 1) != 32 {
-            return n;
+    for n in (0..text.len()).rev() {
+        if text[n] != b' ' {
+            return n + 1;
         }
-        n -= 1;
     }
     0
 }

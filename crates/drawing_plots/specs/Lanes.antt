@@ -1,6 +1,7 @@
 -- Labels in two lanes: a label stands `half` to both sides of its place, and no two labels of a lane touch.
 -- Assumes nothing.
-use Rattle.std.specs.Prelude.{ℕ, ◌+◌, cond, leb}
+use Rattle.std.specs.Prelude.{ℕ, ◌+◌, cond, leb, Some, None}
+use Rattle.drawing_plots.specs.declared.scale.Lane.TheVariants.{Near, Far}
 use Rattle.drawing_plots.specs.declared.scale.Lanes.{Lanes}
 use Rattle.drawing_plots.specs.declared.scale.Placed.{Placed}
 
@@ -8,7 +9,7 @@ use Rattle.drawing_plots.specs.declared.scale.Placed.{Placed}
 abbrev pub placed_of : Lanes → ℕ → ℕ → Placed
 placed_of l x half =
     cond (leb (l.first + half) x)
-    (record { lane = 0; lanes = record { first = x + half; second = l.second } })
+    (record { lane = Some Near; lanes = record { first = x + half; second = l.second } })
     (cond (leb (l.second + half) x)
-    (record { lane = 1; lanes = record { first = l.first; second = x + half } })
-    (record { lane = 2; lanes = l }))
+    (record { lane = Some Far; lanes = record { first = l.first; second = x + half } })
+    (record { lane = None; lanes = l }))

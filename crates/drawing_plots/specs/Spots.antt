@@ -1,7 +1,9 @@
 -- Where things stand on a plot: the line of a height with its figure; a high or low water with its mark on the curve, and its label in a
 -- lane above or below the plot.
 -- Assumes nothing.
-use Rattle.std.specs.Prelude.{ℕ, ◌+◌, ◌-◌, ◌*◌, ◌/◌, min, max, Bool, cond, ◌&&◌, ◌≡◌, ℤ, leb, eqb}
+use Rattle.std.specs.Prelude.{ℕ, ◌+◌, ◌-◌, ◌*◌, ◌/◌, min, max, Bool, cond, ◌&&◌, ◌≡◌, ℤ, leb, Option, Some, None}
+use Rattle.drawing_plots.specs.declared.scale.Lane.{Lane}
+use Rattle.drawing_plots.specs.declared.scale.Lane.TheVariants.{Near, Far}
 use Rattle.drawing_plots.specs.Heights.{raised}
 use Rattle.drawing_plots.specs.Places.{across_of, down_of}
 use Rattle.drawing_plots.specs.Lanes.{placed_of}
@@ -26,12 +28,14 @@ level_of p height =
 abbrev pub kept_within : Plot → ℕ → ℕ
 kept_within p x = max (p.left + half_of p.text) (min x (right_of p - half_of p.text))
 
--- how far the first line of a label stands from the plot: lane 0 is the nearest, and a lane has room for two lines
-abbrev pub lane_room : ℕ → ℕ → ℕ
-lane_room text lane = line_of text + text / 2 + cond (eqb lane 0) 0 (2 * line_of text)
+-- how far the first line of a label stands from the plot: the near lane is the nearest, and a lane has room for two lines
+abbrev pub lane_room : ℕ → Option Lane → ℕ
+lane_room text (Some Near) = line_of text + text / 2
+lane_room text (Some Far) = line_of text + text / 2 + 2 * line_of text
+lane_room text None = line_of text + text / 2 + 2 * line_of text
 
 -- where that line stands from the top of the drawing: labels of high waters above the plot, those of low waters below it
-abbrev pub label_down : Plot → Bool → ℕ → ℕ
+abbrev pub label_down : Plot → Bool → Option Lane → ℕ
 label_down p high lane = cond high (p.top - lane_room p.text lane) (foot_of p + lane_room p.text lane)
 
 -- a thin line leads from a mark to 30 units beyond the plot, on its label's side

@@ -1,5 +1,5 @@
 // The band of a year: each day from its lowest to its highest water, of hourly heights and of turns.
-ghost use Rattle.std.specs.Prelude.{◌≡◌, ◌-◌, take, drop};
+ghost use Rattle.std.specs.Prelude.{◌≡◌, take, drop};
 ghost use Rattle.drawing_plots.specs.Bands.{DayBand};
 
 use crate::scale;
@@ -18,13 +18,6 @@ pub fn part(heights: &[i64], from: usize, count: usize) -> &[i64]
     &heights[from..from + count]
 }
 
-// How many turns there are from one to before another.
-fn count_of(from: usize, to: usize) -> usize
-    ensures { result ≡ to - from }
-{
-    if from < to { to - from } else { 0 }
-}
-
 // The extent of a day of the year, from 0: of the heights at its hours, both midnights among them, and of its turns from one to before another.
 pub fn day_extent<'a>(
     day: u16,
@@ -36,6 +29,6 @@ pub fn day_extent<'a>(
     ensures { DayBand day hourly.now heights.now from to result }
 {
     let hours = part(hourly, day as usize * 24, 25);
-    let turns = part(heights, from, count_of(from, to));
+    let turns = part(heights, from, to.saturating_sub(from));
     scale::extended(scale::extended(scale::no_heights(), hours), turns)
 }

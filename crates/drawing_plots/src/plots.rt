@@ -5,7 +5,6 @@ ghost use Rattle.std.specs.Prelude.{◌≡◌, ◌-◌, ◌<◌, ◌≤◌, min}
 ghost use Rattle.limits.specs.Limits.{most_minutes};
 ghost use Rattle.drawing_plots.specs.Plots.{after_days, day_first, day_last, month_count, day_plot, week_days, week_last, week_plot, month_foot, year_plot};
 
-use crate::scale;
 use crate::scale::{Plot, Scale};
 
 // Where all plots begin.
@@ -16,7 +15,7 @@ pub fn few(days: u32) -> u16
     ensures is { result ≡ min days 31 }
     ensures small { result ≤ 31 }
 {
-    if days < 32 { days as u16 } else { 31 }
+    days.min(31) as u16
 }
 
 // The minute of the month after so many days, of 31 at most.
@@ -31,8 +30,7 @@ fn after_days(days: u32) -> u32
 pub fn day_first(day: u32) -> u32
     ensures { result ≡ day_first day }
 {
-    let end = after_days(day);
-    if end < 1_440 { 0 } else { end - 1_440 }
+    after_days(day).saturating_sub(1_440)
 }
 
 // The day's last minute, where the month has so many days: the one before midnight, or the month's last.
@@ -43,7 +41,7 @@ fn day_last(day: u32, days: u32) -> u32
     if days <= day {
         return end;
     }
-    if end < 1 { 0 } else { end - 1 }
+    end.saturating_sub(1)
 }
 
 // How many heights a month of some days has, 20 minutes apart, with both ends.
@@ -58,7 +56,7 @@ pub fn month_count(days: u32) -> usize
 fn span(lines: Scale) -> u64
     ensures { result ≡ lines.high - lines.low }
 {
-    scale::beyond(lines.high, lines.low)
+    lines.high.saturating_sub(lines.low)
 }
 
 // The plot of a day, where the month has so many days.
@@ -85,11 +83,7 @@ pub fn week_days(days: u16, week: u8) -> u16
     ensures is { result ≡ week_days days week }
     ensures small { result ≤ 7 }
 {
-    let before = week as u16 * 7;
-    if days < before {
-        return 0;
-    }
-    if days - before < 7 { days - before } else { 7 }
+    days.saturating_sub(week as u16 * 7).min(7)
 }
 
 // The last minute of a week: the one before the next week's first, or the month's last.

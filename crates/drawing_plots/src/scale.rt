@@ -2,9 +2,9 @@
 //
 // A drawing counts heights from 100,000 metres below the station's zero, so that every height is a natural number. Every function here is total,
 // and every place that it gives lies on the drawing.
-ghost use Rattle.std.specs.Prelude.{◌≡◌, ◌+◌, ◌-◌, ◌*◌, ◌≤◌, ◌<◌, min, max, leb, get_or};
+ghost use Rattle.std.specs.Prelude.{◌≡◌, ◌+◌, ◌-◌, ◌*◌, ◌≤◌, ◌<◌, min, max, leb};
 ghost use Rattle.drawing_plots.specs.Heights.{raised, least_of, most_of};
-ghost use Rattle.drawing_plots.specs.Lines.{line_below, line_above, fits, round_steps, round_step, ScalePost};
+ghost use Rattle.drawing_plots.specs.Lines.{line_below, line_above, fits, round_step, ScalePost};
 ghost use Rattle.drawing_plots.specs.Places.{share, across_of, down_of};
 ghost use Rattle.drawing_plots.specs.Lanes.{placed_of};
 
@@ -76,18 +76,25 @@ pub struct Lanes {
     pub second: u64,
 }
 
-// The lane that a label got, 0 or 1, or 2 where it got none; and the lanes after it.
+// A lane: the one near the plot, or the one beyond it.
+#[derive(Clone, Copy, PartialEq, Eq)]
+pub enum Lane {
+    Near,
+    Far,
+}
+
+// The lane that a label got, or none; and the lanes after it.
 #[derive(Clone, Copy)]
 pub struct Placed {
-    pub lane: u32,
+    pub lane: Option<Lane>,
     pub lanes: Lanes,
 }
 
-// The lesser of two numbers.
-fn lesser(a: u64, b: u64) -> u64
-    ensures { result ≡ min a b }
-{
-    if a < b { a } else { b }
+// The room between two lines of a height axis.
+#[derive(Clone, Copy)]
+struct Step {
+    size: u32,
+    ghost some: { 0 < size },
 }
 
 // A height, counted from 100,000 metres below zero. One that is farther than that from zero is drawn at that distance.
@@ -95,11 +102,8 @@ pub fn raised(height: i64) -> u32
     ensures is { result ≡ raised height }
     ensures small { result ≤ 2_000_000_000 }
 {
-    let size = lesser(angles::size(height), ZERO as u64);
-    if height < 0 {
-        return ZERO - size as u32;
-    }
-    ZERO + size as u32
+    let size = angles::size(height).min(ZERO as u64) as u32;
+    if height < 0 { ZERO - size } else { ZERO + size }
 }
 
 // No heights yet: any height is lower than its low and higher than its high.
@@ -112,27 +116,13 @@ pub fn no_heights() -> Extent
     }
 }
 
-// The lower of two raised heights.
-fn lower(a: u32, b: u32) -> u32
-    ensures { result ≡ min a b }
-{
-    if a < b { a } else { b }
-}
-
-// The higher of two.
-fn higher(a: u32, b: u32) -> u32
-    ensures { result ≡ max a b }
-{
-    if a < b { b } else { a }
-}
-
 // An extent widened to one more raised height.
 fn widened(extent: Extent, height: u32) -> Extent
     ensures { (result.low ≡ min extent.low height) × (result.high ≡ max extent.high height) }
 {
     Extent {
-        low: lower(extent.low, height),
-        high: higher(extent.high, height),
+        low: extent.low.min(height),
+        high: extent.high.max(height),
     }
 }
 
@@ -140,64 +130,52 @@ fn widened(extent: Extent, height: u32) -> Extent
 pub fn extended(extent: Extent, heights: &[i64]) -> Extent
     ensures { (result.low ≡ least_of extent.low heights.now) × (result.high ≡ most_of extent.high heights.now) }
 {
-    let mut e = extent;
-    let mut i = 0;
-    while i < heights.len() {
-        e = widened(e, raised(heights[i]));
-        i += 1;
+    let mut all = extent;
+    for height in heights {
+        all = widened(all, raised(*height));
     }
-    e
+    all
 }
 
-// The last line of an axis that is not above a height.
-fn line_below(height: u32, step: u32) -> u64
-    requires { 0 < step }
-    ensures is { result ≡ line_below height step }
-    ensures holds { result ≤ height }
-{
-    height as u64 / step as u64 * step as u64
+impl Step {
+    // The last line of an axis that is not above a height.
+    fn line_below(self, height: u32) -> u64
+        ensures is { result ≡ line_below height self.size }
+        ensures holds { result ≤ height }
+    {
+        height as u64 / self.size as u64 * self.size as u64
+    }
+
+    // The first line that is not below a height.
+    fn line_above(self, height: u32) -> u64
+        ensures is { result ≡ line_above height self.size }
+        ensures holds { height ≤ result }
+        ensures small { result ≤ height + self.size }
+    {
+        (height as u64 + self.size as u64 - 1) / self.size as u64 * self.size as u64
+    }
+
+    // Whether at most so many steps hold an extent.
+    fn fits(self, extent: Extent, most: u16) -> bool
+        ensures { result ≡ fits extent most self.size }
+    {
+        self.line_above(extent.high) <= self.line_below(extent.low) + most as u64 * self.size as u64
+    }
 }
 
-// The first line that is not below a height.
-fn line_above(height: u32, step: u32) -> u64
-    requires { 0 < step }
-    ensures is { result ≡ line_above height step }
-    ensures holds { height ≤ result }
-    ensures small { result ≤ height + step }
+// The least round step of which at most so many hold an extent; the largest where none does.
+fn round_step(extent: Extent, most: u16) -> Step
+    ensures { result.size ≡ round_step extent most }
 {
-    (height as u64 + step as u64 - 1) / step as u64 * step as u64
-}
-
-// Whether at most so many steps hold an extent.
-fn fits(extent: Extent, most: u16, step: u32) -> bool
-    requires { 0 < step }
-    ensures { result ≡ fits extent most step }
-{
-    line_above(extent.high, step) <= line_below(extent.low, step) + most as u64 * step as u64
-}
-
-// A round step; the largest past the table's end.
-fn round(k: usize) -> u32
-    ensures is { result ≡ get_or round_steps k 1_000_000_000 }
-    ensures some { 0 < result }
-{
-    if k < 22 { ROUND[k] } else { 1_000_000_000 }
-}
-
-// The least round step of which at most so many hold an extent.
-fn round_step(extent: Extent, most: u16) -> u32
-    ensures is { result ≡ round_step extent most }
-    ensures some { 0 < result }
-{
-    let mut k = 0;
-    while k < 22 {
-        let step = round(k);
-        if fits(extent, most, step) {
+    for size in ROUND {
+        let step = Step { size };
+        if step.fits(extent, most) {
             return step;
         }
-        k += 1;
     }
-    1_000_000_000
+    Step {
+        size: 1_000_000_000,
+    }
 }
 
 // The height axis of an extent, of at most so many steps, that holds its lowest and its highest height.
@@ -205,19 +183,19 @@ pub fn scale_of(extent: Extent, most: u16) -> Scale
     ensures { ScalePost extent most result }
 {
     let step = round_step(extent, most);
-    let low = line_below(extent.low, step);
-    let above = line_above(extent.high, step);
+    let low = step.line_below(extent.low);
+    let above = step.line_above(extent.high);
     if low < above {
         return Scale {
             low,
             high: above,
-            step,
+            step: step.size,
         };
     }
     Scale {
         low,
-        high: low + step as u64,
-        step,
+        high: low + step.size as u64,
+        step: step.size,
     }
 }
 
@@ -225,7 +203,7 @@ pub fn scale_of(extent: Extent, most: u16) -> Scale
 pub fn beyond(number: u64, start: u64) -> u64
     ensures { result ≡ number - start }
 {
-    if start < number { number - start } else { 0 }
+    number.saturating_sub(start)
 }
 
 // A part of a whole as the same part of a length, rounded down; the length itself from the whole on.
@@ -285,15 +263,15 @@ pub fn place_label(lanes: Lanes, x: u32, half: u32) -> Placed
     let second = lanes.second;
     if is_free(first, x, half) {
         return Placed {
-            lane: 0,
+            lane: Some(Lane::Near),
             lanes: Lanes { first: end, second },
         };
     }
     if is_free(second, x, half) {
         return Placed {
-            lane: 1,
+            lane: Some(Lane::Far),
             lanes: Lanes { first, second: end },
         };
     }
-    Placed { lane: 2, lanes }
+    Placed { lane: None, lanes }
 }

@@ -2,7 +2,6 @@
 ghost use Rattle.std.specs.Prelude.{◌≡◌, ◌<◌};
 ghost use Rattle.drawing_plots.specs.Sizes.{right_of, foot_of, margin_of, frame_top, frame_foot, frame_of, line_of, half_of};
 
-use crate::scale;
 use crate::scale::Plot;
 
 // The frame around a plot and its labels: where it begins, its width and its depth.
@@ -43,7 +42,7 @@ fn frame_top(plot: Plot) -> u32
     ensures is { result ≡ frame_top plot }
     ensures small { result < 65_536 }
 {
-    scale::beyond(plot.top as u64, margin(plot.text) as u64) as u32
+    (plot.top as u32).saturating_sub(margin(plot.text))
 }
 
 // The foot of the frame.
@@ -63,7 +62,7 @@ pub fn frame_of(plot: Plot) -> Frame
         left: plot.left as u64,
         top,
         width: plot.width as u64,
-        depth: scale::beyond(frame_foot(plot) as u64, top),
+        depth: (frame_foot(plot) as u64).saturating_sub(top),
     }
 }
 

@@ -8,7 +8,7 @@ ghost use Rattle.drawing_plots.specs.Sizes.{half_of};
 ghost use Rattle.drawing_plots.specs.Spots.{level_of, kept_within, lane_room, label_down, leader_end, SpotPost, belongs_to};
 
 use crate::scale;
-use crate::scale::{Lanes, Placed, Plot};
+use crate::scale::{Lane, Lanes, Placed, Plot};
 use crate::sizes::{foot, half, line, right};
 
 // Where a turn stands: its mark, the end of the line that leads to its label, and the label with its lane.
@@ -41,7 +41,7 @@ pub fn level_of(plot: Plot, height: u32) -> Level
         left: plot.left as u64,
         right: right(plot) as u64,
         down,
-        end: scale::beyond(plot.left as u64, 60),
+        end: plot.left.saturating_sub(60) as u64,
         base: down + plot.text as u64 / 3,
     }
 }
@@ -52,35 +52,29 @@ fn kept_within(plot: Plot, x: u32) -> u32
 {
     let side = half(plot.text);
     let least = plot.left as u32 + side;
-    let most = scale::beyond(right(plot) as u64, side as u64) as u32;
-    if x < least {
-        return least;
-    }
-    if most < least {
-        return least;
-    }
-    if most < x { most } else { x }
+    let most = right(plot).saturating_sub(side);
+    x.min(most).max(least)
 }
 
 // How far the first line of a label stands from the plot: two lines to a lane, the first lane nearest the plot.
-fn lane_room(text: u16, lane: u32) -> u32
+fn lane_room(text: u16, lane: Option<Lane>) -> u32
     ensures is { result ≡ lane_room text lane }
     ensures small { result < 524_288 }
 {
     let near = line(text) + text as u32 / 2;
-    if lane == 0 {
-        return near;
+    match lane {
+        Some(Lane::Near) => near,
+        _ => near + 2 * line(text),
     }
-    near + 2 * line(text)
 }
 
 // Where the first line of a label stands from the top.
-fn label_down(plot: Plot, high: bool, lane: u32) -> u64
+fn label_down(plot: Plot, high: bool, lane: Option<Lane>) -> u64
     ensures { result ≡ label_down plot high lane }
 {
     let room = lane_room(plot.text, lane) as u64;
     if high {
-        return scale::beyond(plot.top as u64, room);
+        return (plot.top as u64).saturating_sub(room);
     }
     foot(plot) as u64 + room
 }
@@ -90,7 +84,7 @@ fn leader_end(plot: Plot, high: bool) -> u64
     ensures { result ≡ leader_end plot high }
 {
     if high {
-        return scale::beyond(plot.top as u64, 30);
+        return plot.top.saturating_sub(30) as u64;
     }
     foot(plot) as u64 + 30
 }
@@ -113,7 +107,7 @@ pub fn height_down(plot: Plot, height: i64) -> u32
 fn minute_across(plot: Plot, minute: u32) -> u32
     ensures { result ≡ across_of plot (minute - plot.first) }
 {
-    scale::across(plot, scale::beyond(minute as u64, plot.first as u64) as u32)
+    scale::across(plot, minute.saturating_sub(plot.first))
 }
 
 // Where the turn of a minute of the month stands on a plot, after some labels to its left.

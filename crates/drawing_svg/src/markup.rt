@@ -1,16 +1,9 @@
 // Text of a drawing, before it is put on a page: the numbers in a form's blanks, and text as XML has it, that is, which bytes are
 // characters of UTF-8 beyond ASCII, and how a character of ASCII is written.
-ghost use Rattle.std.specs.Prelude.{◌≡◌, ◌≤◌, get_or, length, take};
+ghost use Rattle.std.specs.Prelude.{◌≡◌, get_or, MatchOption, ◌∷◌, []};
 ghost use Rattle.drawing_svg.specs.Forms.{is_blank, number_for};
 ghost use Rattle.drawing_svg.specs.Utf8.{is_from, size_from, second_low, second_high, is_second, is_later, goes_on, sequence_of};
 ghost use Rattle.drawing_svg.specs.Escapes.{shown_as, written_of};
-
-// How a character is written: the first bytes of six.
-#[derive(Clone, Copy)]
-pub struct Character {
-    pub bytes: [u8; 6],
-    pub size: usize,
-}
 
 // Whether a byte is from one to another.
 #[tactic(auto, unfolding(crate::specs::Utf8::is_from))]
@@ -21,17 +14,16 @@ fn is_from(low: u8, high: u8, byte: u8) -> bool
 }
 
 // How many bytes a character of UTF-8 has that begins with a byte; 0 where it is ASCII or no character begins so.
-#[tactic(auto, unfolding(crate::specs::Utf8::size_from))]
+#[tactic(auto, unfolding(crate::specs::Utf8::size_from, crate::specs::Utf8::is_from))]
 fn sequence_size(byte: u8) -> usize
     ensures { result ≡ size_from byte }
 {
-    if is_from(194, 223, byte) {
-        return 2;
+    match byte {
+        194..=223 => 2,
+        224..=239 => 3,
+        240..=244 => 4,
+        _ => 0,
     }
-    if is_from(224, 239, byte) {
-        return 3;
-    }
-    if is_from(240, 244, byte) { 4 } else { 0 }
 }
 
 // The least second byte after a first.
@@ -39,10 +31,11 @@ fn sequence_size(byte: u8) -> usize
 fn second_low(first: u8) -> u8
     ensures { result ≡ second_low first }
 {
-    if first == 224 {
-        return 160;
+    match first {
+        224 => 160,
+        240 => 144,
+        _ => 128,
     }
-    if first == 240 { 144 } else { 128 }
 }
 
 // The greatest second byte after a first.
@@ -50,10 +43,11 @@ fn second_low(first: u8) -> u8
 fn second_high(first: u8) -> u8
     ensures { result ≡ second_high first }
 {
-    if first == 237 {
-        return 159;
+    match first {
+        237 => 159,
+        244 => 143,
+        _ => 191,
     }
-    if first == 244 { 143 } else { 191 }
 }
 
 // The byte at a place; 0 past the end.
@@ -77,10 +71,7 @@ fn is_second(text: &[u8]) -> bool
 fn is_later(text: &[u8], size: usize, i: usize) -> bool
     ensures { result ≡ is_later text.now size i }
 {
-    if i < size {
-        return is_from(128, 191, byte_at(text, i));
-    }
-    true
+    size <= i || is_from(128, 191, byte_at(text, i))
 }
 
 // Whether the bytes behind the first of a text are those of a character of so many.
@@ -88,13 +79,7 @@ fn is_later(text: &[u8], size: usize, i: usize) -> bool
 fn goes_on(text: &[u8], size: usize) -> bool
     ensures { result ≡ goes_on text.now size }
 {
-    if is_second(text) {
-        if is_later(text, size, 2) {
-            return is_later(text, size, 3);
-        }
-        return false;
-    }
-    false
+    is_second(text) && is_later(text, size, 2) && is_later(text, size, 3)
 }
 
 // The bytes of the character beyond ASCII with which a text begins; 0 where it begins with none.
@@ -106,48 +91,29 @@ pub fn sequence(text: &[u8]) -> usize
     if goes_on(text, size) { size } else { 0 }
 }
 
-// How XML has a character of ASCII: by its name where XML keeps it for itself, and a question mark where XML has it not.
+// The name by which XML has a character of ASCII that it keeps for itself; none for any other, which is written as `shown` has it.
 #[tactic(auto, unfolding(crate::specs::Escapes::written_of))]
-pub fn written(byte: u8) -> Character
-    ensures is { take result.size result.bytes ≡ written_of byte }
-    ensures within { (result.size ≤ 6) × (length result.bytes ≡ 6) }
+pub fn name_of(byte: u8) -> Option<&'static [u8]>
+    ensures { MatchOption result (written_of byte ≡ shown_as byte ∷ []) (λ name. name.now ≡ written_of byte) }
 {
-    if byte == 34 {
-        return Character {
-            bytes: [38, 113, 117, 111, 116, 59],
-            size: 6,
-        };
-    }
-    if byte == 38 {
-        return Character {
-            bytes: [38, 97, 109, 112, 59, 0],
-            size: 5,
-        };
-    }
-    if byte == 60 {
-        return Character {
-            bytes: [38, 108, 116, 59, 0, 0],
-            size: 4,
-        };
-    }
-    if byte == 62 {
-        return Character {
-            bytes: [38, 103, 116, 59, 0, 0],
-            size: 4,
-        };
-    }
-    Character {
-        bytes: [shown(byte), 0, 0, 0, 0, 0],
-        size: 1,
+    match byte {
+        b'"' => Some(b"&quot;"),
+        b'&' => Some(b"&amp;"),
+        b'<' => Some(b"&lt;"),
+        b'>' => Some(b"&gt;"),
+        _ => None,
     }
 }
 
-// A character that can be seen, as it is; a question mark for any other.
-#[tactic(auto, unfolding(crate::specs::Escapes::shown_as))]
-fn shown(byte: u8) -> u8
+// A character that can be seen, as it is; a question mark for what XML has not.
+#[tactic(auto, unfolding(crate::specs::Escapes::shown_as, crate::specs::Utf8::is_from))]
+pub fn shown(byte: u8) -> u8
     ensures { result ≡ shown_as byte }
 {
-    if is_from(32, 126, byte) { byte } else { 63 }
+    match byte {
+        b' '..=b'~' => byte,
+        _ => b'?',
+    }
 }
 
 // Whether a byte of a form is a blank.
@@ -155,28 +121,23 @@ fn shown(byte: u8) -> u8
 pub fn is_blank(byte: u8) -> bool
     ensures { result ≡ is_blank byte }
 {
-    if byte == b'@' {
-        return true;
-    }
-    if byte == b'$' {
-        return true;
-    }
-    if byte == b'~' {
-        return true;
-    }
-    byte == b'^'
+    matches!(byte, b'@' | b'$' | b'~' | b'^')
 }
 
 // The number that stands for a blank of a form.
 #[tactic(auto, unfolding(crate::specs::Forms::number_for))]
-pub fn number_for(byte: u8, a: u64, b: u64, c: u64, d: u64) -> u64
-    ensures { result ≡ number_for byte a b c d }
+pub fn number_for(byte: u8, numbers: &[u64]) -> u64
+    ensures { result ≡ number_for byte numbers.now }
 {
-    if byte == b'@' {
-        return a;
+    let place = match byte {
+        b'@' => 0,
+        b'$' => 1,
+        b'~' => 2,
+        _ => 3,
+    };
+    if place < numbers.len() {
+        numbers[place]
+    } else {
+        0
     }
-    if byte == b'$' {
-        return b;
-    }
-    if byte == b'~' { c } else { d }
 }

@@ -1,17 +1,10 @@
 // The pieces that an SVG drawing is written of: forms with numbers in them, and text as XML has it.
 //
 // A function takes a lent page and a place on it, as those of `output` do, and gives the place behind what it put, which lies on the page.
-ghost use Rattle.std.specs.Prelude.{◌≡◌, ◌≤◌, min, length, IfOk};
+ghost use Rattle.std.specs.Prelude.{◌≤◌, length, IfOk};
 
 use crate::markup;
 use std::io;
-
-// A place on a page of a size: its end for a place beyond it.
-fn on_page(at: usize, size: usize) -> usize
-    ensures { result ≡ min at size }
-{
-    if at < size { at } else { size }
-}
 
 // Puts a byte of a form as it is, and for a blank its number.
 fn put_filled(
@@ -19,40 +12,29 @@ fn put_filled(
     page: &mut [u8],
     at: usize,
     byte: u8,
-    number: u64,
+    numbers: &[u64],
 ) -> io::Result<usize>
     ensures { IfOk result (λ next. at ≤ length page.old → next ≤ length page.old) }
 {
     if markup::is_blank(byte) {
-        return output::put_number(rt, page, at, number);
+        return output::put_number(rt, page, at, markup::number_for(byte, numbers));
     }
     output::put(rt, page, at, byte)
 }
 
-// Puts a form: its bytes as they are, and the four numbers for its blanks @ $ ~ ^.
+// Puts a form: its bytes as they are, and for its blanks @ $ ~ ^ the first number to the fourth; 0 for one that is not there.
 pub fn put_form(
     rt: &impl Print,
     page: &mut [u8],
     at: usize,
     form: &[u8],
-    a: u64,
-    b: u64,
-    c: u64,
-    d: u64,
+    numbers: &[u64],
 ) -> io::Result<usize>
     ensures { IfOk result (λ next. next ≤ length page.old) }
 {
-    let mut next = on_page(at, page.len());
-    let mut i = 0;
-    while i < form.len() {
-        next = put_filled(
-            rt,
-            page,
-            next,
-            form[i],
-            markup::number_for(form[i], a, b, c, d),
-        )?;
-        i += 1;
+    let mut next = output::on_page(page.len(), at);
+    for byte in form {
+        next = put_filled(rt, page, next, *byte, numbers)?;
     }
     Ok(next)
 }
@@ -61,7 +43,7 @@ pub fn put_form(
 pub fn put_plain(rt: &impl Print, page: &mut [u8], at: usize, form: &[u8]) -> io::Result<usize>
     ensures { IfOk result (λ next. next ≤ length page.old) }
 {
-    put_form(rt, page, at, form, 0, 0, 0, 0)
+    put_form(rt, page, at, form, &[])
 }
 
 // Begins a group of texts of a size, each in the middle of its place.
@@ -73,10 +55,7 @@ pub fn put_group(rt: &impl Print, page: &mut [u8], at: usize, size: u64) -> io::
         page,
         at,
         b"<g text-anchor=\"middle\" font-size=\"@\">\n",
-        size,
-        0,
-        0,
-        0,
+        &[size],
     )
 }
 
@@ -91,10 +70,10 @@ pub fn end_group(rt: &impl Print, page: &mut [u8], at: usize) -> io::Result<usiz
 fn put_character(rt: &impl Print, page: &mut [u8], at: usize, byte: u8) -> io::Result<usize>
     ensures { IfOk result (λ next. at ≤ length page.old → next ≤ length page.old) }
 {
-    let written = markup::written(byte);
-    let bytes = written.bytes;
-    let size = written.size;
-    output::put_bytes(rt, page, at, &bytes[..size])
+    match markup::name_of(byte) {
+        Some(name) => output::put_bytes(rt, page, at, name),
+        None => output::put(rt, page, at, markup::shown(byte)),
+    }
 }
 
 // Puts a byte of text: as it is where it belongs to a character beyond ASCII.
@@ -115,23 +94,16 @@ fn passing(text: &[u8], left: usize) -> usize {
     left
 }
 
-// A number less one; 0 of 0.
-fn one_less(number: usize) -> usize {
-    if number == 0 { 0 } else { number - 1 }
-}
-
 // Puts text so that it is text in XML, whatever its bytes.
 pub fn put_escaped(rt: &impl Print, page: &mut [u8], at: usize, text: &[u8]) -> io::Result<usize>
     ensures { IfOk result (λ next. next ≤ length page.old) }
 {
-    let mut next = on_page(at, page.len());
-    let mut left = 0;
-    let mut i = 0;
-    while i < text.len() {
+    let mut next = output::on_page(page.len(), at);
+    let mut left: usize = 0;
+    for (i, byte) in text.iter().enumerate() {
         let pass = passing(&text[i..], left);
-        next = put_byte(rt, page, next, text[i], pass)?;
-        left = one_less(pass);
-        i += 1;
+        next = put_byte(rt, page, next, *byte, pass)?;
+        left = pass.saturating_sub(1);
     }
     Ok(next)
 }

@@ -3,6 +3,8 @@
 
 ghost use Rattle.std.specs.Prelude.{◌≡◌, ◌≤◌, min, length, IfOk};
 
+pub mod pages; // a page with the place behind what was put last
+
 use std::io;
 
 // Writes out the first bytes of a page; the next byte goes to its start.
@@ -35,7 +37,7 @@ pub fn put(rt: &impl Print, page: &mut [u8], at: usize, byte: u8) -> io::Result<
 pub fn on_page(length: usize, at: usize) -> usize
     ensures { result ≡ min at length }
 {
-    if at < length { at } else { length }
+    at.min(length)
 }
 
 // Puts bytes one after another; gives the place after the last.
@@ -43,10 +45,8 @@ pub fn put_bytes(rt: &impl Print, page: &mut [u8], at: usize, bytes: &[u8]) -> i
     ensures { IfOk result (λ next. next ≤ length page.old) }
 {
     let mut next = on_page(page.len(), at);
-    let mut i = 0;
-    while i < bytes.len() {
-        next = put(rt, page, next, bytes[i])?;
-        i += 1;
+    for byte in bytes {
+        next = put(rt, page, next, *byte)?;
     }
     Ok(next)
 }

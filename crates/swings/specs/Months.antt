@@ -1,5 +1,5 @@
 -- The months of a year, whose minutes are counted from 1 January: a month's turns, and the highest and the lowest of them. Assumes nothing.
-use Rattle.std.specs.Prelude.{ℕ, zero, suc, ◌+◌, ◌-◌, ◌*◌, cond, List, ltb, ℤ}
+use Rattle.std.specs.Prelude.{ℕ, zero, suc, ◌+◌, ◌-◌, ◌*◌, Bool, true, false, cond, List, ltb, ℤ}
 use Rattle.drawing_plots.specs.Heights.{raised}
 use Rattle.calendar.specs.Calendar.{month_days, months_days, months_a_year}
 use Rattle.swings.specs.Swings.{height_at, turn_from, day_end}
@@ -9,17 +9,21 @@ use Rattle.swings.specs.declared.months.Month.{Month}
 abbrev pub raised_at : List ℤ → ℕ → ℕ
 raised_at heights i = raised (height_at heights i)
 
--- the highest of n turns from one on, the first of several; that one where there is none
-unfoldable pub highest_turn : List ℤ → ℕ → ℕ → ℕ
-highest_turn heights from zero = from
-highest_turn heights from (suc n) =
-    cond (ltb (raised_at heights (highest_turn heights from n)) (raised_at heights (from + n))) (from + n) (highest_turn heights from n)
+-- whether a height lies beyond another: above it where the highest is sought, below it where the lowest is
+abbrev pub is_beyond : Bool → ℕ → ℕ → Bool
+is_beyond high a b = cond high (ltb b a) (ltb a b)
 
--- the lowest
-unfoldable pub lowest_turn : List ℤ → ℕ → ℕ → ℕ
-lowest_turn heights from zero = from
-lowest_turn heights from (suc n) =
-    cond (ltb (raised_at heights (from + n)) (raised_at heights (lowest_turn heights from n))) (from + n) (lowest_turn heights from n)
+-- the highest or the lowest of n turns from one on, the first of several; that one where there is none
+unfoldable pub extreme_turn : Bool → List ℤ → ℕ → ℕ → ℕ
+extreme_turn high heights from zero = from
+extreme_turn high heights from (suc n) =
+    cond (is_beyond high (raised_at heights (from + n)) (raised_at heights (extreme_turn high heights from n))) (from + n) (extreme_turn high heights from n)
+
+abbrev pub highest_turn : List ℤ → ℕ → ℕ → ℕ
+highest_turn = extreme_turn true
+
+abbrev pub lowest_turn : List ℤ → ℕ → ℕ → ℕ
+lowest_turn = extreme_turn false
 
 -- the days of the year before a month, and those of the whole year
 abbrev pub days_before : ℕ → ℕ → ℕ

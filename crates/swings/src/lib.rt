@@ -1,7 +1,7 @@
 // How far the water moves from turn to turn, and which turns stand on a day. Turns are lent as two rows, their minutes and their heights.
 #![tactic(auto)]
 
-ghost use Rattle.std.specs.Prelude.{◌≡◌, ◌+◌, ◌-◌, ◌≤◌, max};
+ghost use Rattle.std.specs.Prelude.{◌≡◌, ◌+◌, ◌-◌, ◌≤◌};
 ghost use Rattle.swings.specs.Swings.{apart, swing, largest_swing, bar_length, is_high, turn_from, day_end};
 
 pub mod months; // a year's turns by months
@@ -13,13 +13,7 @@ pub fn apart(a: i64, b: i64) -> u64
     ensures is { result ≡ apart a b }
     ensures small { result ≤ 2_000_000_000_000 }
 {
-    let x = scale::raised(a);
-    let y = scale::raised(b);
-    if x < y {
-        (y - x) as u64
-    } else {
-        (x - y) as u64
-    }
+    scale::raised(a).abs_diff(scale::raised(b)) as u64
 }
 
 // The rise or fall that ends at a turn; for the first turn the one that begins there.
@@ -39,23 +33,14 @@ fn swing(heights: &[i64], count: usize, i: usize) -> u64
     )
 }
 
-// The larger of two.
-fn larger(a: u64, b: u64) -> u64
-    ensures { result ≡ max a b }
-{
-    if a < b { b } else { a }
-}
-
 // The largest swing of the turns from one to before another.
 pub fn largest_swing(heights: &[i64], count: usize, from: usize, to: usize) -> u64
     ensures is { result ≡ largest_swing heights.now count from (to - from) }
     ensures small { result ≤ 2_000_000_000_000 }
 {
     let mut most: u64 = 0;
-    let mut i = from;
-    while i < to {
-        most = larger(most, swing(heights, count, i));
-        i += 1;
+    for i in from..to {
+        most = most.max(swing(heights, count, i));
     }
     most
 }
@@ -82,14 +67,12 @@ pub fn is_high(first: bool, i: usize) -> bool
 pub fn turn_from(minutes: &[u32], from: usize, count: usize, minute: u64) -> usize
     ensures { result ≡ turn_from minutes.now minute from (count - from) }
 {
-    let mut i = from;
-    while i < count {
+    for i in from..count {
         if minute <= digits::minute_at(minutes, i) as u64 {
             return i;
         }
-        i += 1;
     }
-    i
+    from.max(count)
 }
 
 // Where the turns of a day end, from the turn on with which they begin. The last day has all that are left.

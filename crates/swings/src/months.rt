@@ -2,7 +2,7 @@
 ghost use Rattle.std.specs.Prelude.{◌≡◌, ◌-◌, ◌*◌, ◌≤◌, min};
 ghost use Rattle.calendar.specs.Calendar.{months_days};
 ghost use Rattle.digits.specs.Digits.{day_of};
-ghost use Rattle.swings.specs.Months.{raised_at, highest_turn, lowest_turn, month_of};
+ghost use Rattle.swings.specs.Months.{raised_at, is_beyond, extreme_turn, month_of};
 
 use crate::{day_end, turn_from};
 use drawing_plots::scale;
@@ -34,44 +34,28 @@ fn raised_at(heights: &[i64], i: usize) -> u32
     scale::raised(digits::height_at(heights, i))
 }
 
-// The highest of the turns from one to before another, the first of several; that one where there is none.
-fn highest_turn(heights: &[i64], from: usize, to: usize) -> usize
-    ensures { result ≡ highest_turn heights.now from (to - from) }
+// Whether a height lies beyond another: above it where the highest is sought, below it where the lowest is.
+fn is_beyond(high: bool, a: u32, b: u32) -> bool
+    ensures { result ≡ is_beyond high a b }
 {
-    let mut most = from;
-    let mut i = from;
-    while i < to {
-        if raised_at(heights, most) < raised_at(heights, i) {
-            most = i;
-        }
-        i += 1;
-    }
-    most
+    if high { b < a } else { a < b }
 }
 
-// The lowest.
-fn lowest_turn(heights: &[i64], from: usize, to: usize) -> usize
-    ensures { result ≡ lowest_turn heights.now from (to - from) }
+// The highest or the lowest of the turns from one to before another, the first of several; that one where there is none.
+fn extreme_turn(high: bool, heights: &[i64], from: usize, to: usize) -> usize
+    ensures { result ≡ extreme_turn high heights.now from (to - from) }
 {
-    let mut least = from;
-    let mut i = from;
-    while i < to {
-        if raised_at(heights, i) < raised_at(heights, least) {
-            least = i;
+    let mut best = from;
+    for i in from..to {
+        if is_beyond(high, raised_at(heights, i), raised_at(heights, best)) {
+            best = i;
         }
-        i += 1;
     }
-    least
+    best
 }
 
 // A month of a year, of so many turns in two lent rows.
-pub fn month_of<'a>(
-    year: u32,
-    month: u32,
-    count: usize,
-    minutes: &'a [u32],
-    heights: &'a [i64],
-) -> Month
+pub fn month_of(year: u32, month: u32, count: usize, minutes: &[u32], heights: &[i64]) -> Month
     ensures { result ≡ month_of year month count minutes.now heights.now }
 {
     let before = days_before(year, month);
@@ -83,8 +67,8 @@ pub fn month_of<'a>(
         days,
         from,
         to,
-        highest: highest_turn(heights, from, to),
-        lowest: lowest_turn(heights, from, to),
+        highest: extreme_turn(true, heights, from, to),
+        lowest: extreme_turn(false, heights, from, to),
     }
 }
 
@@ -100,6 +84,5 @@ pub fn minute_in(month: Month, minute: u32) -> u32
 pub fn day_in(month: Month, minute: u32) -> u32
     ensures { result ≡ min (day_of (minute - month.before * 1_440)) month.days }
 {
-    let day = digits::day_of(minute_in(month, minute));
-    if day < month.days { day } else { month.days }
+    digits::day_of(minute_in(month, minute)).min(month.days)
 }

@@ -65,14 +65,14 @@ not-blank b h = go (blank b) refl
         absurd (h (omega (arith, leb-true 32 b e.0, leb-true b 32 e.1)))
 
 -- the first n bytes of a text end in a blank, or are whole without their last blanks
-pub take-blank : (l : List ℕ) (n : ℕ) → 0 < n → n ≤ length l → get_or l (n - 1) 32 ≡ 32 → trimmed (take n l) ≡ trimmed (take (n - 1) l)
+pub take-blank : (l : List ℕ) (n : ℕ) → 0 < n → n ≤ length l → get_or l (n - 1) 0 ≡ 32 → trimmed (take n l) ≡ trimmed (take (n - 1) l)
 take-blank l zero p h e = absurd (omega arith)
 take-blank l (suc m) p h e =
     let less : suc m - 1 ≡ m = omega arith in
-    rw (less, take-suc l m 32 (omega arith)) (trimmed-blank (take m l) (get_or l m 32) (rw (rw less at e)))
+    rw (less, take-suc l m 0 (omega arith)) (trimmed-blank (take m l) (get_or l m 0) (rw (rw less at e)))
 
-pub take-other : (l : List ℕ) (n : ℕ) → 0 < n → n ≤ length l → (get_or l (n - 1) 32 ≡ 32 → ⊥) → take n l ≡ trimmed (take n l)
+pub take-other : (l : List ℕ) (n : ℕ) → 0 < n → n ≤ length l → (get_or l (n - 1) 0 ≡ 32 → ⊥) → take n l ≡ trimmed (take n l)
 take-other l zero p h e = absurd (omega arith)
 take-other l (suc m) p h e =
     let less : suc m - 1 ≡ m = omega arith in
-    rw (take-suc l m 32 (omega arith)) (sym (trimmed-other (take m l) (get_or l m 32) (not-blank (get_or l m 32) (rw less at e))))
+    rw (take-suc l m 0 (omega arith)) (sym (trimmed-other (take m l) (get_or l m 0) (not-blank (get_or l m 0) (rw less at e))))

@@ -1,14 +1,14 @@
--- Laws of the scale: a height raised by its sign, the table of round steps, the search in it, and a share within its length.
+-- Laws of the scale: a height raised by its sign, the search in the table of round steps, and a share within its length.
 -- Assumes nothing.
 use mathlib.Core.Path.{◌≡◌, refl}
-use mathlib.Core.Bool.{Bool, true, false, ◌&&◌, cond, false≢true}
-use mathlib.Core.List.{List, [], ◌∷◌}
-use Prim.Native.Nat.{ℕ, zero, suc, ◌+◌, ◌-◌, ◌*◌, ◌/◌, ◌≤◌, ◌<◌, ◌^◌, min, max}
+use mathlib.Core.Bool.{Bool, true, false, cond}
+use mathlib.Core.List.{List}
+use Prim.Native.Nat.{ℕ, ◌+◌, ◌-◌, ◌*◌, ◌/◌, ◌≤◌, ◌<◌, ◌^◌, min, max}
 use native.Mathlib.Nat.{mul-le-mul, mul-le-mul_right, div-le_of_le-mul}
 use native.Mathlib.Numerals.{add-one}
 use native.Mathlib.Omega.{arith}
-use borrow.Author.Tests.{ltb-true, leb-true, leb-false}
-use lib.Dec.{leb, ltb, lit<}
+use borrow.Author.Tests.{leb-true, leb-false}
+use lib.Dec.{leb}
 use lib.IntN.{ℤ, pos, nat_abs}
 use lib.ListN.{get_or, length, drop}
 use lib.Seq.{drop-cons}
@@ -48,35 +48,11 @@ leb-same a b c d f g = decide (leb a b) (leb c d) refl refl
     decide true false e k = let h : c ≤ d = f (leb-true a b e) in absurd (omega (arith, leb-false c d k))
     decide false true e k = let h : a ≤ b = g (leb-true c d k) in absurd (omega (arith, leb-false a b e))
 
--- ---- the table of round steps
-
--- every number of a list is above 0
-abbrev all_some : List ℕ → Bool
-all_some [] = true
-all_some (x ∷ xs) = ltb 0 x && all_some xs
-
-both : (a b : Bool) → (a && b) ≡ true → (a ≡ true) × (b ≡ true)
-both true b e = (refl, e)
-both false b e = absurd (false≢true e)
-
-some_at : (l : List ℕ) (k d : ℕ) → all_some l ≡ true → 0 < d → 0 < get_or l k d
-some_at [] k d e h = h
-some_at (x ∷ xs) zero d e h = ltb-true 0 x (both (ltb 0 x) (all_some xs) e).0
-some_at (x ∷ xs) (suc k) d e h = some_at xs k d (both (ltb 0 x) (all_some xs) e).1 h
-
-pub step-some : (k : ℕ) → 0 < get_or round_steps k 1_000_000_000
-step-some k = some_at round_steps k 1_000_000_000 refl (lit< tt)
-
-pub at-within : (l : List ℕ) (k d e : ℕ) → k < length l → get_or l k d ≡ get_or l k e
-at-within [] k d e h = omega arith
-at-within (x ∷ xs) zero d e h = refl
-at-within (x ∷ xs) (suc k) d e h = at-within xs k d e (omega arith)
-
 -- ---- the search
 
-pub fit-more : (e : Extent) (most k : ℕ) → k < 22 → first_fit e most (drop k round_steps) ≡ cond (fits e most (get_or round_steps k 1_000_000_000)) (get_or round_steps k 1_000_000_000) (first_fit e most (drop (k + 1) round_steps))
+pub fit-more : (e : Extent) (most k : ℕ) → k < 22 → first_fit e most (drop k round_steps) ≡ cond (fits e most (get_or round_steps k 0)) (get_or round_steps k 0) (first_fit e most (drop (k + 1) round_steps))
 unfolding first_fit
-fit-more e most k h = rw (add-one, drop-cons round_steps k 1_000_000_000)
+fit-more e most k h = rw (add-one, drop-cons round_steps k 0)
 
 -- ---- a share
 

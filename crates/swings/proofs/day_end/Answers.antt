@@ -1,6 +1,5 @@
 -- `swings::day_end` meets its contract: a case for the last day. Assumes nothing.
 use borrow.Author.Tests.{le-leb, lt-leb}
-use borrow.Author.Rules.{rules}
 use Rattle.swings.proofs.day_end.Goals as goal
 
 pub returns-then-days-day : goal.returns-then-days-day

@@ -4,7 +4,6 @@ use borrow.Author.Tests.{lt-ltb, le-ltb}
 use Rattle.swings.specs.Swings.{swing}
 use mir.Syntax.{w64}
 use mir.ValLaws.{to_z-of_z}
-use borrow.Author.Rules.{rules}
 use Rattle.swings.proofs.swing.Goals as goal
 
 pub returns-then-count-lt2 : goal.returns-then-count-lt2

@@ -1,5 +1,4 @@
 -- `drawing_plots::bands::day_extent` meets its contract: the two parts widen the extent one after the other. Assumes nothing.
-use borrow.Author.Rules.{rules}
 use Rattle.drawing_plots.proofs.bands.day_extent.Goals as goal
 
 pub returns : goal.returns

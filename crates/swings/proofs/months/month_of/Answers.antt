@@ -3,7 +3,6 @@ use mathlib.Core.Path.{◌≡◌}
 use Prim.Native.Nat.{◌-◌}
 use native.Mathlib.Omega.{arith}
 use Rattle.calendar.proofs.Months.{month-short}
-use borrow.Author.Rules.{rules}
 use Rattle.swings.proofs.months.month_of.Goals as goal
 
 pub overflow_add-before : goal.overflow_add-before
@@ -14,4 +13,4 @@ pub returns : goal.returns
 returns c =
     let all : c.args.count - 0 ≡ c.args.count = omega arith in
     let from = rw all at c.turn_from-from.ensures in
-    rw (c.lowest_turn.ensures, c.highest_turn.ensures, c.day_end-to.ensures, c.days_before.ensures.is, from, c.month_days-days.ensures, c.days_before-before.ensures.is)
+    rw (c.extreme_turn-2.ensures, c.extreme_turn.ensures, c.day_end-to.ensures, c.days_before.ensures.is, from, c.month_days-days.ensures, c.days_before-before.ensures.is)
