@@ -3,83 +3,49 @@
 // Heights and turns are the clock's; crate drawing_picture gives them places. What the clock refuses is said, and nothing is drawn.
 #![tactic(auto)]
 
-ghost use Rattle.std.specs.Prelude.{◌<◌, ◌≤◌, length, ◌≡◌};
+ghost use Rattle.std.specs.Prelude.{◌≤◌};
 ghost use Rattle.clock.specs.View.{Made};
 
 use clock::{Clock, TurnsAnswer};
 use digits::dates;
 use drawing_picture::{picture, title, yearband};
-use drawing_plots::{bands, plots};
+use drawing_plots::plots;
 use monthturns::yearturns;
+use output::pages::Page;
 use page::face::Face;
 use page::shown;
-use page::shown::{Date, TURNS, Turns};
+use page::shown::{Date, TURNS, Waters};
 use refusals::{Answer, Refusal};
 use std::io;
 use swings::months;
 
-// Room for a day's heights, five minutes apart. (Each a function's result, so that its length is known as a fact.)
-fn day_places() -> [i64; 289]
-    ensures { 289 ≡ length result }
-{
-    [0; 289]
-}
-
-// Room for a month's heights, 20 minutes apart.
-fn month_places() -> [i64; 2233]
-    ensures { 2233 ≡ length result }
-{
-    [0; 2233]
-}
-
-// Room for a year's heights, an hour apart: of twelve months of 31 days, both ends.
-fn year_places() -> [i64; 8929]
-    ensures { 8929 ≡ length result }
-{
-    [0; 8929]
-}
-
-// Begins a drawing of a height: its head.
-fn begin(
-    rt: &impl Print,
-    page: &mut [u8],
-    face: Face,
+// What a drawing says of itself: its head, how high it is, where its foot stands, and how it is read.
+#[derive(Clone, Copy)]
+struct Sheet<'a> {
+    face: Face<'a>,
     date: Date,
     height: u64,
-) -> io::Result<usize> {
-    let next = title::put_start(rt, page, 0, height)?;
-    title::put_head(rt, page, next, face, date)
+    foot: u64,
+    key: &'a [u8],
 }
 
-// Ends a drawing with its foot so far down, which says how it is read, and writes it out.
-fn end(
+// How a drawing of a day or a month is read.
+const TURNS_KEY: &[u8] = b"full marks: high water; open marks: low water";
+
+// Writes a drawing, whose plots are put between its head and its foot.
+fn write<F: FnOnce(&mut Page) -> io::Result<()>>(
     rt: &impl Print,
-    page: &mut [u8],
-    at: usize,
-    top: u64,
-    key: &[u8],
-    face: Face,
-) -> io::Result<()> {
-    let next = title::put_foot(rt, page, at, top, key, face.ground)?;
-    output::flush(rt, page, next)?;
-    Ok(())
-}
-
-// Ends a drawing of turns.
-fn end_turns(rt: &impl Print, page: &mut [u8], at: usize, top: u64, face: Face) -> io::Result<()> {
-    end(
-        rt,
-        page,
-        at,
-        top,
-        b"full marks: high water; open marks: low water",
-        face,
-    )
-}
-
-// How many days the month of a date has.
-fn days_of(date: Date) -> u32 {
-    calendar::month_days(date.year, date.month)
+    sheet: Sheet,
+    put_plots: F,
+) -> io::Result<()>
+    requires { F.IsAlwaysCallable put_plots }
+{
+    let mut page = Page::new();
+    title::put_start(rt, &mut page, sheet.height)?;
+    title::put_head(rt, &mut page, sheet.face, sheet.date)?;
+    put_plots(&mut page)?;
+    title::put_foot(rt, &mut page, sheet.foot, sheet.key, sheet.face.ground)?;
+    page.flush(rt)
 }
 
 // Writes the drawing of a day from its heights and the month's turns.
@@ -88,20 +54,25 @@ fn write_day(
     face: Face,
     date: Date,
     heights: &[i64],
-    turns: Turns,
+    waters: Waters,
 ) -> io::Result<()> {
-    let mut page = [0u8; 4096];
-    let a = begin(rt, &mut page, face, date, 5_760)?;
-    let b = picture::put_day(rt, &mut page, a, date, days_of(date), heights, turns)?;
-    end_turns(rt, &mut page, b, 5_450, face)?;
-    Ok(())
+    let sheet = Sheet {
+        face,
+        date,
+        height: 5_760,
+        foot: 5_450,
+        key: TURNS_KEY,
+    };
+    write(rt, sheet, |page| {
+        picture::put_day(rt, page, date, heights, waters)
+    })
 }
 
-// Where the foot of a month's drawing stands.
-fn month_foot(date: Date) -> u64
-    ensures { result < 20_000 }
+// How many days the month of a date has.
+fn days_of(date: Date) -> u16
+    ensures { result ≤ 31 }
 {
-    plots::month_foot(plots::few(days_of(date))) as u64
+    plots::few(calendar::month_days(date.year, date.month))
 }
 
 // Writes the drawing of a month from its heights and its turns.
@@ -110,14 +81,20 @@ fn write_month(
     face: Face,
     date: Date,
     heights: &[i64],
-    turns: Turns,
+    waters: Waters,
 ) -> io::Result<()> {
-    let mut page = [0u8; 4096];
-    let foot = month_foot(date);
-    let a = begin(rt, &mut page, face, date, foot + 310)?;
-    let b = picture::put_month(rt, &mut page, a, plots::few(days_of(date)), heights, turns)?;
-    end_turns(rt, &mut page, b, foot, face)?;
-    Ok(())
+    let days = days_of(date);
+    let foot = plots::month_foot(days) as u64;
+    let sheet = Sheet {
+        face,
+        date,
+        height: foot + 310,
+        foot,
+        key: TURNS_KEY,
+    };
+    write(rt, sheet, |page| {
+        picture::put_month(rt, page, days, heights, waters)
+    })
 }
 
 // Says that the clock refused the month's turns.
@@ -136,9 +113,8 @@ fn day_turns(
     requires { Made clock }
 {
     let found = monthturns::turns_of(clock, shown::last_minute(date), face.ground.strides);
-    let answer = found.answer;
-    match answer {
-        Answer::Accepted => write_day(&rt, face, date, heights, found.turns),
+    match found.answer {
+        Answer::Accepted => write_day(&rt, face, date, heights, found.turns.lent()),
         Answer::Refused(refusal, _) => say_turns(rt, date, refusal),
     }
 }
@@ -147,25 +123,14 @@ fn day_turns(
 pub fn day(rt: HostRuntime, clock: Clock, face: Face, date: Date) -> io::Result<()>
     requires { Made clock }
 {
-    let mut heights = day_places();
+    let mut heights = [0i64; 289];
     let start = dates::minute_of_month(date.day, 0);
-    let answer = clock::series(clock, start, 5, &mut heights);
-    match answer {
+    match clock::series(clock, start, 5, &mut heights) {
         Answer::Accepted => day_turns(rt, clock, face, date, &heights),
         Answer::Refused(refusal, _) => {
             messages::refused_day(rt, date.year, date.month, date.day, refusal)
         }
     }
-}
-
-// So many heights from the month's first minute on, 20 minutes apart, at the front of the lent places.
-fn month_heights(clock: Clock, count: usize, heights: &mut [i64]) -> Answer
-    requires { Made clock }
-{
-    if heights.len() < count {
-        return clock::series(clock, 0, 20, heights);
-    }
-    clock::series(clock, 0, 20, &mut heights[..count])
 }
 
 // The drawing of a month whose turns are there.
@@ -174,15 +139,14 @@ fn month_curve(
     clock: Clock,
     face: Face,
     date: Date,
-    turns: Turns,
+    waters: Waters,
 ) -> io::Result<()>
     requires { Made clock }
 {
-    let mut places = month_places();
-    let count = plots::month_count(days_of(date));
-    let answer = month_heights(clock, count, &mut places);
-    match answer {
-        Answer::Accepted => write_month(&rt, face, date, bands::part(&places, 0, count), turns),
+    let mut places = [0i64; 2_233];
+    let heights = &mut places[..plots::month_count(days_of(date) as u32)];
+    match clock::series(clock, 0, 20, heights) {
+        Answer::Accepted => write_month(&rt, face, date, heights, waters),
         Answer::Refused(refusal, _) => messages::refused_month(rt, date.month, refusal),
     }
 }
@@ -192,9 +156,8 @@ pub fn month(rt: HostRuntime, clock: Clock, face: Face, date: Date) -> io::Resul
     requires { Made clock }
 {
     let found = monthturns::turns_of(clock, shown::last_minute(date), face.ground.strides);
-    let answer = found.answer;
-    match answer {
-        Answer::Accepted => month_curve(rt, clock, face, date, found.turns),
+    match found.answer {
+        Answer::Accepted => month_curve(rt, clock, face, date, found.turns.lent()),
         Answer::Refused(refusal, _) => say_turns(rt, date, refusal),
     }
 }
@@ -207,38 +170,31 @@ fn hours_of(date: Date) -> usize
 }
 
 // Writes the drawing of a year from its hourly heights and its turns.
-fn write_year<'a>(
+fn write_year(
     rt: &impl Print,
     face: Face,
     date: Date,
-    hourly: &'a [i64],
-    minutes: &'a [u32],
-    turns: &'a [i64],
+    hourly: &[i64],
+    waters: Waters,
 ) -> io::Result<()> {
-    let mut page = [0u8; 4096];
-    let a = begin(rt, &mut page, face, date, 5_480)?;
-    let b = yearband::put_year(rt, &mut page, a, date.year, hourly, minutes, turns)?;
-    end(
-        rt,
-        &mut page,
-        b,
-        5_150,
-        b"each day from its lowest to its highest water; marks: each month's highest and lowest, with the day",
+    let sheet = Sheet {
         face,
-    )?;
-    Ok(())
+        date,
+        height: 5_480,
+        foot: 5_150,
+        key: b"each day from its lowest to its highest water; marks: each month's highest and lowest, with the day",
+    };
+    write(rt, sheet, |page| {
+        yearband::put_year(rt, page, date.year, hourly, waters)
+    })
 }
 
-// The drawing of a year, or the clock's refusal: so many hourly heights as are lent places, from its first minute on, and its turns.
-fn year_turns(
-    rt: HostRuntime,
-    clock: Clock,
-    face: Face,
-    date: Date,
-    hourly: &mut [i64],
-) -> io::Result<Answer>
+// svg YEAR: a drawing of a year of a clock that has a station, or the clock's refusal.
+pub fn year(rt: HostRuntime, clock: Clock, face: Face, date: Date) -> io::Result<Answer>
     requires { Made clock }
 {
+    let mut places = [0i64; 8_929];
+    let hourly = &mut places[..hours_of(date)];
     let mut minutes = shown::minute_places();
     let mut heights = shown::height_places();
     let answer = yearturns::turns_of(
@@ -251,20 +207,16 @@ fn year_turns(
         &mut heights,
     );
     match answer {
-        TurnsAnswer::Turns(count, _) => {
-            let turns = bands::part(&heights, 0, count);
-            write_year(&rt, face, date, hourly, &minutes, turns)?;
+        TurnsAnswer::Turns(count, first) => {
+            let waters = Waters {
+                count,
+                first,
+                minutes: &minutes,
+                heights: &heights,
+            };
+            write_year(&rt, face, date, hourly, waters)?;
             Ok(Answer::Accepted)
         }
         TurnsAnswer::Refused(refusal, place) => Ok(Answer::Refused(refusal, place)),
     }
-}
-
-// svg YEAR: a drawing of a year of a clock that has a station, or the clock's refusal.
-pub fn year(rt: HostRuntime, clock: Clock, face: Face, date: Date) -> io::Result<Answer>
-    requires { Made clock }
-{
-    let mut places = year_places();
-    let n = hours_of(date);
-    year_turns(rt, clock, face, date, &mut places[..n])
 }

@@ -1,7 +1,8 @@
 // What is drawn: a day, a month in rows of a week, or a year as a band, as SVG on a page, from heights and turns that the clock gave.
 #![tactic(auto)]
 
-mod axes; // a plot's frame, hours or days, and curve
+mod axes; // a plot's frame, and its hours or days
+mod curve; // a plot's curve
 mod labels; // a turn's mark and label
 mod levels; // the height axis
 mod marks; // a plot's turns

@@ -16,20 +16,26 @@ pub mod yearturns; // the turns of a year
 use crate::widths::{Widths, widest_first};
 use clock::{Clock, TurnsAnswer};
 use limits::STRIDE;
-use page::shown::{Known, TURNS, Turns};
+use page::shown::{TURNS, Turn, Turns, Waters};
 use refusals::Answer;
 use station::strides::Strides;
 
 // The most turns that so short a search finds: one at each minute of the widest stride.
 const ENDS: usize = STRIDE as usize;
 
-// One turn, or none.
+// So many turns in two rows, and whether the first is high.
 #[derive(Clone, Copy)]
-struct Turn {
-    found: bool,
-    high: bool,
-    minute: u32,
-    height: i64,
+struct Known {
+    count: usize,
+    first: bool,
+}
+
+// The last turns of three searches, the widest first, where they find any.
+#[derive(Clone, Copy)]
+struct Ends {
+    far: Option<Turn>,
+    near: Option<Turn>,
+    end: Option<Turn>,
 }
 
 // Whether a month's turns were found, or the clock's refusal; and the turns, none where it refuses.
@@ -39,139 +45,111 @@ pub struct Found {
     pub turns: Turns,
 }
 
-// No turn.
-fn no_turn() -> Turn {
-    Turn {
-        found: false,
-        high: false,
-        minute: 0,
-        height: 0,
+// The last of turns in two rows.
+fn last_of(known: Known, minutes: &[u32], heights: &[i64]) -> Option<Turn> {
+    if known.count == 0 {
+        return None;
     }
+    let waters = Waters {
+        count: known.count,
+        first: known.first,
+        minutes,
+        heights,
+    };
+    Some(waters.turn(known.count - 1))
 }
 
-// The last of so many turns.
-fn last_of<'a>(count: usize, first: bool, minutes: &'a [u32], heights: &'a [i64]) -> Turn {
-    if count == 0 {
-        return no_turn();
-    }
-    Turn {
-        found: true,
-        high: swings::is_high(first, count - 1),
-        minute: digits::minute_at(minutes, count - 1),
-        height: digits::height_at(heights, count - 1),
-    }
-}
-
-// The last turn of a search; none where it is refused.
-fn last_found<'a>(answer: TurnsAnswer, minutes: &'a [u32], heights: &'a [i64]) -> Turn {
-    match answer {
-        TurnsAnswer::Turns(count, first) => last_of(count, first, minutes, heights),
-        TurnsAnswer::Refused(_, _) => no_turn(),
-    }
-}
-
-// The minute from which on so many minutes are left up to the last; the first where there are not so many.
-fn end_from(last: u32, width: u32) -> u32 {
-    if width < last { last - width } else { 0 }
-}
-
-// The last turn of a search over the month's last minutes, as many as a width.
-fn turn_at_end(clock: Clock, last: u32, width: u32) -> Turn
-    requires { Made clock }
+// The last turn of a search up to the last minute from so many minutes before it on, or from the first where there are not so many; none where it is refused.
+fn turn_at_end<F: Fn(u32, &mut [u32], &mut [i64]) -> TurnsAnswer>(
+    search: &F,
+    last: u32,
+    width: u32,
+) -> Option<Turn>
+    requires { F.IsAlwaysCallable search.now }
 {
     let mut minutes = [0u32; ENDS];
     let mut heights = [0i64; ENDS];
-    let from = end_from(last, width);
-    let answer = clock::turns(clock, from, last, &mut minutes, &mut heights);
-    last_found(answer, &minutes, &heights)
+    match search(last.saturating_sub(width), &mut minutes, &mut heights) {
+        TurnsAnswer::Turns(count, first) => last_of(Known { count, first }, &minutes, &heights),
+        TurnsAnswer::Refused(_, _) => None,
+    }
 }
 
-// Whether a turn may follow another: it is later, and high where that is low.
-fn follows(turn: Turn, known: Turn) -> bool {
-    if !turn.found {
-        return false;
+// The last turns of searches up to the last minute, as wide as each width.
+fn ends_of<F: Fn(u32, &mut [u32], &mut [i64]) -> TurnsAnswer>(
+    search: F,
+    last: u32,
+    widths: Widths,
+) -> Ends
+    requires { F.IsAlwaysCallable search }
+{
+    Ends {
+        far: turn_at_end(&search, last, widths.far),
+        near: turn_at_end(&search, last, widths.near),
+        end: turn_at_end(&search, last, widths.end),
     }
-    if !known.found {
-        return true;
-    }
-    if turn.minute <= known.minute {
-        return false;
-    }
-    turn.high != known.high
 }
 
-// Puts a minute and a height at a place of the buffers; whether both have it.
-fn put_turn(at: usize, minute: u32, height: i64, minutes: &mut [u32], heights: &mut [i64]) -> bool
+// Whether a turn may follow the last that is known: it is later, and high where that is low.
+fn follows(turn: Turn, known: Option<Turn>) -> bool {
+    match known {
+        None => true,
+        Some(last) => last.minute < turn.minute && turn.high != last.high,
+    }
+}
+
+// Puts a turn at a place of the buffers; whether both have it.
+fn put_turn(at: usize, turn: Turn, minutes: &mut [u32], heights: &mut [i64]) -> bool
     ensures { Kept at minutes.old minutes.new heights.old heights.new }
 {
-    if minutes.len() <= at {
+    if minutes.len() <= at || heights.len() <= at {
         return false;
     }
-    if heights.len() <= at {
-        return false;
-    }
-    minutes[at] = minute;
-    heights[at] = height;
+    minutes[at] = turn.minute;
+    heights[at] = turn.height;
     true
 }
 
-// So many turns, and one more of which it is known whether it was put behind them.
-fn counted(count: usize, first: bool, high: bool, put: bool) -> Known
-    ensures { (count ≤ result.count) × (result.count ≤ count + 1) }
+// Turns, and one more that was put behind them.
+fn counted(known: Known, high: bool) -> Known
+    ensures { (known.count ≤ result.count) × (result.count ≤ known.count + 1) }
 {
-    if !put {
-        return Known { count, first };
+    Known {
+        count: known.count.saturating_add(1),
+        first: if known.count == 0 { high } else { known.first },
     }
-    if count == 0 {
-        return Known {
-            count: 1,
-            first: high,
-        };
-    }
-    if count < 65_536 {
-        return Known {
-            count: count + 1,
-            first,
-        };
-    }
-    Known { count, first }
 }
 
-// So many turns and one more, where it may follow the last of them.
+// Turns and one more, where it may follow the last of them.
 fn with_turn(
-    count: usize,
-    first: bool,
-    turn: Turn,
+    known: Known,
+    turn: Option<Turn>,
     minutes: &mut [u32],
     heights: &mut [i64],
 ) -> Known
-    ensures count_le_count { (count ≤ result.count) × (result.count ≤ count + 1) }
-    ensures kept { Kept count minutes.old minutes.new heights.old heights.new }
+    ensures count_le_count { (known.count ≤ result.count) × (result.count ≤ known.count + 1) }
+    ensures kept { Kept known.count minutes.old minutes.new heights.old heights.new }
 {
-    let known = last_of(count, first, minutes, heights);
-    if !follows(turn, known) {
-        return Known { count, first };
+    let Some(next) = turn else {
+        return known;
+    };
+    if !follows(next, last_of(known, minutes, heights)) {
+        return known;
     }
-    let put = put_turn(count, turn.minute, turn.height, minutes, heights);
-    counted(count, first, turn.high, put)
+    if !put_turn(known.count, next, minutes, heights) {
+        return known;
+    }
+    counted(known, next.high)
 }
 
-// So many turns and the three that may stand at the month's end.
-fn with_ends(
-    count: usize,
-    first: bool,
-    far: Turn,
-    near: Turn,
-    last: Turn,
-    minutes: &mut [u32],
-    heights: &mut [i64],
-) -> Known
-    ensures count_le_count { (count ≤ result.count) × (result.count ≤ count + 3) }
-    ensures kept { Kept count minutes.old minutes.new heights.old heights.new }
+// Turns and the three that may stand at the end.
+fn with_ends(known: Known, ends: Ends, minutes: &mut [u32], heights: &mut [i64]) -> Known
+    ensures count_le_count { (known.count ≤ result.count) × (result.count ≤ known.count + 3) }
+    ensures kept { Kept known.count minutes.old minutes.new heights.old heights.new }
 {
-    let a = with_turn(count, first, far, minutes, heights);
-    let b = with_turn(a.count, a.first, near, minutes, heights);
-    with_turn(b.count, b.first, last, minutes, heights)
+    let a = with_turn(known, ends.far, minutes, heights);
+    let b = with_turn(a, ends.near, minutes, heights);
+    with_turn(b, ends.end, minutes, heights)
 }
 
 // The turns of the month that a clock has prepared, whose last minute is given, from the front of the buffers: 01's search over the whole
@@ -189,10 +167,12 @@ fn month_turns(
     let answer = clock::turns(clock, 0, last, minutes, heights);
     match answer {
         TurnsAnswer::Turns(count, first) => {
-            let far = turn_at_end(clock, last, widths.far);
-            let near = turn_at_end(clock, last, widths.near);
-            let end = turn_at_end(clock, last, widths.end);
-            let known = with_ends(count, first, far, near, end, minutes, heights);
+            let ends = ends_of(
+                |from, m, h| clock::turns(clock, from, last, m, h),
+                last,
+                widths,
+            );
+            let known = with_ends(Known { count, first }, ends, minutes, heights);
             TurnsAnswer::Turns(known.count, known.first)
         }
         TurnsAnswer::Refused(refusal, place) => TurnsAnswer::Refused(refusal, place),

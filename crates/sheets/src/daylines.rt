@@ -1,10 +1,10 @@
 // The days' lines of a sheet: for each day how far the water moves, with a bar, so that spring and neap show at a glance, and its high and low waters.
-//
-// The turns' minutes and heights are lent as two rows.
-ghost use Rattle.std.specs.Prelude.{◌≤◌, length, IfOk};
 
+ghost use Rattle.std.specs.Prelude.{◌≤◌};
+
+use output::pages::Page;
 use page::figures;
-use page::shown::Known;
+use page::shown::{Turn, Waters};
 use std::io;
 
 // Days that follow one another, of the days in all that the minutes are counted over: how many lie before them, how many they are, and the turn with which
@@ -17,6 +17,14 @@ pub struct Days {
     pub from: usize,
 }
 
+// High and low waters, and the largest swing of them all, whose bar is the longest.
+#[derive(Clone, Copy)]
+pub struct Measured<'a> {
+    pub waters: Waters<'a>,
+    pub largest: u64,
+    ghost small: { largest ≤ 2_000_000_000_000 },
+}
+
 // A day's line: its number on the sheet, its number among all days, and its turns from one to before another.
 #[derive(Clone, Copy)]
 struct Line {
@@ -26,148 +34,82 @@ struct Line {
     to: usize,
 }
 
-// Puts a bar, filled so far, in a column of ten.
-fn put_bar(rt: &impl Print, page: &mut [u8], at: usize, filled: u64) -> io::Result<usize> {
-    let mut next = at;
-    let mut k: u64 = 0;
-    while k < 10 {
-        next = output::put(rt, page, next, if k < filled { b'=' } else { 32 })?;
-        k += 1;
+// High and low waters with their largest swing.
+pub fn measure(waters: Waters) -> Measured {
+    Measured {
+        waters,
+        largest: swings::largest_swing(waters.heights, waters.count, 0, waters.count),
     }
-    Ok(next)
 }
 
-// Puts H or L.
-fn put_mark(rt: &impl Print, page: &mut [u8], at: usize, high: bool) -> io::Result<usize> {
-    if high {
-        return output::put_bytes(rt, page, at, b" H ");
+// Puts a bar, filled so far, in a column of ten.
+fn put_bar(rt: &impl Print, page: &mut Page, filled: u64) -> io::Result<()> {
+    for k in 0..10 {
+        page.put(rt, if k < filled { b'=' } else { b' ' })?;
     }
-    output::put_bytes(rt, page, at, b" L ")
+    Ok(())
 }
 
 // Puts a turn: H or L, its time and its height.
-fn put_turn(
-    rt: &impl Print,
-    page: &mut [u8],
-    at: usize,
-    day: u32,
-    high: bool,
-    minute: u32,
-    height: i64,
-) -> io::Result<usize> {
-    let a = put_mark(rt, page, at, high)?;
-    let b = figures::put_time(rt, page, a, day, minute)?;
-    figures::put_height(rt, page, b, height, 3)
+fn put_turn(rt: &impl Print, page: &mut Page, day: u32, turn: Turn) -> io::Result<()> {
+    page.put_bytes(rt, if turn.high { b" H " } else { b" L " })?;
+    figures::put_time(rt, page, day, turn.minute)?;
+    figures::put_height(rt, page, turn.height, 3)
 }
 
-// Puts the turns of a line.
-fn put_turns<'a>(
-    rt: &impl Print,
-    page: &mut [u8],
-    at: usize,
-    line: Line,
-    first: bool,
-    minutes: &'a [u32],
-    heights: &'a [i64],
-) -> io::Result<usize> {
-    let mut next = at;
-    let mut i = line.from;
-    while i < line.to {
-        next = put_turn(
-            rt,
-            page,
-            next,
-            line.day,
-            swings::is_high(first, i),
-            digits::minute_at(minutes, i),
-            digits::height_at(heights, i),
-        )?;
-        i += 1;
-    }
-    Ok(next)
-}
-
-// Puts a day's swing and its bar; nothing where the day has no turn.
-fn put_swing(
-    rt: &impl Print,
-    page: &mut [u8],
-    at: usize,
-    swing: u64,
-    largest: u64,
-) -> io::Result<usize>
-    requires { (swing ≤ 2_000_000_000_000) × (largest ≤ 2_000_000_000_000) }
+// Puts a swing and its bar of a length; nothing where there is none.
+fn put_swing(rt: &impl Print, page: &mut Page, swing: u64, length: u64) -> io::Result<()>
+    requires { swing ≤ 2_000_000_000_000 }
 {
     if swing == 0 {
-        return figures::put_blanks(rt, page, at, 18);
+        return figures::put_blanks(rt, page, 18);
     }
-    let a = figures::put_height(rt, page, at, swing as i64, 3)?;
-    let b = output::put(rt, page, a, 32)?;
-    put_bar(rt, page, b, swings::bar_length(swing, largest))
+    figures::put_height(rt, page, swing as i64, 3)?;
+    page.put(rt, b' ')?;
+    put_bar(rt, page, length)
 }
 
 // Puts a day's line.
-fn put_day<'a>(
-    rt: &impl Print,
-    page: &mut [u8],
-    at: usize,
-    line: Line,
-    known: Known,
-    largest: u64,
-    minutes: &'a [u32],
-    heights: &'a [i64],
-) -> io::Result<usize>
-    requires { largest ≤ 2_000_000_000_000 }
-    ensures { IfOk result (λ next. next ≤ length page.old) }
-{
-    let a = figures::put_right(rt, page, at, line.number as u64, 2)?;
-    let swing = swings::largest_swing(heights, known.count, line.from, line.to);
-    let b = put_swing(rt, page, a, swing, largest)?;
-    let c = put_turns(rt, page, b, line, known.first, minutes, heights)?;
-    output::put(rt, page, c, 10)
+fn put_day(rt: &impl Print, page: &mut Page, line: Line, measured: Measured) -> io::Result<()> {
+    let waters = measured.waters;
+    figures::put_right(rt, page, line.number as u64, 2)?;
+    let swing = swings::largest_swing(waters.heights, waters.count, line.from, line.to);
+    put_swing(rt, page, swing, swings::bar_length(swing, measured.largest))?;
+    for i in line.from..line.to {
+        put_turn(rt, page, line.day, waters.turn(i))?;
+    }
+    page.put(rt, b'\n')
 }
 
-// Puts a line for each of some days, with bars in tenths of a largest swing.
-pub fn put_days<'a>(
+// Puts a line for each of some days.
+pub fn put_days(
     rt: &impl Print,
-    page: &mut [u8],
-    at: usize,
+    page: &mut Page,
     days: Days,
-    known: Known,
-    largest: u64,
-    minutes: &'a [u32],
-    heights: &'a [i64],
-) -> io::Result<usize>
-    requires { largest ≤ 2_000_000_000_000 }
-    ensures { IfOk result (λ next. next ≤ length page.old) }
-{
-    let mut next = output::on_page(page.len(), at);
+    measured: Measured,
+) -> io::Result<()> {
+    let waters = measured.waters;
     let mut from = days.from;
-    let mut left = days.days;
-    while 0 < left {
-        let number = days.days - left + 1;
-        let day = std::num::wrapping_add_u32(days.before, number);
-        let to = swings::day_end(minutes, from, known.count, day, days.all);
+    for k in 0..days.days {
+        let number = k + 1;
+        let day = days.before.wrapping_add(number);
+        let to = swings::day_end(waters.minutes, from, waters.count, day, days.all);
         let line = Line {
             number,
             day,
             from,
             to,
         };
-        next = put_day(rt, page, next, line, known, largest, minutes, heights)?;
+        put_day(rt, page, line, measured)?;
         from = to;
-        left -= 1;
     }
-    Ok(next)
+    Ok(())
 }
 
 // Puts the columns' names.
-pub fn put_names(rt: &impl Print, page: &mut [u8], at: usize) -> io::Result<usize>
-    ensures { IfOk result (λ next. next ≤ length page.old) }
-{
-    output::put_bytes(
+pub fn put_names(rt: &impl Print, page: &mut Page) -> io::Result<()> {
+    page.put_bytes(
         rt,
-        page,
-        at,
         b"\n\nday  swing            high (H) and low (L) waters\n",
     )
 }

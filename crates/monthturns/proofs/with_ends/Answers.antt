@@ -7,5 +7,5 @@ pub returns : goal.returns
 returns c =
     record {
       count_le_count = (omega (arith, c.with_turn-a.ensures.count_le_count, c.with_turn-b.ensures.count_le_count, c.with_turn.ensures.count_le_count), omega (arith, c.with_turn-a.ensures.count_le_count, c.with_turn-b.ensures.count_le_count, c.with_turn.ensures.count_le_count));
-      kept = kept_on c.with_turn-a.ensures.kept (kept_on (kept-fewer c.args.count (omega (arith, c.with_turn-a.ensures.count_le_count)) c.with_turn-b.ensures.kept) (kept-fewer c.args.count (omega (arith, c.with_turn-a.ensures.count_le_count, c.with_turn-b.ensures.count_le_count)) c.with_turn.ensures.kept));
+      kept = kept_on c.with_turn-a.ensures.kept (kept_on (kept-fewer c.args.known.count (omega (arith, c.with_turn-a.ensures.count_le_count)) c.with_turn-b.ensures.kept) (kept-fewer c.args.known.count (omega (arith, c.with_turn-a.ensures.count_le_count, c.with_turn-b.ensures.count_le_count)) c.with_turn.ensures.kept));
     }

@@ -1,9 +1,0 @@
--- `drawing_picture::yearband::put_kind` is safe and ends: the page keeps its length, and the months left fall.
-use Rattle.std.proofs.Common.{length, ◌-◌, ◌≡◌}
-use Rattle.drawing_picture.proofs.yearband.put_kind.Given as goal
-
-abbrev pub invariant-loop-month : goal.invariant-loop-month
-invariant-loop-month g l = length l.page ≡ length l.fn.page
-
-abbrev pub decreases-loop-month : goal.decreases-loop-month
-decreases-loop-month g l = 13 - l.month
