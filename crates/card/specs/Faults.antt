@@ -5,11 +5,18 @@ use Rattle.refusals.specs.Outcome.{number_of}
 use Rattle.refusals.specs.declared.Refusal.{Refusal}
 use Rattle.refusals.specs.declared.Refusal.TheVariants as refusal
 use Rattle.refusals.specs.declared.Refusal.TheVariants.{BadLine, BadName, Missing, TooMany, Ended}
+use Rattle.fields.specs.declared.FieldError.{FieldError}
+use Rattle.fields.specs.declared.FieldError.TheVariants as field
 use Rattle.card.specs.declared.faults.What.{What}
 use Rattle.card.specs.declared.faults.What.TheVariants.{Card}
 use Rattle.card.specs.declared.faults.Trouble.{Trouble}
 use Rattle.card.specs.declared.faults.Trouble.TheVariants.{TooLong, BadByte, Malformed, OutOfRange, NotWhole, PastTwelve, BadMark, SouthTwice, Blank, Twice, NoFrequency, NoDefinition, NotMain, TooManyFrequencies, TooManyMains, TooManySatellites, TooManyShallows, TooManyRecords, EndedInFrequencies, EndedInLongitudes, EndedInMains, EndedInShallows, NoStationCard}
 use Rattle.card.specs.declared.faults.Fault.{Fault}
+
+-- "2 malformed number", "3 number outside its stated range": what is wrong with the number in a field
+abbrev pub trouble_in : FieldError → Trouble
+trouble_in field.Malformed = Malformed
+trouble_in field.OutOfRange = OutOfRange
 
 -- the row of 01's table that each trouble falls under
 abbrev pub refusal_for : Trouble → Refusal

@@ -7,7 +7,6 @@ ghost use Rattle.card_file.specs.Counts.{counts_of};
 
 use crate::reader;
 use limits::MAINS;
-use refusals::Answer;
 use table::Table;
 
 // What a card file comes to: the counts of an accepted file, or the refusal's number and line.
@@ -54,11 +53,8 @@ pub fn satellites_of(table: Table) -> usize
 pub fn check_cards(file: &[u8]) -> Counts
     ensures { result ≡ counts_of (cards_outcome file.now) }
 {
-    let read = reader::read_cards(file);
-    let answer = read.answer;
-    let table = read.table;
-    match answer {
-        Answer::Accepted => Counts {
+    match reader::read_cards(file) {
+        Ok(table) => Counts {
             number: 0,
             line: 0,
             frequencies: table.frequencies,
@@ -66,9 +62,9 @@ pub fn check_cards(file: &[u8]) -> Counts
             satellites: satellites_of(table),
             shallows: table.shallows,
         },
-        Answer::Refused(refusal, line) => Counts {
-            number: refusals::number_of(refusal),
-            line,
+        Err(refused) => Counts {
+            number: refusals::number_of(refused.refusal),
+            line: refused.place,
             frequencies: 0,
             mains: 0,
             satellites: 0,

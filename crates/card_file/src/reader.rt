@@ -19,20 +19,12 @@ use card_frequencies::frequencies::read_frequencies;
 use card_frequencies::longitudes::read_five;
 use card_shallows::shallows::read_shallows;
 use columns::names::Found;
-use refusals::Answer;
 use table::{MAIN_ANGLES, MAIN_CARDS, SATELLITE_ANGLES, SATELLITE_RATIOS, Table};
 
 // Where the reading of a card file ends, and its table; or what is wrong, and on which line (the table is then free).
 #[derive(Clone, Copy)]
 pub struct Parsed {
     pub progress: Progress,
-    pub table: Table,
-}
-
-// What a card file comes to, and its table where it is accepted (else it is free).
-#[derive(Clone, Copy)]
-pub struct Read {
-    pub answer: Answer,
     pub table: Table,
 }
 
@@ -182,23 +174,16 @@ pub fn parse_cards(file: &[u8]) -> Parsed
 }
 
 // A card file: accepted whole, with its table, or refused with 01's number and line.
-pub fn read_cards(file: &[u8]) -> Read
+pub fn read_cards(file: &[u8]) -> Result<Table, refusals::Refused>
     ensures { outcome_of result ≡ cards_outcome file.now }
 {
     let parsed = parse_cards(file);
     let progress = parsed.progress;
-    let table = parsed.table;
     match progress {
-        Progress::Reached(_, _) => Read {
-            answer: Answer::Accepted,
-            table,
-        },
+        Progress::Reached(_, _) => Ok(parsed.table),
         Progress::Refused(fault, line) => {
             let trouble = fault.trouble;
-            Read {
-                answer: Answer::Refused(refusal_for(trouble), line),
-                table,
-            }
+            Err(refusal_for(trouble).at(line))
         }
     }
 }

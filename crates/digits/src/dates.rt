@@ -68,7 +68,8 @@ pub fn iso_day(year: u32, month: u32, minute: u32) -> [u8; 11]
     iso_date(year_behind(year, month), month_behind(month), 1)
 }
 
-// The minute of the month of a minute of one of its days; past every month where it is too large to say, or the day is 0.
+// The minute of the month of a minute of one of its days; past every month where it is too large to say, or the day is 0. (A number and no Option: so says the
+// definition `minute_of_month`, and the clock refuses it.)
 pub fn minute_of_month(day: u32, minute: u32) -> u32
     ensures { result ≡ minute_of_month day minute }
 {

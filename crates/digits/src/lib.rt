@@ -105,16 +105,16 @@ pub fn four_decimals(size: u64) -> [u8; 5]
     ]
 }
 
-// The minute at a place of a row; 0 past its end.
+// The minute at a place of a row; 0 past its end. (It and `height_at` are one call of the library at two types.)
 pub fn minute_at(minutes: &[u32], i: usize) -> u32
     ensures { result ≡ get_or minutes.now i 0 }
 {
-    if i < minutes.len() { minutes[i] } else { 0 }
+    minutes.get(i).copied().unwrap_or(0)
 }
 
 // The height at a place of a row; 0 past its end.
 pub fn height_at(heights: &[i64], i: usize) -> i64
     ensures { result ≡ get_or heights.now i (pos 0) }
 {
-    if i < heights.len() { heights[i] } else { 0 }
+    heights.get(i).copied().unwrap_or(0)
 }

@@ -30,19 +30,11 @@ pub fn trimmed(text: &[u8]) -> &[u8]
 }
 
 // Whether a word names Greenwich's time: nothing, GMT, UT or UTC.
+#[tactic(auto, unfolding(crate::specs::Texts::names_greenwich))]
 fn names_greenwich(word: &[u8]) -> bool
     ensures { result ≡ names_greenwich word.now }
 {
-    if same(word, b"") {
-        return true;
-    }
-    if same(word, b"GMT") {
-        return true;
-    }
-    if same(word, b"UT") {
-        return true;
-    }
-    same(word, b"UTC")
+    same(word, b"") || same(word, b"GMT") || same(word, b"UT") || same(word, b"UTC")
 }
 
 // Whether a zone, without the blanks at its end, is Greenwich's.

@@ -4,6 +4,7 @@ ghost use Rattle.files.specs.Crc as crc;
 ghost use Rattle.files.specs.Crc.{bits_of, divided};
 
 // The register after one bit of the message.
+#[tactic(auto, unfolding(crate::specs::Crc::step))]
 fn step(register: u32, bit: u8) -> u32
     ensures { result ≡ crc.step register bit }
 {
@@ -20,11 +21,9 @@ fn byte(register: u32, b: u8) -> u32
 {
     let mut r = register;
     let mut rest = b;
-    let mut i: usize = 0;
-    while i < 8 {
+    for _i in 0..8usize {
         r = step(r, rest % 2);
-        rest = rest / 2;
-        i = i + 1;
+        rest /= 2;
     }
     r
 }
@@ -34,10 +33,8 @@ pub fn crc32(bytes: &[u8]) -> u32
     ensures { result ≡ crc.crc bytes.now }
 {
     let mut r: u32 = 0xFFFF_FFFF;
-    let mut i = 0;
-    while i < bytes.len() {
-        r = byte(r, bytes[i]);
-        i = i + 1;
+    for b in bytes {
+        r = byte(r, *b);
     }
     !r
 }

@@ -1,7 +1,7 @@
 // Files: read whole into a lent buffer, by name or from where the program itself lies; and the checksum by which a person compares two of them.
 #![tactic(auto)]
 
-ghost use Rattle.std.specs.Prelude.{◌≡◌, ◌+◌, ◌≤◌, length, take};
+ghost use Rattle.std.specs.Prelude.{◌≡◌, ◌+◌, ◌≤◌, length, take, MatchResult};
 
 pub mod checksum; // CRC-32
 
@@ -15,28 +15,18 @@ const PATH: usize = 4096;
 // The system's number for text that is not UTF-8 (EILSEQ).
 const NO_TEXT: i32 = 84;
 
-// How a reading ended; a failed one with why.
+// Why a file was not read whole: it is larger than the buffer, or a read failed.
 #[derive(Clone, Copy)]
-pub enum End {
-    Whole,
+pub enum Fault {
     TooLarge,
     Failed(io::Error),
 }
 
-// How many bytes were read, and how the reading ended.
+// A file that was not read whole: how many of its bytes were, and why no more.
 #[derive(Clone, Copy)]
-pub struct Reading {
+pub struct Unread {
     pub bytes: usize,
-    pub end: End,
-}
-
-// How a reading ended, by what one more read gave: a byte, the file's end or an error.
-fn end_of(more: io::Result<usize>) -> End {
-    match more {
-        Ok(0) => End::Whole,
-        Ok(_) => End::TooLarge,
-        Err(error) => End::Failed(error),
-    }
+    pub fault: Fault,
 }
 
 // Reads once into the buffer from `done` on; gives how many bytes came, 0 at the input's end and where the read fails.
@@ -63,28 +53,26 @@ pub fn read_full(input: &mut impl Read, buffer: &mut [u8]) -> usize
     done
 }
 
-// Reads an open file to its end into the buffer: whole, or larger than the buffer, or failed.
-pub fn read_whole(file: &mut impl Read, buffer: &mut [u8]) -> Reading
-    ensures in_bounds { result.bytes ≤ length buffer.new }
-    ensures prefix { result.bytes ≡ length (take result.bytes buffer.new) }
+// Reads an open file to its end into the buffer, and gives how many bytes it has. One more read shows that it ends there.
+pub fn read_whole(file: &mut impl Read, buffer: &mut [u8]) -> Result<usize, Unread>
+    ensures in_bounds { MatchResult result (λ bytes. bytes ≤ length buffer.new) (λ unread. unread.bytes ≤ length buffer.new) }
+    ensures prefix { MatchResult result (λ bytes. bytes ≡ length (take bytes buffer.new)) (λ unread. unread.bytes ≡ length (take unread.bytes buffer.new)) }
 {
     let bytes = read_full(file, buffer);
-    let mut byte = [0u8; 1];
-    let more = file.read(&mut byte);
-    Reading {
-        bytes,
-        end: end_of(more),
-    }
+    let fault = match file.read(&mut [0]) {
+        Ok(0) => return Ok(bytes),
+        Ok(_) => Fault::TooLarge,
+        Err(error) => Fault::Failed(error),
+    };
+    Err(Unread { bytes, fault })
 }
 
 // The place behind the last slash of the first bytes of a path; 0 where there is none.
 fn behind_slash(path: &[u8], bytes: usize) -> usize {
-    let mut k = bytes;
-    while 0 < k {
-        if columns::column(path, k - 1) == b'/' {
-            return k;
+    for k in (0..bytes).rev() {
+        if columns::column(path, k) == b'/' {
+            return k + 1;
         }
-        k -= 1;
     }
     0
 }
@@ -105,10 +93,8 @@ fn put_text(path: &mut [u8], at: usize, text: &[u8]) -> usize
     ensures { at ≤ length path.old → result ≤ length path.old }
 {
     let mut next = at;
-    let mut i = 0;
-    while i < text.len() {
-        next = put_byte(path, next, text[i]);
-        i += 1;
+    for byte in text {
+        next = put_byte(path, next, *byte);
     }
     next
 }
@@ -136,8 +122,5 @@ fn open_above<R: Files + Env>(rt: &R, name: &[u8]) -> io::Result<R::File> {
 
 // Opens a file of the program's own data, in the current folder or else two folders above the program.
 pub fn open_own<R: Files + Env>(rt: &R, name: &[u8]) -> io::Result<R::File> {
-    match open_read(rt, name) {
-        Ok(file) => Ok(file),
-        Err(_) => open_above(rt, name),
-    }
+    open_read(rt, name).or_else(|_| open_above(rt, name))
 }

@@ -11,7 +11,7 @@ ghost use Rattle.month_satellites.specs.inner.View.{longitudes_of, the_satellite
 use crate::latitude::Factors;
 use angles::{CENTICYCLE, floor_div, mod_turn};
 use cosine::{ENTRIES, wave};
-use table::{SATELLITE_ANGLES, SATELLITE_RATIOS, at_i8, at_u32};
+use table::{SATELLITE_ANGLES, SATELLITE_RATIOS, at};
 
 // The longitudes that satellites go by, in ticks: lunar perigee p, the node's negative N', solar perigee p'.
 #[derive(Clone, Copy)]
@@ -112,12 +112,12 @@ fn satellite_at<'a>(
     ensures { the_satellite result ≡ satellite_of angles.now ratios.now k }
 {
     Satellite {
-        first: at_i8(angles, 4 * k),
-        second: at_i8(angles, 4 * k + 1),
-        third: at_i8(angles, 4 * k + 2),
-        phase: at_i8(angles, 4 * k + 3),
-        ratio: at_u32(ratios, 2 * k),
-        mark: at_u32(ratios, 2 * k + 1),
+        first: *at(angles, 4 * k, &0),
+        second: *at(angles, 4 * k + 1, &0),
+        third: *at(angles, 4 * k + 2, &0),
+        phase: *at(angles, 4 * k + 3, &0),
+        ratio: *at(ratios, 2 * k, &0),
+        mark: *at(ratios, 2 * k + 1, &0),
     }
 }
 

@@ -8,23 +8,22 @@ use cosine::ENTRIES;
 use month_arguments::KEPT;
 use month_arguments::arguments::{argument_at, shallow_argument};
 use month_pairs::nodal::{pair_at, shallow_pair};
-use month_pairs::pairs::Corrected;
 use month_satellites::satellites::Pair;
-use table::definitions::Found;
+use table::definitions::Defined;
 use table::{
     COEFFICIENTS, MAIN_ANGLES, MAIN_CARDS, SATELLITE_ANGLES, SATELLITE_RATIOS, SHALLOW_CARDS,
 };
 
-// What stands at a place of the table: its V, and its pair or refusal 11.
+// What stands at a place of the table: its V, and its pair, or none by refusal 11.
 #[derive(Clone, Copy)]
 pub struct Worked {
     pub argument: u64,
-    pub corrected: Corrected,
+    pub corrected: Option<Pair>,
 }
 
 // Works out the mains that a constituent needs, those that are not yet.
 pub fn work_mains<'a>(
-    found: Found,
+    found: Option<Defined>,
     cosines: &'a [u32; ENTRIES],
     maincards: &'a [u16; MAIN_CARDS],
     mainangles: &'a [i8; MAIN_ANGLES],
@@ -40,7 +39,7 @@ pub fn work_mains<'a>(
     ensures { Ready (argument_by given mainangles.now) (corrected_by given maincards.now satelliteangles.now ratios.now) shallowcards.now found kept.new }
 {
     match found {
-        Found::Main(row) => {
+        Some(Defined::Main(row)) => {
             work_main(
                 cosines,
                 maincards,
@@ -52,7 +51,7 @@ pub fn work_mains<'a>(
                 kept,
             );
         }
-        Found::Shallow(row) => {
+        Some(Defined::Shallow(row)) => {
             work_parts(
                 cosines,
                 maincards,
@@ -65,13 +64,13 @@ pub fn work_mains<'a>(
                 kept,
             );
         }
-        Found::Nothing => {}
+        None => {}
     }
 }
 
 // V and the pair of a constituent, from what is kept of the mains.
 pub fn from_mains<'a>(
-    found: Found,
+    found: Option<Defined>,
     kept: &'a [i64; KEPT],
     shallowcards: &'a [u16; SHALLOW_CARDS],
     coefficients: &'a [i8; COEFFICIENTS],
@@ -79,17 +78,17 @@ pub fn from_mains<'a>(
     ensures { FromMains kept.now shallowcards.now coefficients.now found result }
 {
     match found {
-        Found::Main(row) => Worked {
+        Some(Defined::Main(row)) => Worked {
             argument: argument_at(kept, row),
             corrected: pair_at(kept, row),
         },
-        Found::Shallow(row) => Worked {
+        Some(Defined::Shallow(row)) => Worked {
             argument: shallow_argument(kept, shallowcards, coefficients, row),
             corrected: shallow_pair(kept, shallowcards, coefficients, row),
         },
-        Found::Nothing => Worked {
+        None => Worked {
             argument: 0,
-            corrected: Corrected::Within(Pair { x: 0, y: 0 }),
+            corrected: Some(Pair { x: 0, y: 0 }),
         },
     }
 }

@@ -20,7 +20,7 @@ use month_arguments::arguments::{argument_at, main_argument};
 use month_arguments::astronomy::Longitudes;
 use month_satellites::latitude::Factors;
 use month_satellites::satellites::{Nodal, Pair, index, main_sum};
-use table::entries::natural_at;
+use table::entries::entry_at;
 use table::{MAIN_ANGLES, MAIN_CARDS, SATELLITE_ANGLES, SATELLITE_RATIOS, SHALLOW_CARDS};
 
 // What every main is worked out from, besides its rows of the table: the latitude factors, the longitudes, and how many mains there are.
@@ -82,8 +82,8 @@ fn sum_of<'a>(
         return Pair { x: 1_048_576, y: 0 };
     }
     let l = nodal_of(given.longitudes);
-    let first = natural_at(cards, 3, k, 1);
-    let count = natural_at(cards, 3, k, 2);
+    let first = *entry_at(cards, 3, k, 1, &0);
+    let count = *entry_at(cards, 3, k, 2, &0);
     main_sum(cosines, angles, ratios, first, count, given.factors, l)
 }
 
@@ -135,10 +135,9 @@ pub fn work_parts<'a>(
     requires kept_by { KeptBy given cards.now angles.now satelliteangles.now ratios.now kept.old }
     ensures { WithParts (argument_by given angles.now) (corrected_by given cards.now satelliteangles.now ratios.now) (naturals 6 shallowcards.now row) kept.new }
 {
-    let count = index(natural_at(shallowcards, 6, row, 1));
-    let mut j = 0;
-    while j < count {
-        let main = index(natural_at(shallowcards, 6, row, 2 + j));
+    let count = index(*entry_at(shallowcards, 6, row, 1, &0));
+    for j in 0..count {
+        let main = index(*entry_at(shallowcards, 6, row, 2 + j, &0));
         work_main(
             cosines,
             cards,
@@ -149,6 +148,5 @@ pub fn work_parts<'a>(
             given,
             kept,
         );
-        j = j + 1;
     }
 }

@@ -1,10 +1,6 @@
 -- docs/FORMATS.md, "The list of calls that `replay` plays": the words of a line, without its LF, and the decimal numbers among them. Assumes nothing.
-use Rattle.std.specs.Prelude.{ℕ, ◌+◌, ◌*◌, ◌-◌, List, [], ◌∷◌, Bool, cond, ◌&&◌, leb, eqb}
+use Rattle.std.specs.Prelude.{ℕ, zero, suc, ◌+◌, ◌*◌, ◌-◌, List, [], ◌∷◌, ◌++◌, Bool, cond, ◌&&◌, leb, eqb, Option, Some, None}
 use Rattle.columns.specs.Lines.{in_front}
-use Rattle.script.specs.declared.Number.{Number}
-use Rattle.script.specs.declared.Number.TheVariants.{Value, NoNumber}
-use Rattle.script.specs.declared.words.Two.{Two}
-use Rattle.script.specs.declared.words.Two.TheVariants.{Numbers, NoNumbers}
 
 -- ---- words
 
@@ -28,13 +24,13 @@ abbrev pub with_digit : ℕ → ℕ → ℕ
 with_digit n b = 10 * n + (b - 48)
 
 -- the number of some digits behind those of n, where it is at most `most`
-unfoldable pub number_after : ℕ → ℕ → List ℕ → Number
-number_after most n [] = Value n
-number_after most n (b ∷ bs) = cond (is_digit b) (cond (leb (with_digit n b) most) (number_after most (with_digit n b) bs) NoNumber) NoNumber
+unfoldable pub number_after : ℕ → ℕ → List ℕ → Option ℕ
+number_after most n [] = Some n
+number_after most n (b ∷ bs) = cond (is_digit b) (cond (leb (with_digit n b) most) (number_after most (with_digit n b) bs) None) None
 
 -- a decimal number of at most `most`: one digit or more
-unfoldable pub number : ℕ → List ℕ → Number
-number most [] = NoNumber
+unfoldable pub number : ℕ → List ℕ → Option ℕ
+number most [] = None
 number most (b ∷ bs) = number_after most 0 (b ∷ bs)
 
 -- the number that some words begin with, and the words behind it
@@ -42,9 +38,9 @@ pub data Reading : Type 0 where
   read : ℕ → List (List ℕ) → Reading
   unread : Reading
 
-abbrev pub reading_of : Number → List (List ℕ) → Reading
-reading_of (Value n) ws = read n ws
-reading_of NoNumber ws = unread
+abbrev pub reading_of : Option ℕ → List (List ℕ) → Reading
+reading_of (Some n) ws = read n ws
+reading_of None ws = unread
 
 abbrev pub reading : ℕ → List (List ℕ) → Reading
 reading most [] = unread
@@ -56,23 +52,29 @@ onward bad (read n ws) f = f n ws
 onward bad unread f = bad
 
 -- a last number, with no word behind it
-abbrev pub ended : List (List ℕ) → ℕ → Number
-ended [] n = Value n
-ended (w ∷ ws) n = NoNumber
+abbrev pub ended : List (List ℕ) → ℕ → Option ℕ
+ended [] n = Some n
+ended (w ∷ ws) n = None
 
-unfoldable pub last_number : List (List ℕ) → Number
-last_number ws = onward NoNumber (reading largest ws) (λ n ws. ended ws n)
+unfoldable pub last_number : List (List ℕ) → Option ℕ
+last_number ws = onward None (reading largest ws) (λ n ws. ended ws n)
 
 -- goes on with the last number
-abbrev pub given : {A : Type 0} → A → Number → (ℕ → A) → A
-given bad (Value n) f = f n
-given bad NoNumber f = bad
+abbrev pub given : {A : Type 0} → A → Option ℕ → (ℕ → A) → A
+given bad (Some n) f = f n
+given bad None f = bad
 
 -- the last two numbers, with no word behind them
-unfoldable pub last_two : List (List ℕ) → Two
-last_two ws = onward NoNumbers (reading largest ws) (λ first ws. given NoNumbers (last_number ws) (λ second. Numbers first second))
+unfoldable pub last_two : List (List ℕ) → Option (ℕ × ℕ)
+last_two ws = onward None (reading largest ws) (λ first ws. given None (last_number ws) (λ second. Some (first, second)))
 
 -- goes on with the last two numbers
-abbrev pub given_two : {A : Type 0} → A → Two → (ℕ → ℕ → A) → A
-given_two bad (Numbers first second) f = f first second
-given_two bad NoNumbers f = bad
+abbrev pub given_two : {A : Type 0} → A → Option (ℕ × ℕ) → (ℕ → ℕ → A) → A
+given_two bad (Some (first, second)) f = f first second
+given_two bad None f = bad
+
+-- so many numbers behind some that are read already, with no word behind them
+unfoldable pub numbers_after : List ℕ → ℕ → List (List ℕ) → Option (List ℕ)
+numbers_after ns zero [] = Some ns
+numbers_after ns zero (w ∷ ws) = None
+numbers_after ns (suc k) ws = onward None (reading largest ws) (λ n ws. numbers_after (ns ++ (n ∷ [])) k ws)

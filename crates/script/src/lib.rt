@@ -4,11 +4,12 @@
 ghost use Rattle.std.specs.Prelude.{◌≡◌, ◌∷◌, ◌+◌, ◌-◌, ◌≤◌, ◌^◌, length, pos, neg_ℤ};
 ghost use Rattle.columns.specs.Names.{same};
 ghost use Rattle.script.specs.Script.{call_of, call_of_words, record_of, has_minus, with_strides, station_at, station_of, cards_of, date_of, height_of, series_of, turns_of, year_of, bookings_of, hourly_of, minute_of};
-ghost use Rattle.script.specs.inner.Left.{words_from, with_search};
+ghost use Rattle.script.specs.inner.Left.{words_from};
 
 mod words; // words and decimal numbers
 
-use crate::words::{Field, LARGEST, Two, field_at, last_at, two_at, word_end};
+use crate::words::{field_at, numbers_at, word_end};
+use station::records::Record;
 use station::strides;
 use station::strides::Strides;
 
@@ -37,164 +38,79 @@ pub enum Call {
     Year(YearLine),
     Bookings(u32, u32),
     Hourly(u32, u32),
-    Bad,
-}
-
-// A word that is a number, or is not.
-#[derive(Clone, Copy)]
-pub enum Number {
-    Value(u32),
-    NoNumber,
-}
-
-// A line of a station.
-#[derive(Clone, Copy)]
-pub enum Entry {
-    Record {
-        place: u8,
-        amplitude: u32,
-        phase: u32,
-    },
-    Bad,
 }
 
 // cards BYTES
-fn cards_at(line: &[u8], at: usize) -> Call
+fn cards_at(line: &[u8], at: usize) -> Option<Call>
     ensures { result ≡ cards_of (words_from line.now at) }
 {
-    let last = last_at(line, at);
-    let Number::Value(bytes) = last else {
-        return Call::Bad;
-    };
-    Call::Cards(bytes)
+    let [bytes] = numbers_at::<1>(line, at)?;
+    Some(Call::Cards(bytes))
 }
 
 // date YEAR MONTH
-fn date_at(line: &[u8], at: usize) -> Call
+fn date_at(line: &[u8], at: usize) -> Option<Call>
     ensures { result ≡ date_of (words_from line.now at) }
 {
-    let two = two_at(line, at);
-    let Two::Numbers(year, month) = two else {
-        return Call::Bad;
-    };
-    Call::Date(year, month)
+    let [year, month] = numbers_at::<2>(line, at)?;
+    Some(Call::Date(year, month))
 }
 
 // height MINUTE
-fn height_at(line: &[u8], at: usize) -> Call
+fn height_at(line: &[u8], at: usize) -> Option<Call>
     ensures { result ≡ height_of (words_from line.now at) }
 {
-    let last = last_at(line, at);
-    let Number::Value(minute) = last else {
-        return Call::Bad;
-    };
-    Call::Height(minute)
+    let [minute] = numbers_at::<1>(line, at)?;
+    Some(Call::Height(minute))
 }
 
 // series START STEP COUNT
-fn series_at(line: &[u8], at: usize) -> Call
+fn series_at(line: &[u8], at: usize) -> Option<Call>
     ensures { result ≡ series_of (words_from line.now at) }
 {
-    let first = field_at(line, at, LARGEST);
-    let Field::Read(start, second_at) = first else {
-        return Call::Bad;
-    };
-    let second = field_at(line, second_at, LARGEST);
-    let Field::Read(step, last_place) = second else {
-        return Call::Bad;
-    };
-    let last = last_at(line, last_place);
-    let Number::Value(count) = last else {
-        return Call::Bad;
-    };
-    Call::Series(start, step, count)
+    let [start, step, count] = numbers_at::<3>(line, at)?;
+    Some(Call::Series(start, step, count))
 }
 
 // turns FIRST LAST MINUTES HEIGHTS
-fn turns_at(line: &[u8], at: usize) -> Call
+fn turns_at(line: &[u8], at: usize) -> Option<Call>
     ensures { result ≡ turns_of (words_from line.now at) }
 {
-    let first = field_at(line, at, LARGEST);
-    let Field::Read(from, second_at) = first else {
-        return Call::Bad;
-    };
-    let second = field_at(line, second_at, LARGEST);
-    let Field::Read(to, third_at) = second else {
-        return Call::Bad;
-    };
-    let third = field_at(line, third_at, LARGEST);
-    let Field::Read(minutes, last_place) = third else {
-        return Call::Bad;
-    };
-    let last = last_at(line, last_place);
-    let Number::Value(heights) = last else {
-        return Call::Bad;
-    };
-    Call::Turns(from, to, minutes, heights)
-}
-
-// A year's call, of the numbers of its series and of a search.
-fn with_search(turns: Call, year: u32, start: u32, step: u32, count: u32) -> Call
-    ensures { result ≡ with_search turns year start step count }
-{
-    match turns {
-        Call::Turns(first, last, minutes, heights) => Call::Year(YearLine {
-            year,
-            start,
-            step,
-            count,
-            first,
-            last,
-            minutes,
-            heights,
-        }),
-        _ => Call::Bad,
-    }
+    let [first, last, minutes, heights] = numbers_at::<4>(line, at)?;
+    Some(Call::Turns(first, last, minutes, heights))
 }
 
 // year YEAR START STEP COUNT FIRST LAST MINUTES HEIGHTS
-fn year_at(line: &[u8], at: usize) -> Call
+fn year_at(line: &[u8], at: usize) -> Option<Call>
     ensures { result ≡ year_of (words_from line.now at) }
 {
-    let first = field_at(line, at, LARGEST);
-    let Field::Read(year, second_at) = first else {
-        return Call::Bad;
-    };
-    let second = field_at(line, second_at, LARGEST);
-    let Field::Read(start, third_at) = second else {
-        return Call::Bad;
-    };
-    let third = field_at(line, third_at, LARGEST);
-    let Field::Read(step, fourth_at) = third else {
-        return Call::Bad;
-    };
-    let fourth = field_at(line, fourth_at, LARGEST);
-    let Field::Read(count, search) = fourth else {
-        return Call::Bad;
-    };
-    with_search(turns_at(line, search), year, start, step, count)
+    let [year, start, step, count, first, last, minutes, heights] = numbers_at::<8>(line, at)?;
+    Some(Call::Year(YearLine {
+        year,
+        start,
+        step,
+        count,
+        first,
+        last,
+        minutes,
+        heights,
+    }))
 }
 
 // bookings COUNT HEIGHTS
-fn bookings_at(line: &[u8], at: usize) -> Call
+fn bookings_at(line: &[u8], at: usize) -> Option<Call>
     ensures { result ≡ bookings_of (words_from line.now at) }
 {
-    let two = two_at(line, at);
-    let Two::Numbers(count, heights) = two else {
-        return Call::Bad;
-    };
-    Call::Bookings(count, heights)
+    let [count, heights] = numbers_at::<2>(line, at)?;
+    Some(Call::Bookings(count, heights))
 }
 
 // hourly STATION BYTES
-fn hourly_at(line: &[u8], at: usize) -> Call
+fn hourly_at(line: &[u8], at: usize) -> Option<Call>
     ensures { result ≡ hourly_of (words_from line.now at) }
 {
-    let two = two_at(line, at);
-    let Two::Numbers(station, bytes) = two else {
-        return Call::Bad;
-    };
-    Call::Hourly(station, bytes)
+    let [station, bytes] = numbers_at::<2>(line, at)?;
+    Some(Call::Hourly(station, bytes))
 }
 
 // A latitude without a minus.
@@ -214,41 +130,27 @@ fn south(size: u32) -> i32
 }
 
 // SEMIDIURNAL MIXED DIURNAL, behind a station's count.
-fn strides_at(line: &[u8], at: usize, latitude: i32, count: u32) -> Call
+fn strides_at(line: &[u8], at: usize, latitude: i32, count: u32) -> Option<Call>
     ensures { result ≡ with_strides latitude count (words_from line.now at) }
 {
-    let first = field_at(line, at, LARGEST);
-    let Field::Read(semidiurnal, second_at) = first else {
-        return Call::Bad;
-    };
-    let second = field_at(line, second_at, LARGEST);
-    let Field::Read(mixed, last_place) = second else {
-        return Call::Bad;
-    };
-    let last = last_at(line, last_place);
-    let Number::Value(diurnal) = last else {
-        return Call::Bad;
-    };
+    let [semidiurnal, mixed, diurnal] = numbers_at::<3>(line, at)?;
     let strides = Strides {
         semidiurnal,
         mixed,
         diurnal,
     };
-    Call::Station(latitude, count, strides)
+    Some(Call::Station(latitude, count, strides))
 }
 
 // A station's count, behind its latitude, and its strides: the usual ones where the line ends there.
-fn station_at(line: &[u8], at: usize, latitude: i32) -> Call
+fn station_at(line: &[u8], at: usize, latitude: i32) -> Option<Call>
     ensures { result ≡ station_at latitude (words_from line.now at) }
 {
-    let field = field_at(line, at, LARGEST);
-    let Field::Read(count, next) = field else {
-        return Call::Bad;
-    };
-    if line.len() < next {
-        return Call::Station(latitude, count, strides::usual());
+    let count = field_at(line, at, u32::MAX)?;
+    if line.len() < count.next {
+        return Some(Call::Station(latitude, count.value, strides::usual()));
     }
-    strides_at(line, next, latitude, count)
+    strides_at(line, count.next, latitude, count.value)
 }
 
 // Whether a minus stands at a byte of a line.
@@ -256,28 +158,22 @@ fn minus_at(line: &[u8], at: usize) -> bool
     ensures { result ≡ has_minus (words_from line.now at) }
 {
     if at < line.len() {
-        return line[at] == 45;
+        return line[at] == b'-';
     }
     false
 }
 
 // station LATITUDE COUNT, or station LATITUDE COUNT SEMIDIURNAL MIXED DIURNAL
-fn latitude_at(line: &[u8], at: usize) -> Call
+fn latitude_at(line: &[u8], at: usize) -> Option<Call>
     requires { at ≤ length line.now + 1 }
     ensures { result ≡ station_of (words_from line.now at) }
 {
     if minus_at(line, at) {
-        let southern = field_at(line, at + 1, 2_147_483_648);
-        let Field::Read(size, next) = southern else {
-            return Call::Bad;
-        };
-        return station_at(line, next, south(size));
+        let southern = field_at(line, at + 1, 2_147_483_648)?;
+        return station_at(line, southern.next, south(southern.value));
     }
-    let northern = field_at(line, at, 2_147_483_647);
-    let Field::Read(size, next) = northern else {
-        return Call::Bad;
-    };
-    station_at(line, next, north(size))
+    let northern = field_at(line, at, 2_147_483_647)?;
+    station_at(line, northern.next, north(northern.value))
 }
 
 // Whether a word is the one of a name.
@@ -287,8 +183,9 @@ fn is_word(word: &[u8], name: &[u8]) -> bool
     word == name
 }
 
-// The call of a word and of the numbers at a byte of a line.
-fn call_at(word: &[u8], line: &[u8], at: usize) -> Call
+// The call of a word and of the numbers at a byte of a line. (No match on the words: it compares letter by letter, and leaves a goal for each.)
+#[tactic(auto, unfolding(crate::specs::Script::call_of_words))]
+fn call_at(word: &[u8], line: &[u8], at: usize) -> Option<Call>
     requires { at ≤ length line.now + 1 }
     ensures { result ≡ call_of_words (word.now ∷ words_from line.now at) }
 {
@@ -319,43 +216,34 @@ fn call_at(word: &[u8], line: &[u8], at: usize) -> Call
     if is_word(word, b"hourly") {
         return hourly_at(line, at);
     }
-    Call::Bad
+    None
 }
 
-// A line of a script, without its LF, as a call: Bad where it is not of the form.
-pub fn parse_call(line: &[u8]) -> Call
+// A line of a script, without its LF, as a call: none where it is not of the form.
+pub fn parse_call(line: &[u8]) -> Option<Call>
     ensures { result ≡ call_of line.now }
 {
     let end = word_end(line, 0);
     call_at(&line[..end], line, end + 1)
 }
 
-// A line of a station, without its LF: Bad where it is not of the form.
-pub fn parse_record(line: &[u8]) -> Entry
+// A line of a station, without its LF: none where it is not of the form.
+pub fn parse_record(line: &[u8]) -> Option<Record>
     ensures { result ≡ record_of line.now }
 {
-    let first = field_at(line, 0, 255);
-    let Field::Read(place, second_at) = first else {
-        return Entry::Bad;
-    };
-    let second = field_at(line, second_at, LARGEST);
-    let Field::Read(amplitude, last_place) = second else {
-        return Entry::Bad;
-    };
-    let last = last_at(line, last_place);
-    let Number::Value(phase) = last else {
-        return Entry::Bad;
-    };
-    Entry::Record {
-        place: place as u8,
+    let place = field_at(line, 0, 255)?;
+    let [amplitude, phase] = numbers_at::<2>(line, place.next)?;
+    Some(Record {
+        place: place.value as u8,
         amplitude,
         phase,
-    }
+    })
 }
 
 // A minute's line behind a list of bookings, without its LF: no number where it is not of the form.
-pub fn parse_minute(line: &[u8]) -> Number
+pub fn parse_minute(line: &[u8]) -> Option<u32>
     ensures { result ≡ minute_of line.now }
 {
-    last_at(line, 0)
+    let [minute] = numbers_at::<1>(line, 0)?;
+    Some(minute)
 }

@@ -1,7 +1,8 @@
-// The lines that answer a script. Each function puts one on the page and gives the place behind it, which is on the page.
-ghost use Rattle.std.specs.Prelude.{◌≡◌, ◌≤◌, length, pos, slice_index, slice_index_or, IfOk};
+// The lines that answer a script. Each function puts one on the page and gives the place behind it, which is on the page. (The place is no field of a page: that
+// it lies on the page is a clause of each, which the wrong answer `line_number_for_a_place` tries.)
+ghost use Rattle.std.specs.Prelude.{◌≡◌, ◌≤◌, length, slice_index_or, IfOk};
 
-use refusals::{Answer, Refusal};
+use refusals::{Answer, Refused};
 use std::io;
 
 // script LINE
@@ -10,7 +11,7 @@ pub fn put_script(rt: &impl Print, page: &mut [u8], at: usize, line: u64) -> io:
 {
     let word = output::put_bytes(rt, page, at, b"script ")?;
     let digits = output::put_number(rt, page, word, line)?;
-    output::put(rt, page, digits, 10)
+    output::put(rt, page, digits, b'\n')
 }
 
 // refused NUMBER PLACE
@@ -18,17 +19,16 @@ pub fn put_refused(
     rt: &impl Print,
     page: &mut [u8],
     at: usize,
-    refusal: Refusal,
-    place: usize,
+    refused: Refused,
 ) -> io::Result<usize>
     ensures { IfOk result (λ next. next ≤ length page.old) }
 {
-    let number = refusals::number_of(refusal);
+    let number = refusals::number_of(refused.refusal);
     let word = output::put_bytes(rt, page, at, b"refused ")?;
     let first = output::put_number(rt, page, word, number as u64)?;
-    let blank = output::put(rt, page, first, 32)?;
-    let end = output::put_number(rt, page, blank, place as u64)?;
-    output::put(rt, page, end, 10)
+    let blank = output::put(rt, page, first, b' ')?;
+    let end = output::put_number(rt, page, blank, refused.place as u64)?;
+    output::put(rt, page, end, b'\n')
 }
 
 // accepted
@@ -36,7 +36,7 @@ fn put_accepted(rt: &impl Print, page: &mut [u8], at: usize) -> io::Result<usize
     ensures { IfOk result (λ next. next ≤ length page.old) }
 {
     let end = output::put_bytes(rt, page, at, b"accepted")?;
-    output::put(rt, page, end, 10)
+    output::put(rt, page, end, b'\n')
 }
 
 // accepted, or refused NUMBER PLACE
@@ -44,8 +44,8 @@ pub fn put_answer(rt: &impl Print, page: &mut [u8], at: usize, answer: Answer) -
     ensures { IfOk result (λ next. next ≤ length page.old) }
 {
     match answer {
-        Answer::Accepted => put_accepted(rt, page, at),
-        Answer::Refused(refusal, place) => put_refused(rt, page, at, refusal, place),
+        Ok(()) => put_accepted(rt, page, at),
+        Err(refused) => put_refused(rt, page, at, refused),
     }
 }
 
@@ -55,17 +55,15 @@ pub fn put_height(rt: &impl Print, page: &mut [u8], at: usize, height: i64) -> i
 {
     let word = output::put_bytes(rt, page, at, b"height ")?;
     let end = output::put_signed(rt, page, word, height)?;
-    output::put(rt, page, end, 10)
+    output::put(rt, page, end, b'\n')
 }
 
 // The heights, each behind a blank.
 fn put_each(rt: &impl Print, page: &mut [u8], at: usize, heights: &[i64]) -> io::Result<usize> {
     let mut next = at;
-    let mut i = 0;
-    while i < heights.len() {
-        next = output::put(rt, page, next, 32)?;
-        next = output::put_signed(rt, page, next, heights[i])?;
-        i += 1;
+    for height in heights {
+        next = output::put(rt, page, next, b' ')?;
+        next = output::put_signed(rt, page, next, *height)?;
     }
     Ok(next)
 }
@@ -76,7 +74,7 @@ fn put_heights(rt: &impl Print, page: &mut [u8], at: usize, heights: &[i64]) -> 
 {
     let word = output::put_bytes(rt, page, at, b"heights")?;
     let end = put_each(rt, page, word, heights)?;
-    output::put(rt, page, end, 10)
+    output::put(rt, page, end, b'\n')
 }
 
 // What a series says: its heights where it is accepted.
@@ -90,8 +88,8 @@ pub fn put_series(
     ensures { IfOk result (λ next. next ≤ length page.old) }
 {
     match answer {
-        Answer::Accepted => put_heights(rt, page, at, heights),
-        Answer::Refused(refusal, place) => put_refused(rt, page, at, refusal, place),
+        Ok(()) => put_heights(rt, page, at, heights),
+        Err(refused) => put_refused(rt, page, at, refused),
     }
 }
 
@@ -119,24 +117,17 @@ fn put_turn(
     minute: u32,
     height: i64,
 ) -> io::Result<usize> {
-    let first = output::put(rt, page, at, 32)?;
+    let first = output::put(rt, page, at, b' ')?;
     let end = output::put_number(rt, page, first, minute as u64)?;
-    let second = output::put(rt, page, end, 32)?;
+    let second = output::put(rt, page, end, b' ')?;
     output::put_signed(rt, page, second, height)
 }
 
-// The minute at a place; 0 past the end.
-fn minute_at(minutes: &[u32], i: usize) -> u32
-    ensures { result ≡ slice_index minutes.now i }
+// What stands at a place of a row; zero past its end.
+fn item_at<T: Copy>(row: &[T], i: usize, zero: T) -> T
+    ensures { result ≡ slice_index_or row.now i zero }
 {
-    if i < minutes.len() { minutes[i] } else { 0 }
-}
-
-// The height at a place; 0 past the end.
-fn height_at(heights: &[i64], i: usize) -> i64
-    ensures { result ≡ slice_index_or heights.now i (pos 0) }
-{
-    if i < heights.len() { heights[i] } else { 0 }
+    row.get(i).copied().unwrap_or(zero)
 }
 
 // The turns found, each behind a blank, and LF.
@@ -151,12 +142,16 @@ fn put_found<'a>(
     ensures { IfOk result (λ next. next ≤ length page.old) }
 {
     let mut next = at;
-    let mut i = 0;
-    while i < count {
-        next = put_turn(rt, page, next, minute_at(minutes, i), height_at(heights, i))?;
-        i += 1;
+    for i in 0..count {
+        next = put_turn(
+            rt,
+            page,
+            next,
+            item_at(minutes, i, 0),
+            item_at(heights, i, 0),
+        )?;
     }
-    output::put(rt, page, next, 10)
+    output::put(rt, page, next, b'\n')
 }
 
 // turns COUNT FIRST_HIGH M0 H0 M1 H1 ...
@@ -182,7 +177,7 @@ pub fn put_year(rt: &impl Print, page: &mut [u8], at: usize, heights: &[i64]) ->
     let word = output::put_bytes(rt, page, at, b"year ")?;
     let count = output::put_number(rt, page, word, heights.len() as u64)?;
     let end = put_each(rt, page, count, heights)?;
-    output::put(rt, page, end, 32)
+    output::put(rt, page, end, b' ')
 }
 
 // hourly N, and behind its LF the N bytes of the cards
@@ -191,6 +186,6 @@ pub fn put_hourly(rt: &impl Print, page: &mut [u8], at: usize, cards: &[u8]) -> 
 {
     let word = output::put_bytes(rt, page, at, b"hourly ")?;
     let count = output::put_number(rt, page, word, cards.len() as u64)?;
-    let end = output::put(rt, page, count, 10)?;
+    let end = output::put(rt, page, count, b'\n')?;
     output::put_bytes(rt, page, end, cards)
 }

@@ -1,10 +1,12 @@
 // Reading standard input by lines and by counts of bytes, in one lent buffer.
-ghost use Rattle.std.specs.Prelude.{◌≡◌, ◌+◌, ◌-◌, ◌%◌, ◌^◌, ◌<◌, ◌≤◌, length, ◌==◌};
-ghost use Rattle.transcript.specs.inner.Window.{Within, Ends, one_if, feeds_from};
+ghost use Rattle.std.specs.Prelude.{◌≡◌, ◌+◌, ◌-◌, ◌%◌, ◌^◌, ◌<◌, ◌≤◌, ◌==◌, count_by, length, IfSome};
+ghost use Rattle.transcript.specs.inner.Window.{Within, Ends, feeds_from};
 
 use std::io::Read;
 use std::num::wrapping_add_u64;
 
+// (The input and the buffer travel beside the window and are no fields of it: two fields behind a reference cannot be lent at once, as a read does.)
+//
 // What is read and not yet taken: the bytes of the buffer from `from` to `to`. `line` is the input line, from 1, on which the first of them stands.
 #[derive(Clone, Copy)]
 pub struct Window {
@@ -12,13 +14,6 @@ pub struct Window {
     pub to: usize,
     pub line: u64,
     pub ended: bool,
-}
-
-// A line ends at `end`, where its LF stands; where `end` is the window's end it has none, for the input ended or the buffer is full.
-#[derive(Clone, Copy)]
-pub struct Line {
-    pub end: usize,
-    pub window: Window,
 }
 
 // Nothing is read yet.
@@ -38,11 +33,7 @@ fn to_front(buffer: &mut [u8], from: usize, to: usize) -> usize
     requires { (from ≤ to) × (to ≤ length buffer.old) }
     ensures { result ≡ to - from }
 {
-    let mut i = from;
-    while i < to {
-        buffer[i - from] = buffer[i];
-        i += 1;
-    }
+    buffer.copy_within(from..to, 0);
     to - from
 }
 
@@ -54,95 +45,73 @@ fn read_behind(input: &mut impl Read, buffer: &mut [u8], to: usize) -> usize
     input.read(&mut buffer[to..]).unwrap_or(0)
 }
 
-// The window with what one more read brings. Where that is nothing, the input has ended or the buffer is full.
-pub fn more(input: &mut impl Read, buffer: &mut [u8], window: Window) -> Window
-    requires { Within (length buffer.old) window }
-    ensures within { Within (length buffer.old) result }
-    ensures line_value { result.line ≡ window.line }
+// Adds to the window what one more read brings. Where that is nothing, the input has ended or the buffer is full.
+pub fn more(input: &mut impl Read, buffer: &mut [u8], window: &mut Window)
+    requires { Within (length buffer.old) window.old }
+    ensures within { Within (length buffer.old) window.new }
+    ensures line_value { window.new.line ≡ window.old.line }
 {
     let to = to_front(buffer, window.from, window.to);
     let got = read_behind(input, buffer, to);
-    Window {
-        from: 0,
-        to: to + got,
-        line: window.line,
-        ended: got == 0,
-    }
+    window.from = 0;
+    window.to = to + got;
+    window.ended = got == 0;
 }
 
-// The place of the first LF from `from` on and before `to`; `to` where there is none.
-fn line_feed(buffer: &[u8], from: usize, to: usize) -> usize
+// The place of the first LF from `from` on and before `to`, if there is one.
+fn line_feed(buffer: &[u8], from: usize, to: usize) -> Option<usize>
     requires { (from ≤ to) × (to ≤ length buffer.now) }
-    ensures { (from ≤ result) × (result ≤ to) }
+    ensures { IfSome result (λ end. (from ≤ end) × (end < to)) }
 {
-    let mut i = from;
-    while i < to {
-        if buffer[i] == 10 {
-            return i;
-        }
-        i += 1;
-    }
-    i
+    let place = buffer[from..to].iter().position(|b| *b == b'\n')?;
+    Some(from + place)
 }
 
-// The line that begins where the window does, with as much read as it takes.
-pub fn next_line(input: &mut impl Read, buffer: &mut [u8], window: Window) -> Line
-    requires { Within (length buffer.old) window }
-    ensures ends { Ends (length buffer.old) result }
-    ensures line_value { result.window.line ≡ window.line }
+// Where the line ends that begins where the window does, with as much read as it takes: at its LF, if the input does not end before and the buffer holds it.
+pub fn next_line(input: &mut impl Read, buffer: &mut [u8], window: &mut Window) -> Option<usize>
+    requires { Within (length buffer.old) window.old }
+    ensures ends { Ends (length buffer.old) window.new result }
+    ensures line_value { window.new.line ≡ window.old.line }
 {
     // Each turn brings a byte or ends the input, so that a turn for each byte of the buffer and one more are enough.
-    let mut turns = buffer.len() + 1;
-    let mut held = window;
-    let mut end = line_feed(buffer, held.from, held.to);
-    while 0 < turns {
-        if end < held.to || held.ended {
-            return Line { end, window: held };
+    for _turn in 0..buffer.len() + 1 {
+        let end = line_feed(buffer, window.from, window.to);
+        if end.is_some() || window.ended {
+            return end;
         }
-        held = more(input, buffer, held);
-        end = line_feed(buffer, held.from, held.to);
-        turns -= 1;
+        more(input, buffer, window);
     }
-    Line { end, window: held }
+    line_feed(buffer, window.from, window.to)
 }
 
-// The window with at least so many bytes, unless the input ends before or the buffer is full.
-pub fn gather(input: &mut impl Read, buffer: &mut [u8], window: Window, bytes: usize) -> Window
-    requires { Within (length buffer.old) window }
-    ensures { Within (length buffer.old) result }
+// Reads until the window has at least so many bytes, the input ends or the buffer is full.
+pub fn gather(input: &mut impl Read, buffer: &mut [u8], window: &mut Window, bytes: usize)
+    requires { Within (length buffer.old) window.old }
+    ensures { Within (length buffer.old) window.new }
 {
-    let mut turns = buffer.len() + 1;
-    let mut held = window;
-    while 0 < turns {
-        if bytes <= held.to - held.from || held.ended {
-            return held;
+    for _turn in 0..buffer.len() + 1 {
+        if bytes <= window.to - window.from || window.ended {
+            return;
         }
-        held = more(input, buffer, held);
-        turns -= 1;
-    }
-    held
-}
-
-// The window behind the LF at `end`, which ends the line of a number.
-pub fn behind(window: Window, end: usize, line: u64) -> Window
-    requires { end < window.to }
-    ensures from_value { (result.from ≡ end + 1) × (result.to ≡ window.to) }
-    ensures line_value { result.line ≡ (line + 1) % 2 ^ 64 }
-{
-    Window {
-        from: end + 1,
-        to: window.to,
-        line: wrapping_add_u64(line, 1),
-        ended: window.ended,
+        more(input, buffer, window);
     }
 }
 
-// 1 for a LF, 0 for any other byte.
-fn feed(byte: u8) -> u64
-    ensures value { result ≡ one_if (byte == 10) }
-    ensures upper_bound { result ≤ 1 }
+// Moves the window behind the LF at `end`, which ends the line of a number.
+pub fn behind(window: &mut Window, end: usize, line: u64)
+    requires { end < window.old.to }
+    ensures from_value { (window.new.from ≡ end + 1) × (window.new.to ≡ window.old.to) }
+    ensures line_value { window.new.line ≡ (line + 1) % 2 ^ 64 }
 {
-    if byte == 10 { 1 } else { 0 }
+    window.from = end + 1;
+    window.line = wrapping_add_u64(line, 1);
+}
+
+// How many bytes are LF.
+fn line_feeds(bytes: &[u8]) -> usize
+    ensures { result ≡ count_by (λ b. b == 10) bytes.now }
+{
+    bytes.iter().filter(|b| **b == b'\n').count()
 }
 
 // How many of the bytes from `from` on and before `to` are LF.
@@ -150,11 +119,5 @@ pub fn feeds(buffer: &[u8], from: usize, to: usize) -> u64
     requires { (from ≤ to) × (to ≤ length buffer.now) }
     ensures { result ≡ feeds_from buffer.now from (to - from) }
 {
-    let mut passed: u64 = 0;
-    let mut i = from;
-    while i < to {
-        passed += feed(buffer[i]);
-        i += 1;
-    }
-    passed
+    line_feeds(&buffer[from..to]) as u64
 }

@@ -1,25 +1,24 @@
 // A call of a script, read whole from the input: its line, and behind it a card file's bytes, a station's lines or those of minutes.
-ghost use Rattle.std.specs.Prelude.{◌≡◌, ◌+◌, ◌<◌, length};
+ghost use Rattle.std.specs.Prelude.{◌≡◌, ◌+◌, ◌<◌, length, IfSome, IfOk};
 ghost use Rattle.transcript.specs.inner.Window.{Within};
-ghost use Rattle.transcript.specs.inner.Posts.{FilePost, MinutePost, MinutesPost, HeardPost, Lent, kept_row};
+ghost use Rattle.transcript.specs.inner.Posts.{FilePost, LinePost, MinutesPost, HeardPost, Lent, kept_row};
 
 use crate::input;
 use crate::input::Window;
 use limits::RECORDS;
-use script::{Call, Entry, Number, YearLine};
-use station::records::{Rows, no_rows, put};
+use script::{Call, YearLine};
+use station::records::{Record, Rows, no_rows, put};
 use station::strides::Strides;
 use std::io::Read;
 use std::num::wrapping_add_u64;
 
-// What a call asks. A card file stands in the buffer from the first place to the second; a station has a latitude, so many records and its strides; a series,
-// a search and a year's sheet end with how many places they are lent; bookings have so many minutes, which stand in the lent places, and so many places for heights;
-// hourly cards have a station number and so many bytes.
-// Stop: the input is not of the form.
+// What a call asks. A card file stands in the buffer from the first place to the second; a station has a latitude, so many records, its strides and the first 146
+// records; a series, a search and a year's sheet end with how many places they are lent; bookings have so many minutes, which stand in the lent places, and so many
+// places for heights; hourly cards have a station number and so many bytes.
 #[derive(Clone, Copy)]
 pub enum Asked {
     Cards(usize, usize),
-    Station(i32, usize, Strides),
+    Station(i32, usize, Strides, Rows),
     Date(u32, u32),
     Height(u32),
     Series(u32, u32, usize),
@@ -27,437 +26,215 @@ pub enum Asked {
     Year(YearLine),
     Bookings(usize, usize),
     Hourly(u32, u32),
-    End,
-    Stop,
 }
 
-// What a call asks, the input line of the call or of what is wrong, a station's first 146 records, and the window behind it all.
+// What a call asks, and its input line.
 #[derive(Clone, Copy)]
 pub struct Heard {
     pub asked: Asked,
     pub line: u64,
-    pub rows: Rows,
-    pub window: Window,
 }
 
-// The call of a line, the number of that line, and the window behind it.
+// Why no call is heard: the input is at its end, or a line of it is not of the form.
 #[derive(Clone, Copy)]
-struct CallLine {
-    call: Call,
-    line: u64,
-    window: Window,
+pub enum Halt {
+    End,
+    BadLine(u64),
 }
 
-// Whether a card file came whole, where it stands, the line of its last byte or of what is wrong, and the window behind it.
-#[derive(Clone, Copy)]
-struct CardFile {
-    good: bool,
-    from: usize,
-    end: usize,
-    line: u64,
-    window: Window,
-}
-
-// A station's line; where it is bad the window still begins with it.
-#[derive(Clone, Copy)]
-struct Told {
-    entry: Entry,
-    window: Window,
-}
-
-// Whether a station's lines were all of the form, the first 146 records, and the window behind them, or at the bad line.
-#[derive(Clone, Copy)]
-struct Records {
-    good: bool,
-    rows: Rows,
-    window: Window,
-}
-
-// A minute's line; where it is bad the window still begins with it.
-#[derive(Clone, Copy)]
-struct MinuteLine {
-    number: Number,
-    window: Window,
-}
-
-// Whether minutes' lines were all of the form, and the window behind them, or at the bad line.
-#[derive(Clone, Copy)]
-struct Minutes {
-    good: bool,
-    window: Window,
-}
-
-// The next line as a call. A line without LF is bad.
-fn read_call(input: &mut impl Read, buffer: &mut [u8], window: Window) -> CallLine
-    requires { Within (length buffer.old) window }
-    ensures { Within (length buffer.old) result.window }
+// The next line, as it is parsed. Where that gives nothing, or the line has no LF, the window still begins with the line.
+fn read_line<T, F: Fn(&[u8]) -> Option<T>>(
+    input: &mut impl Read,
+    buffer: &mut [u8],
+    window: &mut Window,
+    parse: F,
+) -> Option<T>
+    requires within { Within (length buffer.old) window.old }
+    requires callable { F.IsAlwaysCallable parse }
+    ensures { LinePost (length buffer.old) window.old window.new result }
 {
-    let line = input::next_line(input, buffer, window);
-    let held = line.window;
-    let from = held.from;
-    let end = line.end;
-    if held.to <= end {
-        return CallLine {
-            call: Call::Bad,
-            line: held.line,
-            window: held,
-        };
-    }
-    let call = script::parse_call(&buffer[from..end]);
-    let next = input::behind(held, end, held.line);
-    CallLine {
-        call,
-        line: held.line,
-        window: next,
-    }
+    let end = input::next_line(input, buffer, window)?;
+    let parsed = parse(&buffer[window.from..end])?;
+    let line = window.line;
+    input::behind(window, end, line);
+    Some(parsed)
 }
 
-// So many bytes and LF. Line feeds inside the card file count as input lines.
-fn read_file(input: &mut impl Read, buffer: &mut [u8], window: Window, bytes: usize) -> CardFile
+// The next line as a call. The window is behind it, if it has its LF.
+fn read_call(input: &mut impl Read, buffer: &mut [u8], window: &mut Window) -> Option<Call>
+    requires { Within (length buffer.old) window.old }
+    ensures { Within (length buffer.old) window.new }
+{
+    let end = input::next_line(input, buffer, window)?;
+    let call = script::parse_call(&buffer[window.from..end]);
+    let line = window.line;
+    input::behind(window, end, line);
+    call
+}
+
+// So many bytes and LF: where the bytes stand, or the line of what is wrong. Line feeds inside the card file count as input lines.
+fn read_file(
+    input: &mut impl Read,
+    buffer: &mut [u8],
+    window: &mut Window,
+    bytes: usize,
+) -> Result<(usize, usize), u64>
     requires bytes_in_bounds { bytes < length buffer.old }
-    requires within { Within (length buffer.old) window }
-    ensures { FilePost (length buffer.old) bytes buffer.new result }
+    requires within { Within (length buffer.old) window.old }
+    ensures { FilePost (length buffer.old) bytes buffer.new window.new result }
 {
-    let held = input::gather(input, buffer, window, bytes + 1);
-    let from = held.from;
-    let to = held.to;
+    input::gather(input, buffer, window, bytes + 1);
+    let from = window.from;
+    let to = window.to;
     if to - from <= bytes {
         let feeds = input::feeds(buffer, from, to);
-        return CardFile {
-            good: false,
-            from,
-            end: from,
-            line: wrapping_add_u64(held.line, feeds),
-            window: held,
-        };
+        return Err(wrapping_add_u64(window.line, feeds));
     }
     let end = from + bytes;
     let feeds = input::feeds(buffer, from, end);
-    let line = wrapping_add_u64(held.line, feeds);
-    let next = input::behind(held, end, line);
-    CardFile {
-        good: buffer[end] == 10,
-        from,
-        end,
-        line,
-        window: next,
+    let line = wrapping_add_u64(window.line, feeds);
+    input::behind(window, end, line);
+    if buffer[end] != b'\n' {
+        return Err(line);
     }
-}
-
-// The next line as a station's.
-fn read_record(input: &mut impl Read, buffer: &mut [u8], window: Window) -> Told
-    requires { Within (length buffer.old) window }
-    ensures { Within (length buffer.old) result.window }
-{
-    let line = input::next_line(input, buffer, window);
-    let held = line.window;
-    let from = held.from;
-    let end = line.end;
-    if held.to <= end {
-        return Told {
-            entry: Entry::Bad,
-            window: held,
-        };
-    }
-    let entry = script::parse_record(&buffer[from..end]);
-    match entry {
-        Entry::Record {
-            place: _,
-            amplitude: _,
-            phase: _,
-        } => {
-            let next = input::behind(held, end, held.line);
-            Told {
-                entry,
-                window: next,
-            }
-        }
-        Entry::Bad => Told {
-            entry,
-            window: held,
-        },
-    }
+    Ok((from, end))
 }
 
 // The rows with record k, from 0; past the first 146 nothing is kept.
-fn with_row(rows: Rows, k: usize, place: u8, amplitude: u32, phase: u32) -> Rows
-    ensures { result ≡ kept_row rows k place amplitude phase }
+fn with_row(rows: Rows, k: usize, record: Record) -> Rows
+    ensures { result ≡ kept_row rows k record.place record.amplitude record.phase }
 {
     if RECORDS <= k {
         return rows;
     }
-    put(rows, k, place, amplitude, phase)
+    put(rows, k, record.place, record.amplitude, record.phase)
 }
 
-// A station's lines, all of them, or up to the first that is bad.
-fn read_records(input: &mut impl Read, buffer: &mut [u8], window: Window, count: u32) -> Records
-    requires { Within (length buffer.old) window }
-    ensures { Within (length buffer.old) result.window }
+// A station's lines, the first 146 as records. Where one is bad, the window begins with it.
+fn read_records(
+    input: &mut impl Read,
+    buffer: &mut [u8],
+    window: &mut Window,
+    count: u32,
+) -> Option<Rows>
+    requires { Within (length buffer.old) window.old }
+    ensures { Within (length buffer.old) window.new }
 {
     let mut rows = no_rows();
-    let mut held = window;
-    let mut k: u32 = 0;
-    while k < count {
-        let told = read_record(input, buffer, held);
-        held = told.window;
-        let entry = told.entry;
-        match entry {
-            Entry::Record {
-                place,
-                amplitude,
-                phase,
-            } => {
-                rows = with_row(rows, k as usize, place, amplitude, phase);
-                k += 1;
-            }
-            Entry::Bad => {
-                return Records {
-                    good: false,
-                    rows,
-                    window: held,
-                };
-            }
-        }
+    for k in 0..count {
+        let record = read_line(input, buffer, window, script::parse_record)?;
+        rows = with_row(rows, k as usize, record);
     }
-    Records {
-        good: true,
-        rows,
-        window: held,
-    }
+    Some(rows)
 }
 
-// The next line as a minute.
-fn read_minute(input: &mut impl Read, buffer: &mut [u8], window: Window) -> MinuteLine
-    requires { Within (length buffer.old) window }
-    ensures { MinutePost (length buffer.old) window result }
-{
-    let line = input::next_line(input, buffer, window);
-    let held = line.window;
-    let from = held.from;
-    let end = line.end;
-    if held.to <= end {
-        return MinuteLine {
-            number: Number::NoNumber,
-            window: held,
-        };
-    }
-    let number = script::parse_minute(&buffer[from..end]);
-    match number {
-        Number::Value(_) => {
-            let next = input::behind(held, end, held.line);
-            MinuteLine {
-                number,
-                window: next,
-            }
-        }
-        Number::NoNumber => MinuteLine {
-            number,
-            window: held,
-        },
-    }
-}
-
-// Minutes' lines, one for each of the lent places, or up to the first that is bad.
+// Minutes' lines, one for each of the lent places. Where one is bad, the window begins with it.
 fn read_minutes(
     input: &mut impl Read,
     buffer: &mut [u8],
-    window: Window,
+    window: &mut Window,
     minutes: &mut [u32],
-) -> Minutes
-    requires { Within (length buffer.old) window }
-    ensures { MinutesPost (length buffer.old) (length minutes.old) window result }
+) -> Option<()>
+    requires { Within (length buffer.old) window.old }
+    ensures { MinutesPost (length buffer.old) (length minutes.old) window.old window.new result }
 {
-    let mut held = window;
-    let mut k = 0;
-    while k < minutes.len() {
-        let told = read_minute(input, buffer, held);
-        held = told.window;
-        let number = told.number;
-        let Number::Value(minute) = number else {
-            return Minutes {
-                good: false,
-                window: held,
-            };
-        };
-        minutes[k] = minute;
-        k += 1;
+    for minute in minutes.iter_mut() {
+        *minute = read_line(input, buffer, window, script::parse_minute)?;
     }
-    Minutes {
-        good: true,
-        window: held,
-    }
-}
-
-// A call that is read whole, with no records.
-fn heard_line(asked: Asked, line: u64, window: Window) -> Heard
-    ensures { (result.asked ≡ asked) × (result.window ≡ window) }
-{
-    Heard {
-        asked,
-        line,
-        rows: no_rows(),
-        window,
-    }
-}
-
-// cards BYTES, and the file behind its line. One that the buffer cannot hold is not of the form.
-fn hear_cards(
-    input: &mut impl Read,
-    buffer: &mut [u8],
-    window: Window,
-    line: u64,
-    bytes: usize,
-) -> Heard
-    requires { Within (length buffer.old) window }
-    ensures { HeardPost (length buffer.old) 0 0 result }
-{
-    if buffer.len() <= bytes {
-        return heard_line(Asked::Stop, line, window);
-    }
-    let file = read_file(input, buffer, window, bytes);
-    if file.good {
-        return heard_line(Asked::Cards(file.from, file.end), line, file.window);
-    }
-    heard_line(Asked::Stop, file.line, file.window)
-}
-
-// station LATITUDE COUNT with its strides, and the records behind its line.
-fn hear_station(
-    input: &mut impl Read,
-    buffer: &mut [u8],
-    window: Window,
-    line: u64,
-    latitude: i32,
-    count: u32,
-    strides: Strides,
-) -> Heard
-    requires { Within (length buffer.old) window }
-    ensures { HeardPost (length buffer.old) 0 0 result }
-{
-    let records = read_records(input, buffer, window, count);
-    let next = records.window;
-    if !records.good {
-        return heard_line(Asked::Stop, next.line, next);
-    }
-    let rows = records.rows;
-    Heard {
-        asked: Asked::Station(latitude, count as usize, strides),
-        line,
-        rows,
-        window: next,
-    }
+    Some(())
 }
 
 // series START STEP COUNT, where so many places can be lent.
-fn asked_series(places: usize, start: u32, step: u32, count: u32) -> Asked
-    ensures { Lent 0 0 places result }
+fn asked_series(places: usize, start: u32, step: u32, count: u32) -> Option<Asked>
+    ensures { IfSome result (λ asked. Lent 0 0 places asked) }
 {
     let n = count as usize;
     if places < n {
-        return Asked::Stop;
+        return None;
     }
-    Asked::Series(start, step, n)
+    Some(Asked::Series(start, step, n))
 }
 
 // turns FIRST LAST MINUTES HEIGHTS, where so many places can be lent.
-fn asked_turns(minutes: usize, heights: usize, first: u32, last: u32, m: u32, h: u32) -> Asked
-    ensures { Lent 0 minutes heights result }
+fn asked_turns(
+    minutes: usize,
+    heights: usize,
+    first: u32,
+    last: u32,
+    m: u32,
+    h: u32,
+) -> Option<Asked>
+    ensures { IfSome result (λ asked. Lent 0 minutes heights asked) }
 {
     let a = m as usize;
     let b = h as usize;
     if minutes < a || heights < b {
-        return Asked::Stop;
+        return None;
     }
-    Asked::Turns(first, last, a, b)
+    Some(Asked::Turns(first, last, a, b))
 }
 
 // year YEAR START STEP COUNT FIRST LAST MINUTES HEIGHTS, where so many places can be lent: for the series as many as for the heights of turns.
-fn asked_year(minutes: usize, heights: usize, line: YearLine) -> Asked
-    ensures { Lent 0 minutes heights result }
+fn asked_year(minutes: usize, heights: usize, line: YearLine) -> Option<Asked>
+    ensures { IfSome result (λ asked. Lent 0 minutes heights asked) }
 {
     if heights < line.count as usize {
-        return Asked::Stop;
+        return None;
     }
     if minutes < line.minutes as usize || heights < line.heights as usize {
-        return Asked::Stop;
+        return None;
     }
-    Asked::Year(line)
+    Some(Asked::Year(line))
 }
 
-// bookings COUNT HEIGHTS, where so many places can be lent, and the minutes behind its line.
-fn hear_bookings(
-    input: &mut impl Read,
-    buffer: &mut [u8],
-    told: CallLine,
-    minutes: &mut [u32],
-    heights: usize,
-    count: u32,
-    h: u32,
-) -> Heard
-    requires { Within (length buffer.old) told.window }
-    ensures { HeardPost (length buffer.old) (length minutes.old) heights result }
-{
-    let n = count as usize;
-    let places = h as usize;
-    if minutes.len() < n || heights < places {
-        return heard_line(Asked::Stop, told.line, told.window);
-    }
-    let read = read_minutes(input, buffer, told.window, &mut minutes[..n]);
-    let next = read.window;
-    if read.good {
-        return heard_line(Asked::Bookings(n, places), told.line, next);
-    }
-    heard_line(Asked::Stop, next.line, next)
-}
-
-// What a line's call asks, with what stands behind the line, for a program that lends these places for minutes and so many for heights.
+// What the call of a line asks, with what stands behind the line, for a program that lends these places for minutes and so many for heights; or the line of what is wrong.
 fn hear(
     input: &mut impl Read,
     buffer: &mut [u8],
-    told: CallLine,
+    window: &mut Window,
+    call: Call,
+    line: u64,
     minutes: &mut [u32],
     heights: usize,
-) -> Heard
-    requires { Within (length buffer.old) told.window }
-    ensures { HeardPost (length buffer.old) (length minutes.old) heights result }
+) -> Result<Asked, u64>
+    requires { Within (length buffer.old) window.old }
+    ensures within { Within (length buffer.old) window.new }
+    ensures lent { IfOk result (λ asked. Lent (length buffer.old) (length minutes.old) heights asked) }
 {
-    let line = told.line;
-    let call = told.call;
     match call {
+        // A file that the buffer cannot hold is not of the form.
         Call::Cards(bytes) => {
-            return hear_cards(input, buffer, told.window, line, bytes as usize);
+            let n = bytes as usize;
+            if buffer.len() <= n {
+                return Err(line);
+            }
+            let (from, end) = read_file(input, buffer, window, n)?;
+            Ok(Asked::Cards(from, end))
         }
         Call::Station(latitude, count, strides) => {
-            return hear_station(input, buffer, told.window, line, latitude, count, strides);
+            match read_records(input, buffer, window, count) {
+                Some(rows) => Ok(Asked::Station(latitude, count as usize, strides, rows)),
+                None => Err(window.line),
+            }
         }
-        Call::Date(year, month) => {
-            return heard_line(Asked::Date(year, month), line, told.window);
-        }
-        Call::Height(minute) => {
-            return heard_line(Asked::Height(minute), line, told.window);
-        }
-        Call::Series(start, step, count) => {
-            return heard_line(asked_series(heights, start, step, count), line, told.window);
-        }
+        Call::Date(year, month) => Ok(Asked::Date(year, month)),
+        Call::Height(minute) => Ok(Asked::Height(minute)),
+        Call::Series(start, step, count) => asked_series(heights, start, step, count).ok_or(line),
         Call::Turns(first, last, m, h) => {
-            return heard_line(
-                asked_turns(minutes.len(), heights, first, last, m, h),
-                line,
-                told.window,
-            );
+            asked_turns(minutes.len(), heights, first, last, m, h).ok_or(line)
         }
-        Call::Year(year) => {
-            return heard_line(asked_year(minutes.len(), heights, year), line, told.window);
-        }
+        Call::Year(year) => asked_year(minutes.len(), heights, year).ok_or(line),
         Call::Bookings(count, h) => {
-            return hear_bookings(input, buffer, told, minutes, heights, count, h);
+            let n = count as usize;
+            if minutes.len() < n || heights < h as usize {
+                return Err(line);
+            }
+            match read_minutes(input, buffer, window, &mut minutes[..n]) {
+                Some(()) => Ok(Asked::Bookings(n, h as usize)),
+                None => Err(window.line),
+            }
         }
-        Call::Hourly(station, bytes) => {
-            return heard_line(Asked::Hourly(station, bytes), line, told.window);
-        }
-        Call::Bad => {
-            return heard_line(Asked::Stop, line, told.window);
-        }
+        Call::Hourly(station, bytes) => Ok(Asked::Hourly(station, bytes)),
     }
 }
 
@@ -466,17 +243,23 @@ fn hear(
 pub fn next_call(
     input: &mut impl Read,
     buffer: &mut [u8],
-    window: Window,
+    window: &mut Window,
     minutes: &mut [u32],
     heights: usize,
-) -> Heard
-    requires { Within (length buffer.old) window }
-    ensures { HeardPost (length buffer.old) (length minutes.old) heights result }
+) -> Result<Heard, Halt>
+    requires { Within (length buffer.old) window.old }
+    ensures { HeardPost (length buffer.old) (length minutes.old) heights window.new result }
 {
-    let held = input::gather(input, buffer, window, 1);
-    if held.to <= held.from {
-        return heard_line(Asked::End, held.line, held);
+    input::gather(input, buffer, window, 1);
+    if window.to <= window.from {
+        return Err(Halt::End);
     }
-    let told = read_call(input, buffer, held);
-    hear(input, buffer, told, minutes, heights)
+    let line = window.line;
+    let Some(call) = read_call(input, buffer, window) else {
+        return Err(Halt::BadLine(line));
+    };
+    match hear(input, buffer, window, call, line, minutes, heights) {
+        Ok(asked) => Ok(Heard { asked, line }),
+        Err(wrong) => Err(Halt::BadLine(wrong)),
+    }
 }

@@ -6,10 +6,10 @@
 ghost use Rattle.std.specs.Prelude.{◌≡◌, true, length};
 ghost use Rattle.calendar.specs.Calendar.{in_range};
 ghost use Rattle.transcript.specs.inner.Posts.{Lent};
+ghost use Rattle.transcript.specs.inner.Window.{Within};
 
 use calls::settings;
 use card_file::reader;
-use limits::RECORDS;
 use month_prepared::Month;
 use refusals::Answer;
 use station::records::Rows;
@@ -18,97 +18,52 @@ use station::{Station, strides};
 use std::io;
 use std::io::Read;
 use table::Table;
-use transcript::reading::{Asked, Heard};
+use transcript::input::Window;
+use transcript::reading::{Asked, Halt};
 use transcript::{answers, input, reading};
 
-// What the calls leave: a table and a station, each there or not.
+// What the calls leave: a table and a station, where there are.
 #[derive(Clone, Copy)]
 struct Kept {
-    tabled: bool,
-    table: Table,
-    stationed: bool,
-    station: Station,
+    table: Option<Table>,
+    station: Option<Station>,
 }
 
-// What a call says, and what it leaves.
-#[derive(Clone, Copy)]
-struct After {
-    answer: Answer,
-    kept: Kept,
-}
-
-// What a line of the script leaves: the table and the station, the next place on the page, and whether the run goes on.
-#[derive(Clone, Copy)]
-struct Step {
-    kept: Kept,
-    at: usize,
-    more: bool,
-}
-
-// No table and no station.
-fn nothing() -> Kept {
-    Kept {
-        tabled: false,
-        table: table::no_cards(),
-        stationed: false,
-        station: station::no_station(0, strides::usual()),
+impl Kept {
+    // The table, or one with no cards.
+    fn some_table(&self) -> Table {
+        match self.table {
+            Some(table) => table,
+            None => table::no_cards(),
+        }
     }
-}
 
-// A new table, and no station.
-fn with_table(kept: Kept, table: Table) -> After {
-    let mut next = kept;
-    next.tabled = true;
-    next.table = table;
-    next.stationed = false;
-    After {
-        answer: Answer::Accepted,
-        kept: next,
-    }
-}
-
-// A new station.
-fn with_station(kept: Kept, station: Station) -> After {
-    let mut next = kept;
-    next.stationed = true;
-    next.station = station;
-    After {
-        answer: Answer::Accepted,
-        kept: next,
+    // The station, or one with no records.
+    fn some_station(&self) -> Station {
+        match self.station {
+            Some(station) => station,
+            None => station::no_station(0, strides::usual()),
+        }
     }
 }
 
 // A card file: its table takes the place of the old one, with no station; or it is refused.
-fn load_cards(kept: Kept, file: &[u8]) -> After {
-    let read = reader::read_cards(file);
-    let answer = read.answer;
-    match answer {
-        Answer::Accepted => {
-            return with_table(kept, read.table);
-        }
-        Answer::Refused(_, _) => {
-            return After { answer, kept };
-        }
-    }
+fn load_cards(kept: &mut Kept, file: &[u8]) -> Answer {
+    let table = reader::read_cards(file)?;
+    *kept = Kept {
+        table: Some(table),
+        station: None,
+    };
+    Ok(())
 }
 
 // A station of n records, of which the first 146 are in the rows; or it is refused.
-fn place_station(kept: Kept, latitude: i32, strides: Strides, n: usize, rows: Rows) -> After {
-    let taken = settings::station_answer(kept.tabled, kept.table, latitude, strides, n, rows);
-    let answer = taken.answer;
-    match answer {
-        Answer::Accepted => {
-            return with_station(kept, taken.station);
-        }
-        Answer::Refused(_, _) => {
-            return After { answer, kept };
-        }
-    }
-}
-
-// A weight as a wider number.
-fn widened(weight: i32) -> i64 {
-    weight as i64
+fn place_station(kept: &mut Kept, latitude: i32, strides: Strides, n: usize, rows: Rows) -> Answer {
+    let tabled = kept.table.is_some();
+    let table = kept.some_table();
+    let station = settings::station_answer(tabled, table, latitude, strides, n, rows)?;
+    kept.station = Some(station);
+    Ok(())
 }
 
 // A blank, V, a blank, P, a blank and Q.
@@ -120,42 +75,44 @@ fn put_constituent(
     p: i32,
     q: i32,
 ) -> io::Result<usize> {
-    let first = output::put(rt, page, at, 32)?;
+    let first = output::put(rt, page, at, b' ')?;
     let second = output::put_number(rt, page, first, argument)?;
-    let third = output::put(rt, page, second, 32)?;
-    let fourth = output::put_signed(rt, page, third, widened(p))?;
-    let fifth = output::put(rt, page, fourth, 32)?;
-    output::put_signed(rt, page, fifth, widened(q))
+    let third = output::put(rt, page, second, b' ')?;
+    let fourth = output::put_signed(rt, page, third, i64::from(p))?;
+    let fifth = output::put(rt, page, fourth, b' ')?;
+    output::put_signed(rt, page, fifth, i64::from(q))
 }
 
 // month V0 P0 Q0 V1 P1 Q1 ...
 fn put_month(rt: &impl Print, page: &mut [u8], at: usize, month: Month) -> io::Result<usize> {
     let mut next = output::put_bytes(rt, page, at, b"month")?;
-    let mut i = 0;
-    while i < RECORDS && i < month.count {
+    for i in 0..month_prepared::held(month.count) {
         next = put_constituent(rt, page, next, month.arguments[i], month.ps[i], month.qs[i])?;
-        i += 1;
     }
-    output::put(rt, page, next, 10)
+    output::put(rt, page, next, b'\n')
 }
 
-// What a date in range says, of a table and a station: its month, or refused 11 PLACE.
+// What a date in range says: its month, or refused 11 PLACE.
 fn put_prepared(
     rt: &impl Print,
     page: &mut [u8],
     at: usize,
-    kept: Kept,
+    kept: &Kept,
     year: u32,
     month: u32,
 ) -> io::Result<usize>
     requires { in_range year month ≡ true }
 {
     let cosines = cosine::cosines();
-    let prepared = month::prepare(&cosines, kept.table, kept.station, year, month);
-    let answer = settings::month_answer(prepared);
-    match answer {
-        Answer::Accepted => put_month(rt, page, at, prepared.month),
-        Answer::Refused(refusal, place) => answers::put_refused(rt, page, at, refusal, place),
+    match month::prepare(
+        &cosines,
+        kept.some_table(),
+        kept.some_station(),
+        year,
+        month,
+    ) {
+        Ok(prepared) => put_month(rt, page, at, prepared),
+        Err(refused) => answers::put_refused(rt, page, at, refused),
     }
 }
 
@@ -164,80 +121,65 @@ fn put_date(
     rt: &impl Print,
     page: &mut [u8],
     at: usize,
-    kept: Kept,
+    kept: &Kept,
     year: u32,
     month: u32,
 ) -> io::Result<usize> {
-    let answer = settings::date_answer(kept.tabled, kept.stationed, year, month);
-    match answer {
-        Answer::Accepted => put_prepared(rt, page, at, kept, year, month),
-        Answer::Refused(refusal, place) => answers::put_refused(rt, page, at, refusal, place),
+    let tabled = kept.table.is_some();
+    let stationed = kept.station.is_some();
+    match settings::date_answer(tabled, stationed, year, month) {
+        Ok(()) => put_prepared(rt, page, at, kept, year, month),
+        Err(refused) => answers::put_refused(rt, page, at, refused),
     }
 }
 
-// What is kept, with the next place on the page, for the next call.
-fn left(kept: Kept, at: usize) -> Step {
-    Step {
-        kept,
-        at,
-        more: true,
-    }
-}
-
-// The run ends at an input line.
-fn stop(rt: &impl Print, kept: Kept, page: &mut [u8], at: usize, line: u64) -> io::Result<Step> {
-    let next = answers::put_script(rt, page, at, line)?;
-    Ok(Step {
-        kept,
-        at: next,
-        more: false,
-    })
-}
-
-// The line of a card file or a station, and what it leaves.
-fn put_after(rt: &impl Print, after: After, page: &mut [u8], at: usize) -> io::Result<Step> {
-    let answer = after.answer;
-    let next = answers::put_answer(rt, page, at, answer)?;
-    Ok(left(after.kept, next))
-}
-
-// The answer to a call. At the end of the input the run ends with no word.
+// The answer to a card file, a station or a date. Any other call has none.
 fn answer_call(
     rt: &impl Print,
-    heard: Heard,
-    kept: Kept,
+    kept: &mut Kept,
+    asked: Asked,
     buffer: &[u8],
     page: &mut [u8],
     at: usize,
-) -> io::Result<Step>
-    requires { Lent (length buffer.now) 0 0 heard.asked }
+) -> io::Result<Option<usize>>
+    requires { Lent (length buffer.now) 0 0 asked }
 {
-    let asked = heard.asked;
-    match asked {
+    let next = match asked {
         Asked::Cards(from, end) => {
-            return put_after(rt, load_cards(kept, &buffer[from..end]), page, at);
+            let answer = load_cards(kept, &buffer[from..end]);
+            answers::put_answer(rt, page, at, answer)?
         }
-        Asked::Station(latitude, count, strides) => {
-            return put_after(
-                rt,
-                place_station(kept, latitude, strides, count, heard.rows),
-                page,
-                at,
-            );
+        Asked::Station(latitude, count, strides, rows) => {
+            let answer = place_station(kept, latitude, strides, count, rows);
+            answers::put_answer(rt, page, at, answer)?
         }
-        Asked::Date(year, month) => {
-            return Ok(left(kept, put_date(rt, page, at, kept, year, month)?));
-        }
-        Asked::End => {
-            return Ok(Step {
-                kept,
-                at,
-                more: false,
-            });
-        }
-        _ => {
-            return stop(rt, kept, page, at, heard.line);
-        }
+        Asked::Date(year, month) => put_date(rt, page, at, kept, year, month)?,
+        _ => return Ok(None),
+    };
+    Ok(Some(next))
+}
+
+// The next call with its answer on the page; or why the run ends, at the end of the input or at a line.
+fn answer_next(
+    rt: &impl Print,
+    input: &mut impl Read,
+    buffer: &mut [u8],
+    window: &mut Window,
+    kept: &mut Kept,
+    page: &mut [u8],
+    at: usize,
+) -> io::Result<Result<usize, Halt>>
+    requires { Within (length buffer.old) window.old }
+    ensures { Within (length buffer.old) window.new }
+{
+    // No bookings are answered, so no place is lent for their minutes.
+    let heard = match reading::next_call(input, buffer, window, &mut [], 0) {
+        Ok(heard) => heard,
+        Err(halt) => return Ok(Err(halt)),
+    };
+    match answer_call(rt, kept, heard.asked, buffer, page, at)? {
+        Some(next) => Ok(Ok(next)),
+        None => Ok(Err(Halt::BadLine(heard.line))),
     }
 }
 
@@ -248,19 +190,23 @@ fn run(
     buffer: &mut [u8],
     page: &mut [u8],
 ) -> io::Result<()> {
-    // No bookings are answered, so no place is lent for their minutes.
-    let mut minutes = [0u32; 0];
-    let mut step = left(nothing(), 0);
+    let mut kept = Kept {
+        table: None,
+        station: None,
+    };
     let mut window = input::start();
-    let mut calls = u64::MAX;
-    while 0 < calls && step.more {
-        let heard = reading::next_call(input, buffer, window, &mut minutes, 0);
-        let next = heard.window;
-        window = next;
-        step = answer_call(rt, heard, step.kept, buffer, page, step.at)?;
-        calls -= 1;
+    let mut at = 0;
+    for _call in 0..u64::MAX {
+        match answer_next(rt, input, buffer, &mut window, &mut kept, page, at)? {
+            Ok(next) => at = next,
+            Err(Halt::End) => break,
+            Err(Halt::BadLine(line)) => {
+                at = answers::put_script(rt, page, at, line)?;
+                break;
+            }
+        }
     }
-    output::flush(rt, page, step.at)?;
+    output::flush(rt, page, at)?;
     Ok(())
 }
 

@@ -14,6 +14,3 @@ use Rattle.card.proofs.small_row.Given as goal
 
 abbrev pub invariant-loop-k : goal.invariant-loop-k
 invariant-loop-k l = (l.k ≤ l.count) × (length l.values ≡ 6) × (numbers_from l.line (row_field l.row) (take l.k l.values) l.k (l.count - l.k) ≡ numbers l.line (row_field l.row) l.count)
-
-abbrev pub decreases-loop-k : goal.decreases-loop-k
-decreases-loop-k l = l.count - l.k

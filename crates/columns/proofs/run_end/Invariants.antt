@@ -12,6 +12,3 @@ use Rattle.columns.proofs.run_end.Given as goal
 
 abbrev pub invariant-loop-i : goal.invariant-loop-i
 invariant-loop-i l = l.i + length (leading (among l.low l.high) (columns l.line l.i (l.end - l.i))) ≡ l.k + length (leading (among l.low l.high) (columns l.line l.k (l.end - l.k)))
-
-abbrev pub decreases-loop-i : goal.decreases-loop-i
-decreases-loop-i l = l.end - l.i

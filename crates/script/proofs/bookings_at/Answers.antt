@@ -1,13 +1,11 @@
--- `script::bookings_at` meets its contract, by what `two_at` says. Assumes nothing.
-use Rattle.script.specs.Script.{bookings_of}
+-- `script::bookings_at` meets its contract, by what `numbers_at` says. Assumes nothing.
+use Rattle.script.proofs.Numbers.{bookings-is}
 use Rattle.script.proofs.bookings_at.Goals as goal
 
-pub returns-in_default : goal.returns-in_default
-unfolding bookings_of
-returns-in_default c =
-    rw (← c.two_at-two.ensures, c.in_default.is)
+pub returns-in_err-count : goal.returns-in_err-count
+returns-in_err-count c =
+    rw c.from_residual.ensures (rw c.in_err-count.was at (bookings-is _ _ c.numbers_at.ensures))
 
 pub returns : goal.returns
-unfolding bookings_of
 returns c =
-    rw (← c.two_at-two.ensures, c.in-Numbers.is)
+    rw c.in_ok-count.was at (bookings-is _ _ c.numbers_at.ensures)

@@ -1,13 +1,11 @@
--- `script::cards_at` meets its contract, by what `last_at` says. Assumes nothing.
-use Rattle.script.specs.Script.{cards_of}
+-- `script::cards_at` meets its contract, by what `numbers_at` says. Assumes nothing.
+use Rattle.script.proofs.Numbers.{cards-is}
 use Rattle.script.proofs.cards_at.Goals as goal
 
-pub returns-in_default : goal.returns-in_default
-unfolding cards_of
-returns-in_default c =
-    rw (← c.last_at-last.ensures, c.in_default.is)
+pub returns-in_err-bytes : goal.returns-in_err-bytes
+returns-in_err-bytes c =
+    rw c.from_residual.ensures (rw c.in_err-bytes.was at (cards-is _ _ c.numbers_at.ensures))
 
 pub returns : goal.returns
-unfolding cards_of
 returns c =
-    rw (← c.last_at-last.ensures, c.in-Value.is)
+    rw c.in_ok-bytes.was at (cards-is _ _ c.numbers_at.ensures)

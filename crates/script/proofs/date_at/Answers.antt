@@ -1,13 +1,11 @@
--- `script::date_at` meets its contract, by what `two_at` says. Assumes nothing.
-use Rattle.script.specs.Script.{date_of}
+-- `script::date_at` meets its contract, by what `numbers_at` says. Assumes nothing.
+use Rattle.script.proofs.Numbers.{date-is}
 use Rattle.script.proofs.date_at.Goals as goal
 
-pub returns-in_default : goal.returns-in_default
-unfolding date_of
-returns-in_default c =
-    rw (← c.two_at-two.ensures, c.in_default.is)
+pub returns-in_err-year : goal.returns-in_err-year
+returns-in_err-year c =
+    rw c.from_residual.ensures (rw c.in_err-year.was at (date-is _ _ c.numbers_at.ensures))
 
 pub returns : goal.returns
-unfolding date_of
 returns c =
-    rw (← c.two_at-two.ensures, c.in-Numbers.is)
+    rw c.in_ok-year.was at (date-is _ _ c.numbers_at.ensures)

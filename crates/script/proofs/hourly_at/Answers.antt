@@ -1,13 +1,11 @@
--- `script::hourly_at` meets its contract, by what `two_at` says. Assumes nothing.
-use Rattle.script.specs.Script.{hourly_of}
+-- `script::hourly_at` meets its contract, by what `numbers_at` says. Assumes nothing.
+use Rattle.script.proofs.Numbers.{hourly-is}
 use Rattle.script.proofs.hourly_at.Goals as goal
 
-pub returns-in_default : goal.returns-in_default
-unfolding hourly_of
-returns-in_default c =
-    rw (← c.two_at-two.ensures, c.in_default.is)
+pub returns-in_err-station : goal.returns-in_err-station
+returns-in_err-station c =
+    rw c.from_residual.ensures (rw c.in_err-station.was at (hourly-is _ _ c.numbers_at.ensures))
 
 pub returns : goal.returns
-unfolding hourly_of
 returns c =
-    rw (← c.two_at-two.ensures, c.in-Numbers.is)
+    rw c.in_ok-station.was at (hourly-is _ _ c.numbers_at.ensures)

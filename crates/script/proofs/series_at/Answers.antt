@@ -1,23 +1,11 @@
--- `script::series_at` meets its contract, by what is read of each number in turn. Assumes nothing.
-use Rattle.script.specs.Script.{series_of}
+-- `script::series_at` meets its contract, by what `numbers_at` says. Assumes nothing.
+use Rattle.script.proofs.Numbers.{series-is}
 use Rattle.script.proofs.series_at.Goals as goal
 
-pub returns-in_default : goal.returns-in_default
-unfolding series_of
-returns-in_default c =
-    rw (← c.field_at-first.ensures, c.in_default.is)
-
-pub returns-in_default-second : goal.returns-in_default-second
-unfolding series_of
-returns-in_default-second c =
-    rw (← c.field_at-first.ensures, c.in-Read.is, ← c.field_at-second.ensures, c.in_default-second.is)
-
-pub returns-in_default-last : goal.returns-in_default-last
-unfolding series_of
-returns-in_default-last c =
-    rw (← c.field_at-first.ensures, c.in-Read.is, ← c.field_at-second.ensures, c.in-Read-second.is, ← c.last_at-last.ensures, c.in_default-last.is)
+pub returns-in_err-start : goal.returns-in_err-start
+returns-in_err-start c =
+    rw c.from_residual.ensures (rw c.in_err-start.was at (series-is _ _ c.numbers_at.ensures))
 
 pub returns : goal.returns
-unfolding series_of
 returns c =
-    rw (← c.field_at-first.ensures, c.in-Read.is, ← c.field_at-second.ensures, c.in-Read-second.is, ← c.last_at-last.ensures, c.in-Value.is)
+    rw c.in_ok-start.was at (series-is _ _ c.numbers_at.ensures)

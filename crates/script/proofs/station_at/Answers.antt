@@ -15,17 +15,17 @@ use Rattle.script.proofs.station_at.Goals as goal
 strides-behind : (latitude : ℤ) (count : ℕ) (l : List ℕ) (i : ℕ) → i ≤ length l → behind_count latitude count (words_from l i) ≡ with_strides latitude count (words_from l i)
 strides-behind latitude count l i h = rw (from_next l i h)
 
-pub returns-in_default : goal.returns-in_default
+pub returns-in_err-count : goal.returns-in_err-count
 unfolding station_at
-returns-in_default c =
-    rw (← c.field_at-field.ensures, c.in_default.is)
+returns-in_err-count c =
+    rw (c.from_residual.ensures, ← c.field_at.ensures, c.in_err-count.was)
 
-pub returns-then-line-next : goal.returns-then-line-next
+pub returns-then-line-count : goal.returns-then-line-count
 unfolding station_at
-returns-then-line-next c =
-    rw (← c.field_at-field.ensures, c.in-Read.is, from_past _ _ c.if-line-next.true, ← c.usual.ensures, to_z-of_z w32 _ c.ranges.latitude)
+returns-then-line-count c =
+    rw (← c.field_at.ensures, c.in_ok-count.was, from_past _ _ c.if-line-count.true, ← c.usual.ensures, to_z-of_z w32 _ c.ranges.latitude)
 
 pub returns : goal.returns
 unfolding station_at
 returns c =
-    rw (← c.field_at-field.ensures, c.in-Read.is, strides-behind _ _ _ _ c.if-line-next.false) (rw (to_z-of_z w32 _ c.ranges.latitude) at c.strides_at.ensures)
+    rw (← c.field_at.ensures, c.in_ok-count.was, strides-behind _ _ _ _ c.if-line-count.false) (rw (to_z-of_z w32 _ c.ranges.latitude) at c.strides_at.ensures)

@@ -7,16 +7,17 @@ use Prim.Native.Nat.{ℕ, zero, suc, ◌+◌, ◌-◌, ◌≤◌, ◌<◌}
 use native.Mathlib.Nat.{not-suc-le-zero, le_of_suc-le-suc, suc-add, zero-add, add-zero}
 use native.Mathlib.Numerals.{add-one}
 use native.Mathlib.Omega.{arith}
-use lib.Dec.{eqb, leb}
-use borrow.Author.Tests.{leb-true}
-use lib.ListN.{length, get_or, take, drop}
-use lib.Seq.{drop-cons}
+use lib.Dec.{eqb, leb, ltb}
+use borrow.Author.Tests.{leb-true, ltb-false}
+use lib.ListN.{length, get_or, set, take, drop}
+use lib.Seq.{drop-cons, take-suc-set, take_all}
 use Rattle.columns.specs.Lines.{in_front}
-use Rattle.script.specs.declared.Number.{Number}
-use Rattle.script.specs.declared.Number.TheVariants.{Value, NoNumber}
-use Rattle.script.specs.Words.{words, number, is_digit, with_digit, number_after, read, reading_of, reading, ended}
+use Rattle.std.specs.Prelude.{Option, Some, None}
+use Rattle.std.specs.Option.{unwrap_or}
+use Rattle.std.specs.List.{position_or_len}
+use Rattle.std.proofs.lemmas.List.Recursion.{is_position_or_len}
+use Rattle.script.specs.Words.{words, number, is_digit, with_digit, number_after, read, unread, reading_of, reading, largest, numbers_after}
 use Rattle.script.specs.declared.words.Field.{Field}
-use Rattle.script.specs.declared.words.Field.TheVariants.{Read}
 use Rattle.script.specs.inner.Left.{words_from, word_length, reading_at}
 
 -- ---- what is left of a list
@@ -53,6 +54,18 @@ word-short (b ∷ bs) = go (eqb b 32) (word-short bs)
     go true h = omega arith
     go false h = omega arith
 
+-- a word ends at the first blank
+word-is : (s : List ℕ) → word_length s ≡ position_or_len (λ b. eqb b 32) s
+unfolding word_length
+word-is s = is_position_or_len word_length (λ b. eqb b 32) refl (λ x xs. let e : 1 + word_length xs ≡ suc (word_length xs) = omega arith in rw e) s
+
+pub first-blank : (s : List ℕ) → unwrap_or (cond (ltb (position_or_len (λ b. eqb b 32) s) (length s)) (Some (position_or_len (λ b. eqb b 32) s)) None) (length s) ≡ word_length s
+first-blank s = rw (← word-is s) (go (ltb (word_length s) (length s)) refl)
+  where
+    go : (t : Bool) → ltb (word_length s) (length s) ≡ t → unwrap_or (cond t (Some (word_length s)) None) (length s) ≡ word_length s
+    go true h = refl
+    go false h = omega (arith, ltb-false _ _ h, word-short s)
+
 -- the first word, and those behind the blank that ends it
 pub words-first : (s : List ℕ) → words s ≡ take (word_length s) s ∷ words_from s (suc (word_length s))
 unfolding words word_length words_from
@@ -88,28 +101,48 @@ from_next l i h =
     from-within l i h ∙ words-first (drop i l) ∙ rw (e, from-add l i (suc (word_length (drop i l))) h)
 
 -- what a word says as a number, with the words behind it, is what the line's words begin with
-pub reading-is : (l : List ℕ) (i e most : ℕ) (n : Number) → i ≤ length l → e ≡ i + word_length (drop i l) → n ≡ number most (take (e - i) (drop i l))
+pub reading-is : (l : List ℕ) (i e most : ℕ) (n : Option ℕ) → i ≤ length l → e ≡ i + word_length (drop i l) → n ≡ number most (take (e - i) (drop i l))
     → reading_of n (words_from l (e + 1)) ≡ reading most (words_from l i)
 reading-is l i e most n h he hn =
     let w : e - i ≡ word_length (drop i l) = omega arith in
     rw (hn, w, he, from_next l i h)
 
--- a number is the last where the next word begins past the line's end
-pub not-ended : (l : List ℕ) (i n : ℕ) → i ≤ length l → ended (words_from l i) n ≡ NoNumber
-not-ended l i n h = rw (from_next l i h)
-
 -- the line's words: the first, and those behind it
 pub words_are : (l : List ℕ) (e : ℕ) → e ≡ word_length (drop 0 l) → words l ≡ take e l ∷ words_from l (e + 1)
 words_are l e h = rw (h, add-one (word_length l)) (words-first l)
 
+-- ---- so many numbers
+
+-- one more of them, read and put behind those in front
+pub numbers-more : (ns : List ℕ) (i n v : ℕ) (ws vs : List (List ℕ)) → i < length ns → length ns ≡ n → read v vs ≡ reading largest ws
+    → numbers_after (take (i + 1) (set ns i v)) (n - (i + 1)) vs ≡ numbers_after (take i ns) (n - i) ws
+unfolding numbers_after
+numbers-more ns i n v ws vs h e r =
+    let s : n - i ≡ suc (n - (i + 1)) = omega arith in
+    rw (s, ← r, add-one i, take-suc-set ns i v h)
+
+-- one that is not there
+pub numbers-none : (ns : List ℕ) (i n : ℕ) (ws : List (List ℕ)) → i < n → unread ≡ reading largest ws → None ≡ numbers_after (take i ns) (n - i) ws
+unfolding numbers_after
+numbers-none ns i n ws h r = let s : n - i ≡ suc (n - (i + 1)) = omega arith in rw (s, ← r)
+
+-- all of them, where a word is left behind, and where none is
+pub numbers-behind : (ns : List ℕ) (i n : ℕ) (l : List ℕ) (k : ℕ) → n ≤ i → k ≤ length l → None ≡ numbers_after (take i ns) (n - i) (words_from l k)
+unfolding numbers_after
+numbers-behind ns i n l k h b = let z : n - i ≡ 0 = omega arith in rw (z, from_next l k b)
+
+pub numbers-all : (ns : List ℕ) (i n : ℕ) (l : List ℕ) (k : ℕ) → n ≤ i → length ns ≡ n → length l < k → Some ns ≡ numbers_after (take i ns) (n - i) (words_from l k)
+unfolding numbers_after
+numbers-all ns i n l k h e b = let z : n - i ≡ 0 = omega arith in rw (z, from_past l k b, take_all i ns (omega arith))
+
 -- a number that is read is at most the largest allowed
-after-most : (most n m : ℕ) (w : List ℕ) → n ≤ most → number_after most n w ≡ Value m → m ≤ most
+after-most : (most n m : ℕ) (w : List ℕ) → n ≤ most → number_after most n w ≡ Some m → m ≤ most
 unfolding number_after
 after-most most n m [] h e = let k : n ≡ m = cc in omega arith
 after-most most n m (b ∷ bs) h e = go (is_digit b) (leb (with_digit n b) most) refl (after-most most (with_digit n b) m bs) e
   where
-    go : (t u : Bool) → leb (with_digit n b) most ≡ u → (with_digit n b ≤ most → number_after most (with_digit n b) bs ≡ Value m → m ≤ most)
-        → cond t (cond u (number_after most (with_digit n b) bs) NoNumber) NoNumber ≡ Value m → m ≤ most
+    go : (t u : Bool) → leb (with_digit n b) most ≡ u → (with_digit n b ≤ most → number_after most (with_digit n b) bs ≡ Some m → m ≤ most)
+        → cond t (cond u (number_after most (with_digit n b) bs) None) None ≡ Some m → m ≤ most
     go true true k more f = more (leb-true _ _ k) f
     go true false k more f = let z : ◌≡◌ {A = ℕ} 0 1 = cc in omega arith
     go false u k more f = let z : ◌≡◌ {A = ℕ} 0 1 = cc in omega arith
@@ -120,9 +153,9 @@ reading-most most m [] vs e = let z : ◌≡◌ {A = ℕ} 0 1 = cc in omega arit
 reading-most most m ([] ∷ ws) vs e = let z : ◌≡◌ {A = ℕ} 0 1 = cc in omega arith
 reading-most most m ((b ∷ bs) ∷ ws) vs e = go (number_after most 0 (b ∷ bs)) refl e
   where
-    go : (x : Number) → number_after most 0 (b ∷ bs) ≡ x → reading_of x ws ≡ read m vs → m ≤ most
-    go (Value k) f g = let q : k ≡ m = cc in after-most most 0 m (b ∷ bs) (omega arith) (f ∙ ap Value q)
-    go NoNumber f g = let z : ◌≡◌ {A = ℕ} 0 1 = cc in omega arith
+    go : (x : Option ℕ) → number_after most 0 (b ∷ bs) ≡ x → reading_of x ws ≡ read m vs → m ≤ most
+    go (Some k) f g = let q : k ≡ m = cc in after-most most 0 m (b ∷ bs) (omega arith) (f ∙ ap Some q)
+    go None f g = let z : ◌≡◌ {A = ℕ} 0 1 = cc in omega arith
 
-pub field-most : (l : List ℕ) (i most : ℕ) (f : Field) (n next : ℕ) → reading_at l f ≡ reading most (words_from l i) → f ≡ Read n next → n ≤ most
-field-most l i most f n next e h = reading-most most n (words_from l i) (words_from l next) (sym e ∙ ap (reading_at l) h)
+pub field-most : (l : List ℕ) (i most : ℕ) (o : Option Field) (f : Field) → reading_at l o ≡ reading most (words_from l i) → o ≡ Some f → f.value ≤ most
+field-most l i most o f e h = reading-most most f.value (words_from l i) (words_from l f.next) (sym e ∙ ap (reading_at l) h)

@@ -1,17 +1,15 @@
 -- Only inner contracts cite this: where what is read and not yet taken stands in a buffer of n bytes, and the line feeds there. Assumes nothing.
-use Rattle.std.specs.Prelude.{ℕ, zero, suc, ◌+◌, ◌%◌, ◌^◌, ◌≤◌, Bool, true, false, List, ◌==◌, slice_index}
+use Rattle.std.specs.Prelude.{ℕ, zero, suc, ◌+◌, ◌%◌, ◌^◌, ◌<◌, ◌≤◌, Option, IfSome, Bool, true, false, List, ◌==◌, slice_index}
 use Rattle.transcript.specs.declared.input.Window.{Window}
-use Rattle.transcript.specs.declared.input.Line.{Line}
 
 pub record Within (n : ℕ) (w : Window) : Type 0 where
   pub ordered : w.from ≤ w.to
   pub inside : w.to ≤ n
 
--- a line that begins where the window does and ends in it
-pub record Ends (n : ℕ) (l : Line) : Type 0 where
-  pub within : Within n l.window
-  pub behind : l.window.from ≤ l.end
-  pub before : l.end ≤ l.window.to
+-- where a line ends that begins where the window does: in the window, if its LF was read
+pub record Ends (n : ℕ) (w : Window) (end : Option ℕ) : Type 0 where
+  pub within : Within n w
+  pub inside : IfSome end (λ e. (w.from ≤ e) × (e < w.to))
 
 -- 1 where a test holds, else 0
 abbrev pub one_if : Bool → ℕ

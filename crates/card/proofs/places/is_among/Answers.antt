@@ -23,13 +23,13 @@ overflow_mul-width c =
     let n : c.loop-k.k ≤ most_frequencies = omega arith in
     omega (arith, mul-le-mul w n)
 
-pub returns-then-place-at_u16 : goal.returns-then-place-at_u16
-returns-then-place-at_u16 c =
-    rw (among-more c.args.place c.args.width c.args.cards.now c.loop-k.k c.args.count c.loop-k-test.true, ← c.at_u16.ensures, eq-eqb _ _ c.if-place-at_u16.true) at c.loop-k.invariant
+pub returns-then-place-at : goal.returns-then-place-at
+returns-then-place-at c =
+    rw (among-more c.args.place c.args.width c.args.cards.now c.loop-k.k c.args.count c.loop-k-test.true, ← c.at.ensures, eq-eqb _ _ c.if-place-at.true) at c.loop-k.invariant
 
 pub loop-k-preserved : goal.loop-k-preserved
 loop-k-preserved c =
-    rw (among-more c.args.place c.args.width c.args.cards.now c.loop-k.k c.args.count c.loop-k-test.true, ← c.at_u16.ensures, ne_eqb _ _ c.if-place-at_u16.false) at c.loop-k.invariant
+    rw (among-more c.args.place c.args.width c.args.cards.now c.loop-k.k c.args.count c.loop-k-test.true, ← c.at.ensures, ne_eqb _ _ c.if-place-at.false) at c.loop-k.invariant
 
 pub returns : goal.returns
 returns c =

@@ -14,6 +14,3 @@ use Rattle.card.proofs.places.is_among.Given as goal
 
 abbrev pub invariant-loop-k : goal.invariant-loop-k
 invariant-loop-k l = is_among l.place (listed (λ i. get_or l.cards (l.width * i) 0) l.k (l.count - l.k)) ≡ is_among l.place (places_in l.width l.cards l.count)
-
-abbrev pub decreases-loop-k : goal.decreases-loop-k
-decreases-loop-k l = l.count - l.k

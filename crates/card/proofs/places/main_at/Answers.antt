@@ -15,13 +15,13 @@ pub loop-k-init : goal.loop-k-init
 loop-k-init c =
     rw (sub-zero c.args.count)
 
-pub returns-then-place-at_u16 : goal.returns-then-place-at_u16
-returns-then-place-at_u16 c =
-    rw (main-more c.args.place 3 c.args.cards.now c.loop-k.k c.args.count c.args.j c.loop-k-test.true, ← c.at_u16.ensures, eq-eqb _ _ c.if-place-at_u16.true) at c.loop-k.invariant
+pub returns-then-place-at : goal.returns-then-place-at
+returns-then-place-at c =
+    rw (main-more c.args.place 3 c.args.cards.now c.loop-k.k c.args.count c.args.j c.loop-k-test.true, ← c.at.ensures, eq-eqb _ _ c.if-place-at.true) at c.loop-k.invariant
 
 pub loop-k-preserved : goal.loop-k-preserved
 loop-k-preserved c =
-    rw (main-more c.args.place 3 c.args.cards.now c.loop-k.k c.args.count c.args.j c.loop-k-test.true, ← c.at_u16.ensures, ne_eqb _ _ c.if-place-at_u16.false) at c.loop-k.invariant
+    rw (main-more c.args.place 3 c.args.cards.now c.loop-k.k c.args.count c.args.j c.loop-k-test.true, ← c.at.ensures, ne_eqb _ _ c.if-place-at.false) at c.loop-k.invariant
 
 pub returns : goal.returns
 returns c =

@@ -12,6 +12,3 @@ use Rattle.card.proofs.places.main_at.Given as goal
 
 abbrev pub invariant-loop-k : goal.invariant-loop-k
 invariant-loop-k l = main_at l.j l.place (listed (λ i. get_or l.cards (3 * i) 0) l.k (l.count - l.k)) l.k ≡ main_at l.j l.place (places_in 3 l.cards l.count) 0
-
-abbrev pub decreases-loop-k : goal.decreases-loop-k
-decreases-loop-k l = l.count - l.k

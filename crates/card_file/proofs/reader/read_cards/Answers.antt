@@ -16,4 +16,4 @@ returns-in-Reached c =
 pub returns-in-Refused : goal.returns-in-Refused
 unfolding cards_outcome
 returns-in-Refused c =
-    rw c.refusal_for.ensures (sym (ap outcome_in (sym c.parse_cards-parsed.ensures) ∙ ap (λ (q : Progress). outcome_in (reading_gives c.args.file.now q (table_of c.parse_cards-parsed.result.table))) c.in-Refused.is))
+    rw (c.at.ensures, c.refusal_for.ensures) (sym (ap outcome_in (sym c.parse_cards-parsed.ensures) ∙ ap (λ (q : Progress). outcome_in (reading_gives c.args.file.now q (table_of c.parse_cards-parsed.result.table))) c.in-Refused.is))

@@ -9,6 +9,3 @@ use Rattle.columns.proofs.names.find_name.Given as goal
 
 abbrev pub invariant-loop-k : goal.invariant-loop-k
 invariant-loop-k l = place_from (columns l.part 0 5) (names_from l.names l.k (l.count - l.k)) l.k ≡ place_of (columns l.part 0 5) (names_from l.names 0 l.count)
-
-abbrev pub decreases-loop-k : goal.decreases-loop-k
-decreases-loop-k l = l.count - l.k

@@ -11,11 +11,11 @@ use Rattle.columns.proofs.names.same_name.Goals as goal
 
 pub loop-j-preserved : goal.loop-j-preserved
 loop-j-preserved c =
-    rw (same_more 32 0 c.args.part.now c.args.row.now c.loop-j.j 5 (omega arith), ← c.column.ensures, ← c.byte.ensures, eq-eqb _ _ c.if-column-byte.true) at c.loop-j.invariant
+    rw (same_more 32 0 c.args.part.now c.args.row.now c.loop-j.j 5 (omega arith), ← c.column.ensures, ← c.byte.ensures, eq-eqb _ _ c.if-column-byte.false) at c.loop-j.invariant
 
-pub returns-else-column-byte : goal.returns-else-column-byte
-returns-else-column-byte c =
-    rw (same_more 32 0 c.args.part.now c.args.row.now c.loop-j.j 5 (omega arith), ← c.column.ensures, ← c.byte.ensures, ne_eqb _ _ c.if-column-byte.false) at c.loop-j.invariant
+pub returns-then-column-byte : goal.returns-then-column-byte
+returns-then-column-byte c =
+    rw (same_more 32 0 c.args.part.now c.args.row.now c.loop-j.j 5 (omega arith), ← c.column.ensures, ← c.byte.ensures, ne_eqb _ _ c.if-column-byte.true) at c.loop-j.invariant
 
 pub returns : goal.returns
 returns c =

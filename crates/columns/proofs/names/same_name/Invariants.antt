@@ -10,6 +10,3 @@ use Rattle.columns.proofs.names.same_name.Given as goal
 
 abbrev pub invariant-loop-j : goal.invariant-loop-j
 invariant-loop-j l = same (columns l.part l.j (5 - l.j)) (padded 0 l.row l.j (5 - l.j)) ≡ same (columns l.part 0 5) (padded 0 l.row 0 5)
-
-abbrev pub decreases-loop-j : goal.decreases-loop-j
-decreases-loop-j l = 5 - l.j

@@ -11,6 +11,3 @@ use Rattle.fields.proofs.numerals.numeral.Given as goal
 
 abbrev pub invariant-loop-i : goal.invariant-loop-i
 invariant-loop-i l = (l.v ≤ cap) × (min cap (spec.numeral l.v (columns l.field l.i (l.end - l.i))) ≡ min cap (spec.numeral l.before (columns l.field l.k (l.end - l.k))))
-
-abbrev pub decreases-loop-i : goal.decreases-loop-i
-decreases-loop-i l = l.end - l.i

@@ -9,8 +9,5 @@ use Rattle.fields.specs.inner.Cap.{cap}
 use Rattle.fields.proofs.numerals.Digits.{zeros-more, zeros-none, capped-before}
 use Rattle.fields.proofs.numerals.zeros.Given as goal
 
-abbrev pub invariant-loop-i : goal.invariant-loop-i
-invariant-loop-i l = (l.v ≤ cap) × (min cap (spec.numeral l.v (replicate (l.n - l.i) 48)) ≡ min cap (spec.numeral l.before (replicate l.n 48)))
-
-abbrev pub decreases-loop-i : goal.decreases-loop-i
-decreases-loop-i l = l.n - l.i
+abbrev pub invariant-loop : goal.invariant-loop
+invariant-loop l = (l.v ≤ cap) × (min cap (spec.numeral l.v (replicate (l.n - l.counter) 48)) ≡ min cap (spec.numeral l.before (replicate l.n 48)))

@@ -4,7 +4,4 @@ use Rattle.files.specs.Crc.{bits_of, divided}
 use Rattle.files.proofs.checksum.byte.Given as goal
 
 abbrev pub invariant-loop-i : goal.invariant-loop-i
-invariant-loop-i l = divided l.r (bits_of (8 - l.i) l.rest) ≡ divided l.register (bits_of 8 l.b)
-
-abbrev pub decreases-loop-i : goal.decreases-loop-i
-decreases-loop-i l = 8 - l.i
+invariant-loop-i l = divided l.r (bits_of (8 - l._i) l.rest) ≡ divided l.register (bits_of 8 l.b)

@@ -22,5 +22,5 @@ unfolding row_corrected row_satellites
 returns c =
     let g = factors_of c.args.given.factors in
     let l = nodal (longitudes_of c.args.given.longitudes) in
-    ap checked ((rw c.nodal_of-l.ensures.result_value at c.main_sum.ensures.result_value) ∙ ap₂ (λ (first count : ℕ). main_pair g l (listed (satellite_of c.args.angles.now c.args.ratios.now) first count)) c.natural_at-first.ensures c.natural_at-count.ensures)
+    ap checked ((rw c.nodal_of-l.ensures.result_value at c.main_sum.ensures.result_value) ∙ ap₂ (λ (first count : ℕ). main_pair g l (listed (satellite_of c.args.angles.now c.args.ratios.now) first count)) c.entry_at-first.ensures c.entry_at-count.ensures)
     ∙ entry_at (good start_pair) (row_corrected g l c.args.cards.now c.args.angles.now c.args.ratios.now) c.args.given.mains c.args.k c.if-given-k.false

@@ -6,10 +6,10 @@ pub returns-then-line-at : goal.returns-then-line-at
 returns-then-line-at c =
     rw (from_past _ _ c.if-line-at.true)
 
-pub returns-in-Value : goal.returns-in-Value
-returns-in-Value c =
-    rw c.in-Value.is at (reading-is c.args.line.now c.args.at c.word_end-end.result c.args.most c.number_of-number.result c.if-line-at.false c.word_end-end.ensures.value c.number_of-number.ensures)
+pub returns-in_err-value : goal.returns-in_err-value
+returns-in_err-value c =
+    rw c.from_residual.ensures (rw c.in_err-value.was at (reading-is c.args.line.now c.args.at c.word_end-end.result c.args.most c.number_of.result c.if-line-at.false c.word_end-end.ensures.value c.number_of.ensures))
 
-pub returns-in-NoNumber : goal.returns-in-NoNumber
-returns-in-NoNumber c =
-    rw c.in-NoNumber.is at (reading-is c.args.line.now c.args.at c.word_end-end.result c.args.most c.number_of-number.result c.if-line-at.false c.word_end-end.ensures.value c.number_of-number.ensures)
+pub returns : goal.returns
+returns c =
+    rw c.in_ok-value.was at (reading-is c.args.line.now c.args.at c.word_end-end.result c.args.most c.number_of.result c.if-line-at.false c.word_end-end.ensures.value c.number_of.ensures)

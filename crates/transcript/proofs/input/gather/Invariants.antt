@@ -1,10 +1,7 @@
--- Each read leaves the window in the buffer. The measure is the turns left.
+-- Each read leaves the window in the buffer.
 use Rattle.std.proofs.Common.{◌≡◌, length}
 use Rattle.transcript.specs.inner.Window.{Within}
 use Rattle.transcript.proofs.input.gather.Given as goal
 
-abbrev pub invariant-loop-turns : goal.invariant-loop-turns
-invariant-loop-turns g l = (length l.buffer ≡ length l.initial.buffer) × Within (length l.initial.buffer) l.held
-
-abbrev pub decreases-loop-turns : goal.decreases-loop-turns
-decreases-loop-turns g l = l.turns
+abbrev pub invariant-loop-turn : goal.invariant-loop-turn
+invariant-loop-turn g l = (length l.buffer ≡ length l.initial.buffer) × Within (length l.initial.buffer) l.window
