@@ -1,18 +1,16 @@
 -- Laws of number fields: what a range tells of the number in it, and a row of fields with one field more.
 -- By cases on the signs, and by the clauses of the definitions. Assumes nothing.
-use mathlib.Core.Path.{◌≡◌, refl, ap, ◌∙◌}
-use Prim.Native.Nat.{ℕ, zero, suc, ◌+◌, ◌-◌, ◌^◌, ◌≤◌, ◌<◌}
+use mathlib.Core.Path.{◌≡◌, refl, ap}
+use Prim.Native.Nat.{ℕ, suc, ◌+◌, ◌-◌, ◌≤◌, ◌<◌}
 use mathlib.Core.List.{List, [], ◌∷◌, ◌++◌}
-use mathlib.Core.Bool.{Bool, true, false, false≢true, cond, ◌&&◌}
-use lib.Dec.{T}
+use mathlib.Core.Bool.{true}
 use lib.ListN.{length, set, take}
 use lib.Seq.{take-suc-set}
-use lib.IntN.{ℤ, pos, negsuc, neg_ℤ, nat_abs, ◌-ℤ◌, +ℤ_idl}
-use lib.Signed.{le_z, non_neg}
-use mir.Syntax.{w8, w64}
-use mir.Val.{SFits, to_z, of_z}
-use mir.ValLaws.{to_z-of_z}
-use borrow.Author.Tests.{leb-true, le-leb}
+use lib.IntN.{ℤ, pos, negsuc, neg_ℤ}
+use lib.Signed.{le_z}
+use mir.Syntax.{w8}
+use mir.Val.{SFits}
+use borrow.Author.Tests.{leb-true}
 use native.Mathlib.Omega.{arith}
 use native.Mathlib.Numerals.{add-one}
 use Rattle.fields.specs.Number as field
@@ -20,7 +18,6 @@ use Rattle.fields.specs.Number.{ranged}
 use Rattle.std.specs.Prelude.{Result, Ok, Err}
 use Rattle.fields.specs.declared.FieldError.{FieldError}
 use Rattle.fields.proofs.Ranges.{ranged-within, le_z-trans}
-use Rattle.columns.specs.Columns.{columns}
 use Rattle.card.specs.declared.formats.NumberField.{NumberField}
 use Rattle.card.specs.declared.formats.Row.{Row}
 use Rattle.card.specs.declared.formats.Row.TheVariants as row

@@ -1,5 +1,5 @@
 -- 01, "Turned down by the input": what is wrong with a refused card, and the number that it earns.
-use Rattle.std.specs.Prelude.{ℕ, List, cond, ltb, length}
+use Rattle.std.specs.Prelude.{ℕ, List, cond, ltb, length, None}
 use Rattle.limits.specs.Limits.{most_columns}
 use Rattle.refusals.specs.Outcome.{number_of}
 use Rattle.refusals.specs.declared.Refusal.{Refusal}
@@ -57,7 +57,7 @@ fault_number fault = number_of (refusal_for fault.trouble)
 
 -- a fault of a thing of which there is one only
 abbrev pub only : What → Trouble → Fault
-only what trouble = record { what = what; which = 0; trouble = trouble }
+only what trouble = record { what = what; which = None; trouble = trouble }
 
 -- a line that is not good: which of 1's two it is
 unfoldable pub bad_line : List ℕ → Fault

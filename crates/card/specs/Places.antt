@@ -9,7 +9,7 @@ use Rattle.card.specs.Card.{Card}
 
 -- "5 part not a main", of part j, from 0
 abbrev pub not_main : ℕ → Fault
-not_main j = record { what = PartName; which = j + 1; trouble = NotMain }
+not_main j = record { what = PartName; which = Some (j + 1); trouble = NotMain }
 
 abbrev pub part_found : ℕ → Option ℕ → Card ℕ
 part_found j (Some place) = good place

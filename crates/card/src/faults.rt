@@ -72,11 +72,11 @@ impl From<FieldError> for Trouble {
     }
 }
 
-// What is at fault, which of several, from 1 (0: there is one only), and what is wrong with it.
+// What is at fault, which of several, from 1 (none: there is one only), and what is wrong with it.
 #[derive(Clone, Copy)]
 pub struct Fault {
     pub what: What,
-    pub which: usize,
+    pub which: Option<usize>,
     pub trouble: Trouble,
 }
 
@@ -86,7 +86,7 @@ pub fn only(what: What, trouble: Trouble) -> Fault
 {
     Fault {
         what,
-        which: 0,
+        which: None,
         trouble,
     }
 }

@@ -22,14 +22,14 @@ use formats::{NumberField, RATIO, Row, fault_in};
 pub fn field_on(line: &[u8], f: NumberField) -> Result<i64, FieldError>
     ensures { result ≡ field_on line.now f }
 {
-    let format = f.format;
-    fields::ranged_field(line, f.from, f.width, format, f.low, f.high)
+    fields::ranged_field(line, f.from, f.width, f.format, f.low, f.high)
 }
 
 // The number in a field of the line, or what is wrong with it.
 fn number(line: &[u8], f: NumberField) -> Result<i64, Fault>
     ensures { card_gives (λ v. v) result ≡ number line.now f }
 {
+    // No `map_err`: `has-the-clock` of claim_runs cannot have std's code.
     match field_on(line, f) {
         Ok(value) => Ok(value),
         Err(error) => Err(fault_in(f, Trouble::from(error))),
@@ -41,6 +41,7 @@ pub fn small_field(line: &[u8], f: NumberField) -> Result<i8, Fault>
     requires { IsSmall f }
     ensures { card_gives (λ v. v) result ≡ number line.now f }
 {
+    // No `?`: `has-the-clock` of claim_runs cannot have std's code.
     match number(line, f) {
         Ok(value) => Ok(value as i8),
         Err(fault) => Err(fault),
@@ -53,6 +54,7 @@ pub fn natural_field(line: &[u8], f: NumberField) -> Result<u64, Fault>
     ensures result_value { card_gives pos result ≡ number line.now f }
     ensures natural_within { IfOk result (λ n. n ≤ nat_abs f.high) }
 {
+    // No `?`: `has-the-clock` of claim_runs cannot have std's code.
     match number(line, f) {
         Ok(value) => Ok(value as u64),
         Err(fault) => Err(fault),
@@ -66,8 +68,8 @@ pub fn ratio_on(line: &[u8], j: usize) -> Result<u32, Fault>
     ensures ratio_within { IfOk result (λ n. n ≤ 20_000) }
 {
     let f = formats::ratio(j);
-    let format = f.format;
-    match fields::narrow_field(line, f.from, f.width, format, RATIO) {
+    // No `map_err`: `has-the-clock` of claim_runs cannot have std's code.
+    match fields::narrow_field(line, f.from, f.width, f.format, RATIO) {
         Ok(ratio) => Ok(ratio),
         Err(error) => Err(fault_in(f, Trouble::from(error))),
     }
@@ -81,6 +83,7 @@ pub fn small_row(line: &[u8], row: Row, count: usize) -> Result<[i8; 6], Fault>
 {
     let mut values = [0i8; 6];
     for k in 0..count {
+        // No `?`: `has-the-clock` of claim_runs cannot have std's code.
         match small_field(line, formats::row_field(row, k)) {
             Ok(value) => values[k] = value,
             Err(fault) => return Err(fault),

@@ -50,7 +50,7 @@ fn not_main(j: usize) -> Fault
 {
     Fault {
         what: What::PartName,
-        which: j + 1,
+        which: Some(j + 1),
         trouble: Trouble::NotMain,
     }
 }

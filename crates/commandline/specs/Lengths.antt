@@ -1,10 +1,10 @@
 -- 02, No. 6: three stride lengths in one word, S,M,D, for semidiurnal, mixed and diurnal tides. Assumes nothing.
-use Rattle.std.specs.Prelude.{ℕ, ◌+◌, ◌-◌, Bool, cond, ◌&&◌, List, Option, Some, None, eqb, ltb, pos, length, drop}
+use Rattle.std.specs.Prelude.{ℕ, ◌+◌, ◌-◌, Bool, cond, ◌&&◌, List, Option, Result, ℤ, Some, None, eqb, ltb, pos, length, drop}
 use Rattle.columns.specs.Bytes.{among, leading}
 use Rattle.columns.specs.Columns.{column, columns}
 use Rattle.fields.specs.Number.{contents_of, ranged}
 use Rattle.fields.specs.declared.Format.TheVariants.{Whole}
-use Rattle.fields.specs.declared.Field.{Field}
+use Rattle.fields.specs.declared.FieldError.{FieldError}
 use Rattle.station.specs.Strides.{usual_strides}
 use Rattle.station.specs.declared.strides.Strides.{Strides}
 use Rattle.commandline.specs.Numbers.{given}
@@ -19,11 +19,11 @@ unfoldable pub comma_at : List ℕ → ℕ → Bool
 comma_at word at = ltb at (length word) && eqb (column word at) 44
 
 -- the whole number that stands from one byte up to another, as 01's number fields have it, of 32 bits
-unfoldable pub length_in : List ℕ → ℕ → ℕ → Field
+unfoldable pub length_in : List ℕ → ℕ → ℕ → Result ℤ FieldError
 length_in word from end = ranged (pos 0) (pos 4_294_967_295) (contents_of Whole (columns word from (end - from)))
 
 -- three lengths where each is a number
-abbrev pub three_of : Field → Field → Field → Option Strides
+abbrev pub three_of : Result ℤ FieldError → Result ℤ FieldError → Result ℤ FieldError → Option Strides
 three_of first second third = given first (λ s. given second (λ m. given third (λ d. Some record { semidiurnal = s; mixed = m; diurnal = d })))
 
 -- a length, a comma, a length, a comma, and a length up to the word's end

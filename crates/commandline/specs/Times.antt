@@ -1,13 +1,13 @@
 -- A time of day, HH:MM, in a word of five bytes. Assumes nothing.
-use Rattle.std.specs.Prelude.{ℕ, ◌+◌, ◌*◌, cond, ◌&&◌, List, Option, Some, None, eqb, pos, length}
+use Rattle.std.specs.Prelude.{ℕ, ◌+◌, ◌*◌, cond, ◌&&◌, List, Option, Result, ℤ, Some, None, eqb, pos, length}
 use Rattle.columns.specs.Columns.{column, columns}
 use Rattle.fields.specs.Number.{contents_of, ranged}
 use Rattle.fields.specs.declared.Format.TheVariants.{Whole}
-use Rattle.fields.specs.declared.Field.{Field}
+use Rattle.fields.specs.declared.FieldError.{FieldError}
 use Rattle.commandline.specs.Numbers.{given}
 
 -- a whole number of at most `high` in two columns of a word, as 01's number fields have it
-abbrev pub two_columns : List ℕ → ℕ → ℕ → Field
+abbrev pub two_columns : List ℕ → ℕ → ℕ → Result ℤ FieldError
 two_columns word from high = ranged (pos 0) (pos high) (contents_of Whole (columns word from 2))
 
 -- hours 0 to 23, a colon, which is 58, and minutes 0 to 59

@@ -121,6 +121,7 @@ pub fn narrow_field(
     ensures result_value { narrow_gives result ≡ ranged (pos 0) (pos high) (contents_of format (columns line.now from width)) }
     ensures narrow_within { IfOk result (λ n. n ≤ high) }
 {
+    // No `?` or `map`: `has-the-clock` of claim_runs cannot have std's code.
     match ranged_field(line, from, width, format, 0, high as i64) {
         Ok(value) => Ok(value as u32),
         Err(error) => Err(error),

@@ -33,8 +33,8 @@ fn say_general(rt: HostRuntime, refusal: Refusal) -> io::Result<()> {
 // Says what is wrong on a line, and which of several it is, where there are several.
 fn say_fault(rt: HostRuntime, fault: Fault) -> io::Result<()> {
     pieces::write_what(&rt.stderr(), fault.what)?;
-    if 0 < fault.which {
-        eprint!(rt; " {}", fault.which)?;
+    if let Some(which) = fault.which {
+        eprint!(rt; " {which}")?;
     }
     eprint!(rt; " ")?;
     pieces::write_trouble(&rt.stderr(), fault.trouble)

@@ -11,21 +11,21 @@ use refusals::Refusal;
 pub fn of_minutes(refusal: Refusal) -> bool
     ensures { result ≡ of_minutes refusal }
 {
-    refusals::number_of(refusal) == refusals::number_of(Refusal::BadMinutes)
+    refusal == Refusal::BadMinutes
 }
 
 // Whether a refusal is that of a stride.
 pub fn of_strides(refusal: Refusal) -> bool
     ensures { result ≡ of_strides refusal }
 {
-    refusals::number_of(refusal) == refusals::number_of(Refusal::BadStride)
+    refusal == Refusal::BadStride
 }
 
 // Whether a refusal is that of more turns than there is room for.
 pub fn of_room(refusal: Refusal) -> bool
     ensures { result ≡ of_room refusal }
 {
-    refusals::number_of(refusal) == refusals::number_of(Refusal::TooManyTurns)
+    refusal == Refusal::TooManyTurns
 }
 
 // Whether a day is refused because its month lacks it.
@@ -38,7 +38,7 @@ pub fn lacks_day(refusal: Refusal, month: Month, day: u32) -> bool
 
 // The question of 9 that turns down a series of so many heights in a month; none where the refusal is another.
 #[tactic(auto, unfolding(crate::specs::Matters::series_matter))]
-pub fn series_matter(refusal: Refusal, month: Month, start: u32, step: u32, places: usize) -> Reason
+pub fn series_matter(refusal: Refusal, month: Month, start: u32, step: u32, places: usize) -> Option<Reason>
     ensures { result ≡ series_matter refusal month.year month.month start step places }
 {
     if of_minutes(refusal) {
@@ -49,7 +49,7 @@ pub fn series_matter(refusal: Refusal, month: Month, start: u32, step: u32, plac
             places,
         );
     }
-    Reason::Within
+    None
 }
 
 // The day of the card at a place of a month's hourly cards, counted from 1.

@@ -33,10 +33,10 @@ fn say_series(
 ) -> io::Result<()> {
     let month = view.month();
     match matters::series_matter(refusal, month, span.start, span.step, places) {
-        Reason::Within => messages::refused_number(rt, b"step", span.step as u64, refusal),
-        Reason::Start => view.say_day(rt, refusal),
-        Reason::Step => messages::refused_step(rt, span.step, refusal),
-        Reason::End => messages::refused_count(rt, month, span.count, refusal),
+        None => messages::refused_number(rt, b"step", span.step as u64, refusal),
+        Some(Reason::Start) => view.say_day(rt, refusal),
+        Some(Reason::Step) => messages::refused_step(rt, span.step, refusal),
+        Some(Reason::End) => messages::refused_count(rt, month, span.count, refusal),
     }
 }
 

@@ -1,5 +1,4 @@
 -- `card::ratio_on` meets its contract: the field's description and its range check together are the definition's number.
-use borrow.Author.Rules.{rules}
 use lib.IntN.{pos}
 use Rattle.std.specs.Prelude.{Ok, Err}
 use Rattle.card.specs.Formats.{ratio_field}

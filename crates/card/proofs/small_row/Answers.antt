@@ -3,13 +3,12 @@ use borrow.Author.Rules.{rules}
 use native.Mathlib.Omega.{arith}
 use native.Mathlib.Nat.{sub-zero}
 use mathlib.Core.Path.{◌≡◌, refl, ap}
-use Prim.Native.Nat.{ℕ, ◌-◌, ◌≤◌, ◌<◌}
+use Prim.Native.Nat.{ℕ, ◌<◌}
 use lib.ListN.{length, take}
 use mir.Syntax.{w8}
 use mir.Val.{SFits}
 use mir.ValLaws.{to_z-of_z}
 use Rattle.card.specs.Formats.{row_field}
-use Rattle.card.specs.Card.{numbers_from, numbers}
 use Rattle.card.proofs.Ranges.{numbers_more, numbers-none, take-stored, row_small}
 use Rattle.card.proofs.small_row.Goals as goal
 

@@ -1,10 +1,9 @@
 -- `columns::line_length` meets its contract. The loop's invariant: what is passed and the run of the rest are the run of the file. Rests on `run_more`. Assumes nothing.
 use native.Mathlib.Omega.{arith}
-use borrow.Author.Rules.{rules}
-use mathlib.Core.Path.{◌≡◌, sym}
+use mathlib.Core.Path.{◌≡◌}
 use Prim.Native.Nat.{suc, ◌+◌, ◌-◌}
 use native.Mathlib.Nat.{sub-zero}
-use lib.ListN.{length, get_or}
+use lib.ListN.{length}
 use borrow.Author.Tests.{eq-eqb, ne_eqb}
 use Rattle.columns.specs.Bytes.{leading}
 use Rattle.columns.specs.Lines.{in_line, first_line}

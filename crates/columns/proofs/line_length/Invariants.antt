@@ -1,14 +1,9 @@
-use native.Mathlib.Omega.{arith}
-use borrow.Author.Rules.{rules}
 use mathlib.Core.Path.{◌≡◌}
-use Prim.Native.Nat.{suc, ◌+◌, ◌-◌}
-use native.Mathlib.Nat.{sub-zero}
+use Prim.Native.Nat.{◌+◌, ◌-◌}
 use lib.ListN.{length}
-use borrow.Author.Tests.{eq-eqb, ne_eqb}
 use Rattle.columns.specs.Bytes.{leading}
 use Rattle.columns.specs.Lines.{in_line, first_line}
 use Rattle.columns.specs.Columns.{columns}
-use Rattle.columns.proofs.Columns.{padded-all, run_more, run_none}
 use Rattle.columns.proofs.line_length.Given as goal
 
 abbrev pub invariant-loop-k : goal.invariant-loop-k

@@ -1,7 +1,6 @@
 -- `columns::run_end` meets its contract. The loop's invariant: what is passed and the run of the rest are the run from k on. Rests on `run_more`. Assumes nothing.
 use native.Mathlib.Omega.{arith}
-use borrow.Author.Rules.{rules}
-use mathlib.Core.Path.{◌≡◌, refl}
+use mathlib.Core.Path.{◌≡◌}
 use Prim.Native.Nat.{suc, ◌+◌, ◌-◌}
 use lib.ListN.{length}
 use borrow.Author.Tests.{le-leb, lt-leb}
@@ -17,7 +16,7 @@ returns-then-b-low c =
     let run = among c.args.low c.args.high in
     let more = run_more run c.args.line.now c.loop-i.i c.args.end c.loop-i-test.true in
     let none : length (leading run (columns c.args.line.now c.loop-i.i (c.args.end - c.loop-i.i))) ≡ 0 = elim c.then-b-low.branch [
-      then-b-low-via-then-b-low w ↦ rw (more, ← c.column-b.ensures, lt-leb _ _ w.if-b-low.true)
+      | then-b-low-via-then-b-low w ↦ rw (more, ← c.column-b.ensures, lt-leb _ _ w.if-b-low.true)
       | then-b-low-via-else-b-low+then-high-b w ↦ rw (more, ← c.column-b.ensures, lt-leb _ _ w.if-high-b.true, and-false)
     ] in
     omega arith

@@ -1,6 +1,5 @@
 -- `fields::ranged` meets its contract. A size from the cap on is outside the range, a smaller one is made a signed number: laws of `Ranges`. Assumes nothing.
 use native.Mathlib.Omega.{arith}
-use borrow.Author.Rules.{rules}
 use mathlib.Core.Path.{◌≡◌, sym}
 use Prim.Native.Nat.{suc, ◌-◌, ◌<◌}
 use lib.IntN.{negsuc, ◌-ℤ◌}

@@ -1,5 +1,4 @@
 -- `fields::ranged_field` meets its contract. What is kept of a field has its answer: `written-gives`. Assumes nothing.
-use borrow.Author.Rules.{rules}
 use mathlib.Core.Path.{◌∙◌}
 use mir.Syntax.{w64}
 use mir.ValLaws.{to_z-of_z}

@@ -1,13 +1,6 @@
 -- `card::places::main_at` meets its contract. The loop keeps that what is found among the rows left is what is found among all.
-use borrow.Author.Rules.{rules}
 use native.Mathlib.Nat.{sub-zero}
-use mathlib.Core.Path.{◌≡◌}
-use Prim.Native.Nat.{◌-◌, ◌*◌}
-use lib.ListN.{get_or}
 use borrow.Author.Tests.{eq-eqb, ne_eqb}
-use Rattle.table.specs.inner.View.{listed}
-use Rattle.card.specs.Places.{main_at}
-use Rattle.card.specs.inner.Places.{places_in}
 use Rattle.card.proofs.places.Defined.{main-more, main-none}
 use Rattle.card.proofs.places.main_at.Goals as goal
 

@@ -1,10 +1,7 @@
-use borrow.Author.Rules.{rules}
 use mathlib.Core.Path.{◌≡◌}
 use Prim.Native.Nat.{◌-◌}
-use native.Mathlib.Nat.{sub-zero}
 use Rattle.columns.specs.Columns.{columns}
 use Rattle.columns.specs.Names.{names_from, place_from, place_of}
-use Rattle.columns.proofs.names.Names.{place-more, place_none}
 use Rattle.columns.proofs.names.find_name.Given as goal
 
 abbrev pub invariant-loop-k : goal.invariant-loop-k

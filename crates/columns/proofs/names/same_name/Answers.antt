@@ -1,11 +1,6 @@
 -- `columns::names::same_name` meets its contract. The loop's invariant: comparing from byte j on answers as from 0 on. Rests on the clauses of `same`. Assumes nothing.
 use native.Mathlib.Omega.{arith}
-use borrow.Author.Rules.{rules}
-use mathlib.Core.Path.{◌≡◌, refl}
-use Prim.Native.Nat.{◌-◌}
 use borrow.Author.Tests.{eq-eqb, ne_eqb}
-use Rattle.columns.specs.Columns.{padded, columns}
-use Rattle.columns.specs.Names.{same}
 use Rattle.columns.proofs.names.Names.{same_more, same_none}
 use Rattle.columns.proofs.names.same_name.Goals as goal
 

@@ -1,11 +1,7 @@
-use native.Mathlib.Omega.{arith}
-use borrow.Author.Rules.{rules}
-use mathlib.Core.Path.{◌≡◌, refl}
+use mathlib.Core.Path.{◌≡◌}
 use Prim.Native.Nat.{◌-◌}
-use borrow.Author.Tests.{eq-eqb, ne_eqb}
 use Rattle.columns.specs.Columns.{padded, columns}
 use Rattle.columns.specs.Names.{same}
-use Rattle.columns.proofs.names.Names.{same_more, same_none}
 use Rattle.columns.proofs.names.same_name.Given as goal
 
 abbrev pub invariant-loop-j : goal.invariant-loop-j

@@ -1,6 +1,5 @@
 -- `fields::numerals::fixed_size` meets its contract. The tests in the definition's order, by the columns where digits and decimals end: `fixed-good`, `fixed-size`. Assumes nothing.
 use native.Mathlib.Omega.{arith}
-use borrow.Author.Rules.{rules}
 use mathlib.Core.Path.{refl, sym, ap, ◌∙◌}
 use Prim.Native.Nat.{◌+◌, ◌-◌, ◌≤◌, ◌<◌}
 use borrow.Author.Tests.{lt-ltb, le-ltb, le-leb, lt-leb}

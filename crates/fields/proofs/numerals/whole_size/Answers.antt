@@ -1,6 +1,5 @@
 -- `fields::numerals::whole_size` meets its contract. The tests in the definition's order, by the column where the digits end: `whole-good`, `whole-size`. Assumes nothing.
 use native.Mathlib.Omega.{arith}
-use borrow.Author.Rules.{rules}
 use mathlib.Core.Path.{ap}
 use Prim.Native.Nat.{◌-◌, ◌≤◌, ◌<◌}
 use borrow.Author.Tests.{lt-ltb, le-ltb}

@@ -1,11 +1,9 @@
 -- `fields::numerals::zeros` meets its contract. The loop's invariant: the zeros left, behind the number so far, write the capped number. Rests on `capped-before`. Assumes nothing.
 use native.Mathlib.Omega.{arith}
-use borrow.Author.Rules.{rules}
 use mathlib.Core.Path.{◌≡◌, sym, ◌∙◌}
-use Prim.Native.Nat.{min, ◌+◌, ◌*◌, ◌-◌, ◌≤◌}
+use Prim.Native.Nat.{min, ◌+◌, ◌*◌, ◌-◌}
 use native.Mathlib.Nat.{sub-zero}
 use lib.ListN.{replicate}
-use Rattle.fields.specs.Numerals as spec
 use Rattle.fields.specs.inner.Cap.{cap}
 use Rattle.fields.proofs.numerals.Digits.{zeros-more, zeros-none, capped-before}
 use Rattle.fields.proofs.numerals.zeros.Goals as goal

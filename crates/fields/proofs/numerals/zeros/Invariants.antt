@@ -1,12 +1,8 @@
-use native.Mathlib.Omega.{arith}
-use borrow.Author.Rules.{rules}
-use mathlib.Core.Path.{◌≡◌, sym, ◌∙◌}
-use Prim.Native.Nat.{min, ◌+◌, ◌*◌, ◌-◌, ◌≤◌}
-use native.Mathlib.Nat.{sub-zero}
+use mathlib.Core.Path.{◌≡◌}
+use Prim.Native.Nat.{min, ◌-◌, ◌≤◌}
 use lib.ListN.{replicate}
 use Rattle.fields.specs.Numerals as spec
 use Rattle.fields.specs.inner.Cap.{cap}
-use Rattle.fields.proofs.numerals.Digits.{zeros-more, zeros-none, capped-before}
 use Rattle.fields.proofs.numerals.zeros.Given as goal
 
 abbrev pub invariant-loop : goal.invariant-loop
