@@ -12,6 +12,7 @@ ghost use Rattle.clock.specs.View.{Made};
 
 use crate::loading::load;
 use crate::showing::{asked_date, show};
+use card::lines::Misread;
 use card_file::reader;
 use clock::Clock;
 use commandline::{Asked, Request};
@@ -95,7 +96,7 @@ fn face_of<'a>(asking: &Asking<'a>, lent: Lent<'a>, read: &StationCards) -> Face
 }
 
 // The station file's cards, by the names of the clock's table.
-fn station_cards(clock: Clock, station: &[u8]) -> StationCards
+fn station_cards(clock: Clock, station: &[u8]) -> Result<StationCards, Misread>
     requires { Made clock }
 {
     let names = clock::names(clock);
@@ -109,11 +110,14 @@ fn with_files(rt: HostRuntime, asking: &Asking, lent: Lent) -> io::Result<()> {
     if let Err(refused) = tabled.answer {
         return say_cards(rt, asking, lent.cards, refused);
     }
-    let read = station_cards(tabled.clock, lent.station);
-    if let Err(refused) = read.answer {
-        let path = asking.station_path();
-        return messages::refused(rt, path, refused.place, read.fault, refused.refusal);
-    }
+    let read = match station_cards(tabled.clock, lent.station) {
+        Ok(read) => read,
+        Err(misread) => {
+            let path = asking.station_path();
+            let refused = stationfile::refusal_of(misread);
+            return messages::refused(rt, path, misread.line, misread.fault, refused.refusal);
+        }
+    };
     let strides = asking.request.strides;
     let placed =
         clock::place_station(tabled.clock, read.latitude, strides, read.count, read.rows);

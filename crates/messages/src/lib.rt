@@ -11,7 +11,7 @@ use crate::months::Month;
 use card::faults::Fault;
 use commandline::Wrong;
 use limits::STEP;
-use refusals::Refusal;
+use refusals::{Refusal, Refused};
 use std::io;
 
 // Says a piece of text that need not be one of characters, as a file's name.
@@ -160,15 +160,16 @@ fn say_booking(rt: HostRuntime, text: &[u8], line: usize) -> io::Result<()> {
     Ok(())
 }
 
-// FILE line N: DD HH:MM is outside MONTH (refusal n), for a booking on a line of the file's text that the clock refuses.
+// FILE line N: DD HH:MM is outside MONTH (refusal n), for a booking of the file's text that the clock refuses, on the line that is the place.
 pub fn refused_booking(
     rt: HostRuntime,
     file: &[u8],
     text: &[u8],
-    line: usize,
     month: Month,
-    refusal: Refusal,
+    refused: Refused,
 ) -> io::Result<()> {
+    let line = refused.place;
+    let refusal = refused.refusal;
     if !matters::of_minutes(refusal) {
         return refused_plainly(rt, file, line, refusal);
     }
@@ -188,14 +189,14 @@ fn hours_of(number: usize) -> &'static str {
 }
 
 // card N of DAY MONTH, its hours: words, in hundredths of the unit (refusal n), for the card at a place of a month's hourly cards.
-fn refused_card(rt: HostRuntime, month: Month, place: usize, refusal: Refusal) -> io::Result<()> {
-    let number = matters::card_number(place);
-    let day = matters::card_day(place);
+fn refused_card(rt: HostRuntime, month: Month, refused: Refused) -> io::Result<()> {
+    let number = matters::card_number(refused.place);
+    let day = matters::card_day(refused.place);
     let hours = hours_of(number);
     eprint!(rt; "card {number} of {day} {month}, {hours}: ")?;
-    pieces::write_general(&rt.stderr(), refusal)?;
+    pieces::write_general(&rt.stderr(), refused.refusal)?;
     eprint!(rt; ", in hundredths of the unit")?;
-    say_refusal(rt, refusal)
+    say_refusal(rt, refused.refusal)
 }
 
 // What the clock refuses of a month's hourly cards: the card at a place, or their station number.
@@ -203,13 +204,12 @@ pub fn refused_hourly(
     rt: HostRuntime,
     month: Month,
     station: u32,
-    place: usize,
-    refusal: Refusal,
+    refused: Refused,
 ) -> io::Result<()> {
-    if 0 < place {
-        return refused_card(rt, month, place, refusal);
+    if 0 < refused.place {
+        return refused_card(rt, month, refused);
     }
-    refused_number(rt, b"station", station as u64, refusal)
+    refused_number(rt, b"station", station as u64, refused.refusal)
 }
 
 // FILE: why the system refused it.

@@ -5,7 +5,6 @@ use crate::View;
 use daybook::reading::{FILE, PLACES};
 use daybook::{answered, reading};
 use output::pages::Page;
-use refusals::Answer;
 use std::io;
 
 // bookings YEAR MONTH FILE: the file's lines, which are the first bytes of a buffer, each with the height at its time. The heights are had in
@@ -27,12 +26,8 @@ pub fn bookings(
     };
     let mut places = [0i64; PLACES];
     let heights = &mut places[..count];
-    if let Answer::Refused(refusal, line) = clock::bookings(
-        view.clock,
-        &minutes[..count],
-        heights,
-    ) {
-        return messages::refused_booking(rt, name, text, line, view.month(), refusal);
+    if let Err(refused) = clock::bookings(view.clock, &minutes[..count], heights) {
+        return messages::refused_booking(rt, name, text, view.month(), refused);
     }
     let mut page = Page::new();
     answered::put_sheet(&rt, &mut page, view.face, view.date, text, heights)?;

@@ -2,7 +2,7 @@
 ghost use Rattle.clock.specs.View.{Made};
 
 use crate::View;
-use hourly::{CardsAnswer, LONGEST};
+use hourly::LONGEST;
 use std::io;
 
 // hourly YEAR MONTH STATION: the cards alone, under a station number.
@@ -11,12 +11,10 @@ pub fn hourly(rt: HostRuntime, view: &View, station: u32) -> io::Result<()>
 {
     let mut cards = [0u8; LONGEST];
     match clock::hourly(view.clock, station, &mut cards) {
-        CardsAnswer::Bytes(count) => {
+        Ok(count) => {
             output::flush(&rt, &cards, count)?;
             Ok(())
         }
-        CardsAnswer::Refused(refusal, place) => {
-            messages::refused_hourly(rt, view.month(), station, place, refusal)
-        }
+        Err(refused) => messages::refused_hourly(rt, view.month(), station, refused),
     }
 }

@@ -2,11 +2,9 @@
 ghost use Rattle.clock.specs.View.{Made};
 
 use crate::View;
-use clock::HeightAnswer;
 use digits::dates;
 use output::pages::Page;
 use page::shown::{Turns, Waters};
-use refusals::Answer;
 use sheets::daysheet;
 use sheets::daysheet::{Next, Water};
 use std::io;
@@ -33,12 +31,10 @@ fn turn_behind(view: &View, high: bool) -> Option<Next>
     let year = dates::year_behind(view.date.year, view.date.month);
     let month = dates::month_behind(view.date.month);
     let after = clock::set_date(view.clock, year, month);
-    if let Answer::Refused(_, _) = after.answer {
-        return None;
-    }
+    after.answer.ok()?;
     let last = calendar::month_minutes(year, month);
-    let found = monthturns::turns_of(after.clock, last, view.face.ground.strides);
-    first_turn(high, 0, true, found.turns.lent())
+    let turns = monthturns::turns_of(after.clock, last, view.face.ground.strides).ok()?;
+    first_turn(high, 0, true, turns.lent())
 }
 
 // The next high or low water behind a minute of the month that the clock has prepared, with its turns.
@@ -59,17 +55,17 @@ pub fn day(rt: HostRuntime, view: &View, minute: u32) -> io::Result<()>
 {
     let mut hourly = [0i64; 25];
     let start = dates::minute_of_month(view.date.day, 0);
-    if let Answer::Refused(refusal, _) = clock::series(view.clock, start, 60, &mut hourly) {
-        return view.say_day(rt, refusal);
+    if let Err(refused) = clock::series(view.clock, start, 60, &mut hourly) {
+        return view.say_day(rt, refused.refusal);
     }
     let minute = dates::minute_of_month(view.date.day, minute);
     let height = match clock::height(view.clock, minute) {
-        HeightAnswer::Height(height) => height,
-        HeightAnswer::Refused(refusal, _) => return view.say_day(rt, refusal),
+        Ok(height) => height,
+        Err(refused) => return view.say_day(rt, refused.refusal),
     };
     let turns = match view.turns() {
         Ok(turns) => turns,
-        Err(refusal) => return view.say_turns(rt, refusal),
+        Err(refused) => return view.say_turns(rt, refused.refusal),
     };
     let water = Water {
         minute,

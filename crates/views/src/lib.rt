@@ -18,7 +18,7 @@ use output::pages::Page;
 use page::face::Face;
 use page::shown;
 use page::shown::{Date, TURNS, Turns};
-use refusals::{Answer, Refusal};
+use refusals::{Refusal, Refused};
 use sheets::monthsheet;
 use std::io;
 pub use tabulated::{Span, heights, series};
@@ -42,15 +42,11 @@ impl View<'_> {
     }
 
     // The turns of the month that the clock has prepared, or its refusal.
-    fn turns(&self) -> Result<Turns, Refusal>
+    fn turns(&self) -> Result<Turns, Refused>
         requires { Made self.now.clock }
     {
         let last = shown::last_minute(self.date);
-        let found = monthturns::turns_of(self.clock, last, self.face.ground.strides);
-        match found.answer {
-            Answer::Accepted => Ok(found.turns),
-            Answer::Refused(refusal, _) => Err(refusal),
-        }
+        monthturns::turns_of(self.clock, last, self.face.ground.strides)
     }
 
     // Says that the clock refused the day.
@@ -70,7 +66,7 @@ pub fn month(rt: HostRuntime, view: &View) -> io::Result<()>
 {
     let turns = match view.turns() {
         Ok(turns) => turns,
-        Err(refusal) => return view.say_turns(rt, refusal),
+        Err(refused) => return view.say_turns(rt, refused.refusal),
     };
     let mut page = Page::new();
     monthsheet::put_month(&rt, &mut page, view.face, view.date, turns.lent())?;

@@ -8,7 +8,7 @@ use limits::MINUTES;
 use messages::matters;
 use output::pages::Page;
 use page::shown::Series;
-use refusals::{Answer, Refusal};
+use refusals::Refusal;
 use sheets::csv;
 use std::io;
 
@@ -47,8 +47,8 @@ fn spanned(rt: HostRuntime, view: &View, span: Span) -> io::Result<()>
     let mut places = [0i64; PLACES];
     let n = (span.count as usize).min(PLACES);
     let heights = &mut places[..n];
-    if let Answer::Refused(refusal, _) = clock::series(view.clock, span.start, span.step, heights) {
-        return say_series(rt, view, span, n, refusal);
+    if let Err(refused) = clock::series(view.clock, span.start, span.step, heights) {
+        return say_series(rt, view, span, n, refused.refusal);
     }
     let series = Series {
         start: span.start,

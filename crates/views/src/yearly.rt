@@ -2,7 +2,6 @@
 ghost use Rattle.clock.specs.View.{Made};
 
 use crate::View;
-use clock::TurnsAnswer;
 use monthturns::yearturns;
 use output::pages::Page;
 use page::shown;
@@ -33,20 +32,20 @@ fn with_turns<F: Fn(&mut Page, Waters) -> io::Result<()>>(
         &mut minutes,
         &mut heights,
     );
-    let (count, first) = match answer {
-        TurnsAnswer::Turns(count, first) => (count, first),
-        TurnsAnswer::Refused(refusal, place) => return Ok(Answer::Refused(refusal, place)),
+    let found = match answer {
+        Ok(found) => found,
+        Err(refused) => return Ok(Err(refused)),
     };
     let waters = Waters {
-        count,
-        first,
+        count: found.count,
+        first: found.high,
         minutes: &minutes,
         heights: &heights,
     };
     let mut page = Page::new();
     put_turns(&mut page, waters)?;
     page.flush(&rt)?;
-    Ok(Answer::Accepted)
+    Ok(Ok(()))
 }
 
 // year YEAR: the high and low waters of each day, or the clock's refusal.
