@@ -28,23 +28,13 @@ fn shorter(a: usize, b: usize) -> usize
     if a < b { a } else { b }
 }
 
-// A small number, widened.
-fn wide(x: u16) -> usize
-    ensures { (result ≡ x) × (result ≤ 65_535) }
-{
-    x as usize
-}
-
 // The satellites of all mains together.
 pub fn satellites_of(table: Table) -> usize
     ensures { result ≡ satellites_in (table_of table).mains }
 {
-    let most = shorter(table.mains, MAINS);
     let mut total: usize = 0;
-    let mut k: usize = 0;
-    while k < most {
-        total += wide(table.maincards[3 * k + 2]);
-        k += 1;
+    for k in 0..shorter(table.mains, MAINS) {
+        total += table.maincards[3 * k + 2] as usize;
     }
     total
 }

@@ -13,7 +13,7 @@ pub fn heights_at(lent: Lent, minutes: &[u32], out: &mut [i64])
     requires all_within { AllWithin most_minutes minutes.now × (length out.old ≡ length minutes.now) }
     ensures { out.new ≡ map (height_at (constituents_lent lent.entry)) minutes.now }
 {
-    for (n, height) in out.iter_mut().enumerate() {
-        *height = crate::height(lent, minutes[n] as u64);
+    for n in 0..out.len() {
+        out[n] = crate::height(lent, minutes[n] as u64);
     }
 }

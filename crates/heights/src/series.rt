@@ -74,7 +74,9 @@ fn weights_of(row: &[i32]) -> [i32; RECORDS]
     ensures { result ≡ row.now }
 {
     let mut weights = [0i32; RECORDS];
-    weights.copy_from_slice(row);
+    for k in 0..RECORDS {
+        weights[k] = row[k];
+    }
     weights
 }
 

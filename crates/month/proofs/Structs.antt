@@ -66,13 +66,13 @@ module _ (t : Table) (s : Station) (given : Given) where
   ends cs n k h inv = subst (λ (p : Outcome (List Constituent)). p ≡ all) (all_done fs ms ss g l s.places s.amplitudes s.lags cs k n h) inv
 
   -- at the start no main is worked out
-  pub none_yet : length t.mainangles ≡ 448 → length t.maincards ≡ 192 → KeptBy given t.maincards t.mainangles t.satelliteangles t.satelliteratios none_kept
+  pub none_yet : length t.mainangles ≡ 448 → length t.maincards ≡ 192 → KeptBy given t none_kept
   none_yet a b = none_kept_lem l t.mainangles g (nodal l) t.maincards t.satelliteangles t.satelliteratios given.mains a b
 
   -- ---- what was worked out at record k
 
   module _ (same : given.mains ≡ t.mains) (k : ℕ) (found : Option Defined) (kept : List ℤ) (w : Worked) (finds : found ≡ found_at t.maincards t.mains t.shallowcards t.shallows (get_or s.places k 0))
-      (ready : Ready (argument_by given t.mainangles) (corrected_by given t.maincards t.satelliteangles t.satelliteratios) t.shallowcards found kept) (from : FromMains kept t.shallowcards t.coefficients found w) where
+      (ready : Ready (argument_by given t) (corrected_by given t) t.shallowcards found kept) (from : FromMains kept t.shallowcards t.coefficients found w) where
     worked : IsWorked g l ms ss (get_or s.places k 0) w
     worked =
         worked-out g l t.maincards t.mainangles t.satelliteangles t.satelliteratios t.mains t.shallowcards t.coefficients kept t.shallows (get_or s.places k 0) found w finds

@@ -65,18 +65,8 @@ fn prepare_records(
     for k in 0..n {
         let place = station.places[k];
         let found = find(&mains, table.mains, &shallows, table.shallows, place);
-        work_mains(
-            found,
-            cosines,
-            &table.maincards,
-            &table.mainangles,
-            &table.satelliteangles,
-            &table.satelliteratios,
-            &table.shallowcards,
-            given,
-            &mut kept,
-        );
-        let w = from_mains(found, &kept, &table.shallowcards, &table.coefficients);
+        work_mains(found, cosines, &table, given, &mut kept);
+        let w = from_mains(found, &kept, &table);
         let Some(xy) = w.corrected else {
             return Err(Refused {
                 refusal: Refusal::TooLarge,

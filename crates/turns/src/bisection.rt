@@ -47,10 +47,7 @@ fn turn_between(minute: u64, early: i64, late: i64) -> Turned
 }
 
 // Halves a bracket until its ends are one minute apart, and gives the turn between them.
-pub fn bisect(
-    lent: LentMonths,
-    bracket: Bracket,
-) -> Turned
+pub fn bisect(lent: LentMonths, bracket: Bracket) -> Turned
     requires rows { Rows lent }
     requires bracket_pre { BracketPre (slopes_in lent) (last_of lent.months) bracket }
     ensures { TurnedPost (slopes_in lent.entry) bracket.start bracket.length result }

@@ -37,7 +37,9 @@ fn put_minutes(kept: &[u32], minutes: &mut [u32])
     requires { length kept.now ≤ length minutes.old }
     ensures { minutes.new ≡ from_front kept.now minutes.old }
 {
-    minutes[..kept.len()].copy_from_slice(kept);
+    for (i, minute) in kept.iter().enumerate() {
+        minutes[i] = *minute;
+    }
 }
 
 // Puts the heights at the minutes at the front of the lent places.

@@ -1,5 +1,5 @@
 // The search for turns: strides in months that follow one another, and the turn in each in which the slope changes sense.
-ghost use Rattle.std.specs.Prelude.{◌≡◌, ◌≤◌};
+ghost use Rattle.std.specs.Prelude.{◌≡◌, ◌≤◌, false, MatchOption};
 ghost use Rattle.month_prepared.specs.inner.Rows.{last_of};
 ghost use Rattle.turns.specs.inner.Lists.{Rows, slopes_in};
 ghost use Rattle.turns.specs.Search.{turns_of};
@@ -70,6 +70,16 @@ fn next_turn(lent: LentMonths, reach: Reach, minute: u64, here: i64) -> Option<N
     None
 }
 
+// Whether a turn is high, or false where there is none.
+fn is_high(turn: Option<Next>) -> bool
+    ensures { MatchOption turn (result ≡ false) (λ n. result ≡ n.high) }
+{
+    match turn {
+        Some(n) => n.high,
+        None => false,
+    }
+}
+
 // Finds every turn, counts them all, and keeps the minutes from the front of the lent places, as many as these hold.
 pub fn find_turns(lent: LentMonths, reach: Reach, kept: &mut [u32]) -> Summary
     requires rows { Rows lent }
@@ -77,7 +87,7 @@ pub fn find_turns(lent: LentMonths, reach: Reach, kept: &mut [u32]) -> Summary
     ensures { FoundPost (turns_of (slopes_in lent.entry) reach.stride reach.first reach.last) kept.old kept.new result }
 {
     let mut next = next_turn(lent, reach, reach.first, slope(lent, reach.first));
-    let high = next.is_some_and(|n| n.high);
+    let high = is_high(next);
     let mut found: usize = 0;
     while let Some(n) = next {
         if found < kept.len() {

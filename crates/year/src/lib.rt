@@ -10,6 +10,7 @@ ghost use Rattle.year.specs.inner.Rows.{YearMonths, RowInto, TwelveRows, Prepare
 
 use cosine::ENTRIES;
 use limits::RECORDS;
+use month_prepared::Month;
 use month_prepared::months::{MONTHS, Months};
 use refusals::Answer;
 use station::Station;
@@ -34,12 +35,25 @@ pub fn months_of(year: u32, count: usize) -> Months
     }
 }
 
-// Puts a month's arguments, or its weights, into row m.
-fn put_row<T: Copy>(row: &[T], m: usize, rows: &mut [T])
-    requires { RowInto row.now m rows.old }
-    ensures { rows.new ≡ paste rows.old (m * most_records) row.now most_records }
+// Puts a month's arguments and weights into row m.
+fn put_month(
+    month: &Month,
+    m: usize,
+    arguments: &mut [u64; ROWS],
+    ps: &mut [i32; ROWS],
+    qs: &mut [i32; ROWS],
+)
+    requires { RowInto month.now.arguments m arguments.old × RowInto month.now.ps m ps.old × RowInto month.now.qs m qs.old }
+    ensures arguments { arguments.new ≡ paste arguments.old (m * most_records) month.now.arguments most_records }
+    ensures cosines { ps.new ≡ paste ps.old (m * most_records) month.now.ps most_records }
+    ensures sines { qs.new ≡ paste qs.old (m * most_records) month.now.qs most_records }
 {
-    rows[m * RECORDS..(m + 1) * RECORDS].copy_from_slice(row);
+    let from = m * RECORDS;
+    for k in 0..RECORDS {
+        arguments[from + k] = month.arguments[k];
+        ps[from + k] = month.ps[k];
+        qs[from + k] = month.qs[k];
+    }
 }
 
 // Prepares every month of a year that is in range: its arguments and weights into its row, and the frequencies, which are the same in each; or
@@ -58,11 +72,13 @@ pub fn prepare(
     ensures { PreparedPost table station year frequencies.new arguments.new ps.new qs.new result }
 {
     for m in 0..MONTHS {
-        let month = month::prepare(cosines, table, station, year, m as u32 + 1)?;
-        *frequencies = month.frequencies;
-        put_row(&month.arguments, m, arguments);
-        put_row(&month.ps, m, ps);
-        put_row(&month.qs, m, qs);
+        match month::prepare(cosines, table, station, year, m as u32 + 1) {
+            Ok(month) => {
+                *frequencies = month.frequencies;
+                put_month(&month, m, arguments, ps, qs);
+            }
+            Err(refused) => return Err(refused),
+        }
     }
     Ok(())
 }

@@ -3,7 +3,7 @@ use mathlib.Core.Path.{◌≡◌}
 use Prim.Native.Nat.{ℕ}
 use lib.ListN.{length}
 use Rattle.refusals.specs.Outcome.{accepted}
-use Rattle.table.specs.inner.View.{table_of, listed, frequency_of, main_of, shallow_of}
+use Rattle.table.specs.inner.View.{table_of, frequency_of, main_of, shallow_of}
 use Rattle.table.specs.declared.Table.{Table}
 use Rattle.table.proofs.Rows.{listed-length}
 use Rattle.card_mains.specs.Mains.{satellites_in}

@@ -1,9 +1,6 @@
 -- `month::prepare_records` meets its contract. The invariant: what is done before what is left gives the whole, and what is kept of the mains
--- is theirs. Each arm of the `?` cites what was worked out at the record (`Structs`).
-use mathlib.Core.Path.{◌≡◌, refl, sym, ap, subst, ◌∙◌}
-use Rattle.std.specs.Prelude.{Option, None, Some, Ok, Err}
-use Rattle.std.specs.Option.{ok_or}
-use Rattle.std.proofs.lemmas.Result.{err_from_is_err_and}
+-- is theirs. Each arm of the `let .. else` cites what was worked out at the record (`Structs`).
+use mathlib.Core.Path.{◌≡◌, sym, ap, subst, ◌∙◌}
 use Prim.Native.Nat.{ℕ, ◌≤◌, ◌^◌, ◌<◌, min}
 use native.Mathlib.Omega.{arith}
 use lib.IntN.{ℤ, nat_abs}
@@ -34,15 +31,6 @@ in-register x h = to_z-of_z w64 x (fits_below x (omega (arith, h)))
 weighed : (amplitude : ℕ) (x r : ℤ) → SFits w32 r → nat_abs x ≤ 2 ^ 22 → r ≡ weight amplitude (held x) → to_z w32 (of_z w32 r) ≡ weight amplitude x
 weighed amplitude x r f h e = to_z-of_z w32 r f ∙ e ∙ ap (weight amplitude) (in-register x h)
 
--- a pair or none, from what `ok_or` made of it
-some-of : {A E : Type 0} (o : Option A) (e : E) (x : A) → ok_or o e ≡ Ok x → o ≡ Some x
-some-of (Some y) e x h = let w : y ≡ x = cc in ap Some w
-some-of None e x h = absurd (cc)
-
-none-of : {A E : Type 0} (o : Option A) (e y : E) → ok_or o e ≡ Err y → (o ≡ None) × (y ≡ e)
-none-of (Some x) e y h = absurd (cc)
-none-of None e y h = (refl, let w : e ≡ y = cc in sym w)
-
 pub loop-k-init : goal.loop-k-init
 unfolding constituents_after
 loop-k-init c =
@@ -55,55 +43,49 @@ loop-k-init c =
     let cards : length c.args.table.maincards ≡ 192 = search rules in record {
       whole = starts c.args.table c.args.station c.args.given c.held-n.result c.held-n.ensures;
       room = record { arguments = r₁; lags = r₂; frequencies = r₃; ps = r₄; qs = r₅ };
-      kept = subst (KeptBy c.args.given c.args.table.maincards c.args.table.mainangles c.args.table.satelliteangles c.args.table.satelliteratios) (sym c.none_kept-kept.ensures) (none_yet c.args.table c.args.station c.args.given angles cards);
+      kept = subst (KeptBy c.args.given c.args.table) (sym c.none_kept-kept.ensures) (none_yet c.args.table c.args.station c.args.given angles cards);
     }
 
 pub work_mains-requires : goal.work_mains-requires
 work_mains-requires c =
     record {
-      table = c.requires.table;
+      cosines = c.requires.table;
       given = c.requires.given;
       kept_by = c.loop-k.invariant.kept;
     }
 
-pub returns-in_err-xy : goal.returns-in_err-xy
-returns-in_err-xy c =
+pub returns-in_default : goal.returns-in_default
+returns-in_default c =
     let at = c.find-found.ensures.value ∙ by-first-rows c.args.table.maincards c.args.table.mains c.args.table.shallowcards c.args.table.shallows (get_or c.args.station.places c.loop-k.k 0) c.first_rows-mains.ensures c.first_rows-shallows.ensures c.find-found.ensures.place_lt_places_in_abyte in
-    let none = none-of c.from_mains-w.result.corrected _ _ (sym c.ok_or.ensures.value ∙ c.in_err-xy.was) in
-    let p = err_from_is_err_and c.from_residual.result c.from_residual.ensures.1 in
-    rw (p.1, p.2, none.1)
-    (refused c.args.table c.args.station c.args.given c.requires.mains_value c.loop-k.k c.find-found.result _ c.from_mains-w.result at c.work_mains.ensures c.from_mains-w.ensures
-    (held_upto c.loop-k.month c.loop-k.k) c.held-n.result c.loop-k.invariant.whole c.loop-k-test.true none.0)
+    refused c.args.table c.args.station c.args.given c.requires.mains_value c.loop-k.k c.find-found.result _ c.from_mains-w.result at c.work_mains.ensures c.from_mains-w.ensures
+    (held_upto c.loop-k.month c.loop-k.k) c.held-n.result c.loop-k.invariant.whole c.loop-k-test.true c.in_default.is
 
 pub weight_of-p-requires : goal.weight_of-p-requires
 weight_of-p-requires c =
-    let is = some-of c.from_mains-w.result.corrected _ _ (sym c.ok_or.ensures.value ∙ c.in_ok-xy.was) in
-    let small : Sized (2 ^ 22) c.in_ok-xy.xy = subst Small is c.from_mains-w.ensures.small in
-    rw (in-register c.in_ok-xy.xy.x small.x) small.x
+    let small : Sized (2 ^ 22) c.in-Some.xy = subst Small c.in-Some.is c.from_mains-w.ensures.small in
+    rw (in-register c.in-Some.xy.x small.x) small.x
 
 pub weight_of-q-requires : goal.weight_of-q-requires
 weight_of-q-requires c =
-    let is = some-of c.from_mains-w.result.corrected _ _ (sym c.ok_or.ensures.value ∙ c.in_ok-xy.was) in
-    let small : Sized (2 ^ 22) c.in_ok-xy.xy = subst Small is c.from_mains-w.ensures.small in
-    rw (in-register c.in_ok-xy.xy.y small.y) small.y
+    let small : Sized (2 ^ 22) c.in-Some.xy = subst Small c.in-Some.is c.from_mains-w.ensures.small in
+    rw (in-register c.in-Some.xy.y small.y) small.y
 
 pub loop-k-preserved : goal.loop-k-preserved
 loop-k-preserved c =
     let at = c.find-found.ensures.value ∙ by-first-rows c.args.table.maincards c.args.table.mains c.args.table.shallowcards c.args.table.shallows (get_or c.args.station.places c.loop-k.k 0) c.first_rows-mains.ensures c.first_rows-shallows.ensures c.find-found.ensures.place_lt_places_in_abyte in
-    let is = some-of c.from_mains-w.result.corrected _ _ (sym c.ok_or.ensures.value ∙ c.in_ok-xy.was) in
-    let small : Sized (2 ^ 22) c.in_ok-xy.xy = subst Small is c.from_mains-w.ensures.small in
+    let small : Sized (2 ^ 22) c.in-Some.xy = subst Small c.in-Some.is c.from_mains-w.ensures.small in
     let amplitude = get_or c.args.station.amplitudes c.loop-k.k 0 in
     let fp : SFits w32 c.weight_of-p.result = search rules in
     let fq : SFits w32 c.weight_of-q.result = search rules in
-    let p : to_z w32 (of_z w32 c.weight_of-p.result) ≡ weight amplitude c.in_ok-xy.xy.x = weighed amplitude c.in_ok-xy.xy.x c.weight_of-p.result fp small.x c.weight_of-p.ensures in
-    let q : to_z w32 (of_z w32 c.weight_of-q.result) ≡ weight amplitude c.in_ok-xy.xy.y = weighed amplitude c.in_ok-xy.xy.y c.weight_of-q.result fq small.y c.weight_of-q.ensures in
+    let p : to_z w32 (of_z w32 c.weight_of-p.result) ≡ weight amplitude c.in-Some.xy.x = weighed amplitude c.in-Some.xy.x c.weight_of-p.result fp small.x c.weight_of-p.ensures in
+    let q : to_z w32 (of_z w32 c.weight_of-q.result) ≡ weight amplitude c.in-Some.xy.y = weighed amplitude c.in-Some.xy.y c.weight_of-q.result fq small.y c.weight_of-q.ensures in
     let k : c.loop-k.k < most_records = omega (arith, c.loop-k-test.true, c.held-n.ensures) in
     rw (p, q)
     (record {
       whole = accepted c.args.table c.args.station c.args.given c.requires.mains_value c.loop-k.k c.find-found.result _ c.from_mains-w.result at c.work_mains.ensures c.from_mains-w.ensures
-          (held_upto c.loop-k.month c.loop-k.k) c.held-n.result c.loop-k.invariant.whole c.loop-k-test.true c.in_ok-xy.xy is c.frequency_at.result _ c.frequency_at.ensures
-          (stands-last c.loop-k.month c.loop-k.k c.from_mains-w.result.argument (get_or c.args.station.lags c.loop-k.k 0) c.frequency_at.result (weight amplitude c.in_ok-xy.xy.x) (weight amplitude c.in_ok-xy.xy.y) c.loop-k.invariant.room k);
-      room = room-kept c.loop-k.month c.loop-k.k c.from_mains-w.result.argument (get_or c.args.station.lags c.loop-k.k 0) c.frequency_at.result (weight amplitude c.in_ok-xy.xy.x) (weight amplitude c.in_ok-xy.xy.y) c.loop-k.invariant.room;
+          (held_upto c.loop-k.month c.loop-k.k) c.held-n.result c.loop-k.invariant.whole c.loop-k-test.true c.in-Some.xy c.in-Some.is c.frequency_at.result _ c.frequency_at.ensures
+          (stands-last c.loop-k.month c.loop-k.k c.from_mains-w.result.argument (get_or c.args.station.lags c.loop-k.k 0) c.frequency_at.result (weight amplitude c.in-Some.xy.x) (weight amplitude c.in-Some.xy.y) c.loop-k.invariant.room k);
+      room = room-kept c.loop-k.month c.loop-k.k c.from_mains-w.result.argument (get_or c.args.station.lags c.loop-k.k 0) c.frequency_at.result (weight amplitude c.in-Some.xy.x) (weight amplitude c.in-Some.xy.y) c.loop-k.invariant.room;
       kept = c.work_mains.ensures.kept;
     })
 

@@ -9,5 +9,5 @@ abbrev pub invariant-loop-k : goal.invariant-loop-k
 invariant-loop-k l = record {
   whole : with_rest l.table l.station l.given (held_upto l.month l.k) l.n l.k ≡ all l.table l.station l.given;
   room : Room l.month;
-  kept : KeptBy l.given l.table.maincards l.table.mainangles l.table.satelliteangles l.table.satelliteratios l.kept;
+  kept : KeptBy l.given l.table l.kept;
 }

@@ -3,7 +3,6 @@ use borrow.Author.Rules.{rules}
 use mathlib.Core.Path.{◌≡◌, sym}
 use native.Mathlib.Omega.{arith}
 use lib.ListN.{length}
-use Rattle.std.proofs.lemmas.Result.{err_from_is_err_and}
 use Rattle.limits.specs.Limits.{most_records}
 use Rattle.calendar.specs.Calendar.{months_a_year}
 use Rattle.year.proofs.Prepared.{month-in-range, one_more, refused-at, all_done}
@@ -13,19 +12,18 @@ pub prepare-requires-clause-month_value : goal.prepare-requires-clause-month_val
 prepare-requires-clause-month_value c =
     month-in-range c.args.year c.loop-m.m c.requires.1.0 c.loop-m-test.true
 
-pub returns-in_err-month : goal.returns-in_err-month
-returns-in_err-month c =
-    let p = err_from_is_err_and c.from_residual.result c.from_residual.ensures.1 in
-    rw (p.1, p.2) (refused-at c.args.table c.args.station c.args.year c.loop-m.m c.loop-m.frequencies c.loop-m.arguments c.loop-m.ps c.loop-m.qs c.loop-m.invariant c.loop-m-test.true _ (sym c.in_err-month.ensures))
+pub returns-in-Err : goal.returns-in-Err
+returns-in-Err c =
+    refused-at c.args.table c.args.station c.args.year c.loop-m.m c.loop-m.frequencies c.loop-m.arguments c.loop-m.ps c.loop-m.qs c.loop-m.invariant c.loop-m-test.true c.in-Err.refused (sym c.in-Err.ensures)
 
 pub loop-m-preserved : goal.loop-m-preserved
 loop-m-preserved c =
-    let month = c.in_ok-month.month in
+    let month = c.in-Ok.month in
     let vs : length month.arguments ≡ most_records = search rules in
     let ps : length month.ps ≡ most_records = search rules in
     let qs : length month.qs ≡ most_records = search rules in
-    rw (c.put_row.ensures, c.put_row-in-loop-m.ensures, c.put_row-in-loop-m-2.ensures)
-    (one_more c.args.table c.args.station c.args.year c.loop-m.m c.loop-m.frequencies c.loop-m.arguments c.loop-m.ps c.loop-m.qs c.loop-m.invariant c.loop-m-test.true month (sym c.in_ok-month.ensures)
+    rw (c.put_month.ensures.arguments, c.put_month.ensures.cosines, c.put_month.ensures.sines)
+    (one_more c.args.table c.args.station c.args.year c.loop-m.m c.loop-m.frequencies c.loop-m.arguments c.loop-m.ps c.loop-m.qs c.loop-m.invariant c.loop-m-test.true month (sym c.in-Ok.ensures)
     (record { there = c.loop-m-test.true; whole = vs; long = c.loop-m.invariant.rows.arguments }) (record { there = c.loop-m-test.true; whole = ps; long = c.loop-m.invariant.rows.cosines }) (record { there = c.loop-m-test.true; whole = qs; long = c.loop-m.invariant.rows.sines }))
 
 pub returns : goal.returns

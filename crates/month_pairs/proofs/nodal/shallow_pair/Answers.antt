@@ -27,7 +27,7 @@ times_row_part-requires c =
 pub returns-in_default : goal.returns-in_default
 returns-in_default c =
     record {
-      result_value = parts_next (pairs_of c.args.kept.now) (part_of (naturals 6 c.args.cards.now c.args.k) (integers 4 c.args.coefficients.now c.args.k))
+      result_value = parts_next (pairs_of c.args.kept.now) (part_of (naturals 6 c.args.table.now.shallowcards c.args.k) (integers 4 c.args.table.now.coefficients c.args.k))
           c.loop-j.j c.index-count.result (pair_of c.loop-j.p) (bad 11) c.loop-j-test.true (sym (ap corrected_of c.in_default.is) ∙ c.times_row_part.ensures.result_value) ∙ c.loop-j.invariant.same;
       small = tt;
     }
@@ -35,7 +35,7 @@ returns-in_default c =
 pub loop-j-preserved : goal.loop-j-preserved
 loop-j-preserved c =
     record {
-      same = parts_next (pairs_of c.args.kept.now) (part_of (naturals 6 c.args.cards.now c.args.k) (integers 4 c.args.coefficients.now c.args.k))
+      same = parts_next (pairs_of c.args.kept.now) (part_of (naturals 6 c.args.table.now.shallowcards c.args.k) (integers 4 c.args.table.now.coefficients c.args.k))
           c.loop-j.j c.index-count.result (pair_of c.loop-j.p) (good (pair_of c.in-Some.q)) c.loop-j-test.true c.in-Some.ensures.result_value ∙ c.loop-j.invariant.same;
       sized = c.in-Some.ensures.small;
     }
@@ -43,6 +43,6 @@ loop-j-preserved c =
 pub returns : goal.returns
 returns c =
     record {
-      result_value = parts_none (pairs_of c.args.kept.now) (part_of (naturals 6 c.args.cards.now c.args.k) (integers 4 c.args.coefficients.now c.args.k)) c.loop-j.j c.index-count.result (pair_of c.loop-j.p) c.loop-j-test.false ∙ c.loop-j.invariant.same;
+      result_value = parts_none (pairs_of c.args.kept.now) (part_of (naturals 6 c.args.table.now.shallowcards c.args.k) (integers 4 c.args.table.now.coefficients c.args.k)) c.loop-j.j c.index-count.result (pair_of c.loop-j.p) c.loop-j-test.false ∙ c.loop-j.invariant.same;
       small = c.loop-j.invariant.sized;
     }

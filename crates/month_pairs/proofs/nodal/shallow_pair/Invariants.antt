@@ -10,6 +10,6 @@ use Rattle.month_pairs.proofs.nodal.shallow_pair.Given as goal
 
 abbrev pub invariant-loop-j : goal.invariant-loop-j
 invariant-loop-j l = record {
-  same : times_parts (pairs_of l.kept) (pair_of l.p) (listed (part_of (naturals 6 l.cards l.k) (integers 4 l.coefficients l.k)) l.j (l.count - l.j)) ≡ pair_from_parts (pairs_of l.kept) (shallow_of l.cards l.coefficients l.k);
+  same : times_parts (pairs_of l.kept) (pair_of l.p) (listed (part_of (naturals 6 l.table.shallowcards l.k) (integers 4 l.table.coefficients l.k)) l.j (l.count - l.j)) ≡ pair_from_parts (pairs_of l.kept) (shallow_of l.table.shallowcards l.table.coefficients l.k);
   sized : Sized pair_most l.p;
 }

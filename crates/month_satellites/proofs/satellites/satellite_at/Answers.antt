@@ -26,5 +26,5 @@ returns c =
     let fb : SFits w8 c.at-2.result.now = search rules in
     let fd : SFits w8 c.at-3.result.now = search rules in
     let fe : SFits w8 c.at-4.result.now = search rules in
-    satellite-is c.args.angles.now c.args.ratios.now c.args.k _ _ _ _ _ _ (to_z-of_z w8 c.at.result.now fa ∙ c.at.ensures) (to_z-of_z w8 c.at-2.result.now fb ∙ c.at-2.ensures)
+    satellite-is c.args.table.now.satelliteangles c.args.table.now.satelliteratios c.args.k _ _ _ _ _ _ (to_z-of_z w8 c.at.result.now fa ∙ c.at.ensures) (to_z-of_z w8 c.at-2.result.now fb ∙ c.at-2.ensures)
     (to_z-of_z w8 c.at-3.result.now fd ∙ c.at-3.ensures) (to_z-of_z w8 c.at-4.result.now fe ∙ c.at-4.ensures) c.at-5.ensures c.at-6.ensures

@@ -13,7 +13,7 @@ loop-j-init c =
 pub work_main-requires : goal.work_main-requires
 work_main-requires c =
     record {
-      table = c.requires.table;
+      cosines = c.requires.cosines;
       given = c.requires.given;
       kept_by = c.loop-j.invariant.kept;
     }
@@ -23,7 +23,7 @@ loop-j-preserved c =
     let main = c.index-main.ensures.value ∙ c.entry_at-in-loop-j.ensures in
     record {
       kept = c.work_main.ensures.kept;
-      has = one-part-more _ _ c.index-main.result c.loop-j.kept _ (naturals 6 c.args.shallowcards.now c.args.row) c.loop-j.j main c.loop-j.invariant.has c.work_main.ensures;
+      has = one-part-more _ _ c.index-main.result c.loop-j.kept _ (naturals 6 c.args.table.now.shallowcards c.args.row) c.loop-j.j main c.loop-j.invariant.has c.work_main.ensures;
     }
 
 pub returns : goal.returns

@@ -7,6 +7,6 @@ use Rattle.month_workings.proofs.workings.work_parts.Given as goal
 
 abbrev pub invariant-loop-j : goal.invariant-loop-j
 invariant-loop-j l = record {
-  kept : KeptBy l.given l.cards l.angles l.satelliteangles l.ratios l.kept;
-  has : (i : ℕ) → i < l.j → Has l.kept (get_or (naturals 6 l.shallowcards l.row) (2 + i) 0);
+  kept : KeptBy l.given l.table l.kept;
+  has : (i : ℕ) → i < l.j → Has l.kept (get_or (naturals 6 l.table.shallowcards l.row) (2 + i) 0);
 }

@@ -2,9 +2,6 @@
 -- The number of turns left falls. Assumes nothing.
 use borrow.Author.Rules.{rules}
 use mathlib.Core.Path.{◌≡◌, sym, ◌∙◌}
-use mathlib.Core.Bool.{false}
-use Rattle.std.specs.Prelude.{MatchOption}
-use Rattle.turns.specs.declared.search.Next.{Next}
 use native.Mathlib.Omega.{arith}
 use lib.ListN.{set}
 use lib.Seq.{set_out}
@@ -64,5 +61,4 @@ loop-next-preserved c =
 
 pub returns : goal.returns
 returns c =
-    let high : MatchOption c.next_turn-next.result (c.is_some_and-high.result ≡ false) (λ (n : Next). c.is_some_and-high.result ≡ n.high) = search rules in
-    left-none c.loop-next.invariant c.in_default.is (high-first c.next_turn-next.result c.next_turn-next.ensures high)
+    left-none c.loop-next.invariant c.in_default.is (high-first c.next_turn-next.result c.next_turn-next.ensures c.is_high-high.ensures)

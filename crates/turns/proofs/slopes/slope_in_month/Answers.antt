@@ -46,9 +46,9 @@ loop-k-preserved c =
     let weights = ap₂ (λ (x y : ℤ). fall x y frequency c.angle_at-angle.result) (to_z-of_z w32 (get_or c.args.lent.ps.now c.loop-k.k (pos 0)) p) (to_z-of_z w32 (get_or c.args.lent.qs.now c.loop-k.k (pos 0)) q) in
     let same = c.fall_at-falls.ensures.value ∙ (weights ∙ ap (λ (u : ℕ). fall (get_or c.args.lent.ps.now c.loop-k.k (pos 0)) (get_or c.args.lent.qs.now c.loop-k.k (pos 0)) frequency u) c.angle_at-angle.ensures) in
     let all = falls-more c.args.lent.arguments.now c.args.lent.lags.now c.args.lent.frequencies.now c.args.lent.ps.now c.args.lent.qs.now c.args.minute c.loop-k.k c.args.lent.count c.loop-k-test.true in record {
-        size = more.1;
-        left = ap (λ (y : ℤ). y +ℤ left) more.0
-            ∙ (+ℤ_assoc z c.fall_at-falls.result left ∙ (ap (λ (y : ℤ). z +ℤ y) (ap (λ (y : ℤ). y +ℤ left) same ∙ sym all) ∙ c.loop-k.invariant.left));
+      size = more.1;
+      left = ap (λ (y : ℤ). y +ℤ left) more.0
+          ∙ (+ℤ_assoc z c.fall_at-falls.result left ∙ (ap (λ (y : ℤ). z +ℤ y) (ap (λ (y : ℤ). y +ℤ left) same ∙ sym all) ∙ c.loop-k.invariant.left));
     }
 
 pub overflow_sub-result : goal.overflow_sub-result
