@@ -1,5 +1,5 @@
 // A page that is written on: what is put stands on it until it is full, or flushed, and goes to standard output then.
-ghost use Rattle.std.specs.Prelude.{◌≡◌, ◌≤◌, length, IfOk};
+ghost use Rattle.std.specs.Prelude.{◌≡◌, ◌-◌, ◌<◌, ◌≤◌, length, get_or, IfOk};
 
 use std::io;
 
@@ -25,35 +25,46 @@ impl Page {
         }
     }
 
-    // Puts a byte.
-    pub fn put(&mut self, rt: &impl Print, byte: u8) -> io::Result<()> {
-        self.at = crate::put(rt, &mut self.bytes, self.at, byte)?;
+    // Puts a byte; a full page is written out before.
+    pub fn put(&mut self, rt: &impl Print, byte: u8) -> io::Result<()>
+        ensures { IfOk result (λ _. (0 < self.new.at) × (get_or self.new.bytes (self.new.at - 1) 0 ≡ byte)) }
+    {
+        if self.at == SIZE {
+            self.flush(rt)?;
+        }
+        self.bytes[self.at] = byte;
+        self.at += 1;
         Ok(())
     }
 
     // Puts bytes one after another.
     pub fn put_bytes(&mut self, rt: &impl Print, bytes: &[u8]) -> io::Result<()> {
-        self.at = crate::put_bytes(rt, &mut self.bytes, self.at, bytes)?;
+        for byte in bytes {
+            self.put(rt, *byte)?;
+        }
         Ok(())
     }
 
     // Puts a number in decimal.
     pub fn put_number(&mut self, rt: &impl Print, number: u64) -> io::Result<()> {
-        self.at = crate::put_number(rt, &mut self.bytes, self.at, number)?;
-        Ok(())
+        let mut text = itoa::Buffer::new();
+        self.put_bytes(rt, text.format(number).as_bytes())
     }
 
     // Puts a number of a size in decimal, with a minus where it is negative.
     pub fn put_size(&mut self, rt: &impl Print, negative: bool, size: u64) -> io::Result<()> {
-        self.at = crate::put_size(rt, &mut self.bytes, self.at, negative, size)?;
-        Ok(())
+        if negative {
+            self.put(rt, b'-')?;
+        }
+        self.put_number(rt, size)
     }
 
     // Writes out what stands on the page, which is then empty.
     pub fn flush(&mut self, rt: &impl Print) -> io::Result<()>
         ensures { IfOk result (λ _. self.new.at ≡ 0) }
     {
-        self.at = crate::flush(rt, &self.bytes, self.at)?;
+        rt.write_all(&self.bytes[..self.at])?;
+        self.at = 0;
         Ok(())
     }
 }
