@@ -8,16 +8,16 @@ use borrow.Author.Tests.{ltb-true}
 use lib.ListN.{length}
 use Rattle.commandline.specs.Lengths.{comma_at, length_end}
 
-left-of : (a b : Bool) → (a && b) ≡ true → a ≡ true
-left-of true b e = refl
-left-of false b e = e
+left_of : (a b : Bool) → (a && b) ≡ true → a ≡ true
+left_of true b e = refl
+left_of false b e = e
 
 -- a comma stands within the word
-pub comma-within : (word : List ℕ) (at : ℕ) → comma_at word at ≡ true → at < length word
+pub comma_within : (word : List ℕ) (at : ℕ) → comma_at word at ≡ true → at < length word
 unfolding comma_at
-comma-within word at e = ltb-true _ _ (left-of _ _ e)
+comma_within word at e = ltb-true _ _ (left_of _ _ e)
 
 -- a length ends where it begins, or later
-pub end-least : (word : List ℕ) (at : ℕ) → at ≤ length_end word at
+pub end_least : (word : List ℕ) (at : ℕ) → at ≤ length_end word at
 unfolding length_end
-end-least word at = omega (arith)
+end_least word at = omega (arith)

@@ -1,7 +1,7 @@
 -- What holds of the numbers that a command line asks with. Assumes nothing.
 use Rattle.std.specs.Prelude.{ℕ, ◌≤◌, List, get_or}
 use Rattle.commandline.specs.declared.Asked.{Asked}
-use Rattle.commandline.specs.declared.Asked.TheVariants.{Help, Refusals, Month, Day, Heights, Series, MonthDrawing, DayDrawing, Year, YearTable, YearDrawing, Bookings, Hourly, Wrong}
+use Rattle.commandline.specs.declared.Asked.TheVariants.{Help, Refusals, Month, Day, Heights, Series, MonthDrawing, DayDrawing, Year, YearTable, YearDrawing, Bookings, Hourly}
 
 -- where a day is asked, it is at least the month's first: day 0 is a wrong word
 abbrev pub DayAsked : Asked → Type 0
@@ -18,7 +18,6 @@ DayAsked (YearTable year) = Unit {0}
 DayAsked (YearDrawing year) = Unit {0}
 DayAsked (Bookings year month file) = Unit {0}
 DayAsked (Hourly year month station) = Unit {0}
-DayAsked (Wrong wrong start) = Unit {0}
 
 -- hourly YEAR MONTH STATION: the values of the words behind the command's own, which is word 0
 abbrev pub hourly_asked : List ℕ → Asked

@@ -1,4 +1,5 @@
 pub mod Words
+pub mod Numbers
 pub mod Times
 pub mod Lengths
 pub mod Days

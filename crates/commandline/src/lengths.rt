@@ -1,19 +1,13 @@
 // The three stride lengths of a station as a word says them: S,M,D in minutes, for semidiurnal, mixed and diurnal tides.
 ghost use Rattle.std.specs.Prelude.{◌≡◌, ◌≤◌};
-ghost use Rattle.commandline.specs.Lengths.{three_of, comma_at, length_end, length_in, lengths_of};
-ghost use Rattle.fields.specs.inner.Narrow.{narrow_gives};
+ghost use Rattle.commandline.specs.Lengths.{comma_at, length_end, length_in, lengths_of};
+ghost use Rattle.commandline.specs.Numbers.{number_in};
 
-use fields::{Format, Narrow};
+use crate::numbers::number;
 use station::strides::Strides;
 
-// Three lengths, of any size: the clock says which it takes.
-#[derive(Clone, Copy)]
-pub enum Lengths {
-    Three(Strides),
-    NoLengths,
-}
-
 // Where the bytes of a length end that begins at a byte: a comma is below each of them.
+#[tactic(auto, using(crate::proofs::Words::row_from), unfolding(crate::specs::Lengths::length_end))]
 fn length_end(word: &[u8], at: usize) -> usize
     ensures { result ≡ length_end word.now at }
 {
@@ -21,60 +15,45 @@ fn length_end(word: &[u8], at: usize) -> usize
 }
 
 // Whether a comma stands at a byte.
+#[tactic(auto, unfolding(crate::specs::Lengths::comma_at))]
 fn comma_at(word: &[u8], at: usize) -> bool
     ensures { result ≡ comma_at word.now at }
 {
     at < word.len() && columns::column(word, at) == b','
 }
 
-// The length that stands from one byte up to another.
-fn length_in(word: &[u8], from: usize, end: usize) -> Narrow
+// The length that stands from one byte up to another, of any size: the clock says which it takes.
+#[tactic(auto, unfolding(crate::specs::Lengths::length_in))]
+fn length_in(word: &[u8], from: usize, end: usize) -> Option<u32>
     requires { from ≤ end }
-    ensures { narrow_gives result ≡ length_in word.now from end }
+    ensures { result ≡ number_in (length_in word.now from end) }
 {
-    fields::narrow_field(word, from, end - from, Format::Whole, 4_294_967_295)
+    number(word, from, end - from, u32::MAX)
 }
 
-// Three lengths where each is a number.
-fn three(first: Narrow, second: Narrow, third: Narrow) -> Lengths
-    ensures { result ≡ three_of (narrow_gives first) (narrow_gives second) (narrow_gives third) }
+// The three lengths that a word says; none where it says no three.
+#[tactic(auto, using(crate::proofs::Commas::comma_within, crate::proofs::Commas::end_least), unfolding(crate::specs::Lengths::lengths_of))]
+pub fn lengths_of(word: &[u8]) -> Option<Strides>
+    ensures { result ≡ lengths_of word.now }
 {
-    let Narrow::Value(semidiurnal) = first else {
-        return Lengths::NoLengths;
-    };
-    let Narrow::Value(mixed) = second else {
-        return Lengths::NoLengths;
-    };
-    let Narrow::Value(diurnal) = third else {
-        return Lengths::NoLengths;
-    };
-    Lengths::Three(Strides {
+    let first = length_end(word, 0);
+    if !comma_at(word, first) {
+        return None;
+    }
+    let second = length_end(word, first + 1);
+    if !comma_at(word, second) {
+        return None;
+    }
+    let third = length_end(word, second + 1);
+    if third != word.len() {
+        return None;
+    }
+    let semidiurnal = length_in(word, 0, first)?;
+    let mixed = length_in(word, first + 1, second)?;
+    let diurnal = length_in(word, second + 1, third)?;
+    Some(Strides {
         semidiurnal,
         mixed,
         diurnal,
     })
-}
-
-// The three lengths that a word says.
-pub fn lengths_of(word: &[u8]) -> Lengths
-    ensures { result ≡ lengths_of word.now }
-{
-    let bytes = word.len();
-    let first = length_end(word, 0);
-    if !comma_at(word, first) {
-        return Lengths::NoLengths;
-    }
-    let second = length_end(word, first + 1);
-    if !comma_at(word, second) {
-        return Lengths::NoLengths;
-    }
-    let third = length_end(word, second + 1);
-    if third != bytes {
-        return Lengths::NoLengths;
-    }
-    three(
-        length_in(word, 0, first),
-        length_in(word, first + 1, second),
-        length_in(word, second + 1, third),
-    )
 }

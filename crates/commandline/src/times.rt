@@ -2,32 +2,17 @@
 ghost use Rattle.std.specs.Prelude.{◌≡◌};
 ghost use Rattle.commandline.specs.Times.{time_of};
 
-use fields::{Format, Narrow};
+use crate::numbers::number;
 
-// The minute of the day that a word HH:MM is.
-#[derive(Clone, Copy)]
-pub enum Time {
-    At(u32),
-    NoTime,
-}
-
-// The time that a word is.
-pub fn time_of(word: &[u8]) -> Time
+// The minute of the day that a word HH:MM is; none where it is no time.
+#[tactic(auto, unfolding(crate::specs::Times::time_of))]
+pub fn time_of(word: &[u8]) -> Option<u32>
     ensures { result ≡ time_of word.now }
 {
-    if word.len() != 5 {
-        return Time::NoTime;
+    if word.len() != 5 || columns::column(word, 2) != b':' {
+        return None;
     }
-    if columns::column(word, 2) != b':' {
-        return Time::NoTime;
-    }
-    let hours = fields::narrow_field(word, 0, 2, Format::Whole, 23);
-    let Narrow::Value(hour) = hours else {
-        return Time::NoTime;
-    };
-    let minutes = fields::narrow_field(word, 3, 2, Format::Whole, 59);
-    let Narrow::Value(minute) = minutes else {
-        return Time::NoTime;
-    };
-    Time::At(60 * hour + minute)
+    let hour = number(word, 0, 2, 23)?;
+    let minute = number(word, 3, 2, 59)?;
+    Some(60 * hour + minute)
 }

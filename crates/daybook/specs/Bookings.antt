@@ -1,8 +1,6 @@
 -- docs/FORMATS.md, "The file of bookings": what its lines say together. Assumes nothing.
-use Rattle.std.specs.Prelude.{ℕ, ◌+◌, max, List, [], ◌∷◌, ◌++◌, length}
+use Rattle.std.specs.Prelude.{ℕ, ◌+◌, max, List, [], ◌∷◌, ◌++◌, Option, Some, None, length}
 use Rattle.daybook.specs.Booking.{without_return, booking_of}
-use Rattle.daybook.specs.declared.booking.Booking.{Booking}
-use Rattle.daybook.specs.declared.booking.Booking.TheVariants.{At, NoBooking}
 
 -- "The file has at most 65,536 bytes", and a booking takes eight at the least
 abbrev pub most_bookings : ℕ
@@ -14,9 +12,9 @@ pub data Read : Type 0 where
   no_booking : ℕ → Read
 
 -- goes on with a booking's minute
-abbrev pub onward : Booking → Read → (ℕ → Read) → Read
-onward (At minute) none f = f minute
-onward NoBooking none f = none
+abbrev pub onward : Option ℕ → Read → (ℕ → Read) → Read
+onward (Some minute) none f = f minute
+onward None none f = none
 
 -- the lines behind those of the bookings before them; lines are counted from 1
 unfoldable pub minutes_from : List ℕ → List (List ℕ) → Read

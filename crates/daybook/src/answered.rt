@@ -1,9 +1,10 @@
 // The lines of the file, each with its height.
-ghost use Rattle.std.specs.Prelude.{◌≡◌, ◌-◌, ◌≤◌, length, IfOk};
+ghost use Rattle.std.specs.Prelude.{◌≡◌};
 ghost use Rattle.daybook.specs.Booking.{shown_as};
 
-use crate::{booking, reading};
-use card::lines;
+use crate::booking::without_return;
+use crate::reading;
+use output::pages::Page;
 use page::face::Face;
 use page::shown::Date;
 use page::{face, figures};
@@ -13,90 +14,54 @@ use std::io;
 fn shown(byte: u8) -> u8
     ensures { result ≡ shown_as byte }
 {
-    if byte == 9 {
-        return 9;
+    match byte {
+        b'\t' => b'\t',
+        0..b' ' => b'?',
+        _ => byte,
     }
-    if byte < 32 {
-        return b'?';
-    }
-    byte
 }
 
-// Puts a line as it is shown.
-fn put_shown(rt: &impl Print, page: &mut [u8], at: usize, line: &[u8]) -> io::Result<usize>
-    ensures { IfOk result (λ next. next ≤ length page.old) }
-{
-    let mut next = output::on_page(page.len(), at);
-    let mut i: usize = 0;
-    while i < line.len() {
-        next = output::put(rt, page, next, shown(line[i]))?;
-        i += 1;
-    }
-    Ok(next)
-}
-
-// How much of a width so many bytes leave over.
-fn left_over(bytes: usize, width: usize) -> usize
-    ensures { result ≡ width - bytes }
-{
-    if bytes < width { width - bytes } else { 0 }
-}
-
-// Puts a line, blanks up to a width, and a height.
+// Puts a line as it is shown, blanks up to a width, and a height.
 fn put_line(
     rt: &impl Print,
-    page: &mut [u8],
-    at: usize,
+    page: &mut Page,
     line: &[u8],
     width: usize,
     height: i64,
-) -> io::Result<usize>
-    ensures { IfOk result (λ next. next ≤ length page.old) }
-{
-    let a = put_shown(rt, page, at, line)?;
-    let b = figures::put_blanks(rt, page, a, left_over(line.len(), width))?;
-    let c = output::put(rt, page, b, 32)?;
-    let d = figures::put_height(rt, page, c, height, 3)?;
-    output::put(rt, page, d, 10)
+) -> io::Result<()> {
+    for byte in line {
+        page.put(rt, shown(*byte))?;
+    }
+    figures::put_blanks(rt, page, width.saturating_sub(line.len()))?;
+    page.put(rt, b' ')?;
+    figures::put_height(rt, page, height, 3)?;
+    page.put(rt, b'\n')
 }
 
-// Puts each line of a file with its height.
-fn put_lines(
-    rt: &impl Print,
-    page: &mut [u8],
-    at: usize,
-    file: &[u8],
-    heights: &[i64],
-) -> io::Result<usize>
-    ensures { IfOk result (λ next. next ≤ length page.old) }
-{
+// Puts each line of a file with its height; 0 where there is none.
+fn put_lines(rt: &impl Print, page: &mut Page, file: &[u8], heights: &[i64]) -> io::Result<()> {
     let width = reading::longest_line(file);
-    let mut next = output::on_page(page.len(), at);
-    let mut start: usize = 0;
-    let mut k: usize = 0;
-    while start < file.len() {
-        let line = booking::line_at(file, start);
-        next = put_line(rt, page, next, line, width, digits::height_at(heights, k))?;
-        start = lines::next_line(file, start);
-        k += 1;
+    let mut rest = file;
+    let mut left = heights.iter();
+    while !rest.is_empty() {
+        let line = without_return(columns::first_line(rest));
+        put_line(rt, page, line, width, left.next().copied().unwrap_or(0))?;
+        rest = columns::rest_lines(rest);
     }
-    Ok(next)
+    Ok(())
 }
 
 // Puts the sheet of a month's bookings: its head, and the file's lines with their heights.
-pub fn put_sheet<'a>(
+pub fn put_sheet(
     rt: &impl Print,
-    page: &mut [u8],
-    at: usize,
+    page: &mut Page,
     face: Face,
     date: Date,
-    file: &'a [u8],
-    heights: &'a [i64],
-) -> io::Result<usize>
-    ensures { IfOk result (λ next. next ≤ length page.old) }
-{
-    let title = face::put_title(rt, page, at, face, date)?;
-    let stand = face::put_stand(rt, page, title, face)?;
-    let next = output::put_bytes(rt, page, stand, b"\n\n")?;
-    put_lines(rt, page, next, file, heights)
+    file: &[u8],
+    heights: &[i64],
+) -> io::Result<()> {
+    face::put_title(rt, page, face, date)?;
+    face::put_stand(rt, page, face)?;
+    page.put_bytes(rt, b"\n\n")?;
+    put_lines(rt, page, file, heights)
 }

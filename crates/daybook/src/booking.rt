@@ -1,40 +1,19 @@
 // One line of the file.
-ghost use Rattle.std.specs.Prelude.{◌≡◌, ◌-◌, ◌≤◌, length, drop};
-ghost use Rattle.columns.specs.Lines.{first_line};
+ghost use Rattle.std.specs.Prelude.{◌≡◌, ◌-◌, ◌≤◌};
 ghost use Rattle.daybook.specs.Booking.{without_return, day_of, booking_of};
 
-use card::lines;
 use commandline::times;
-use commandline::times::Time;
 use digits::dates;
 
-// What a line is: a booking, at a minute of the month, or none.
-#[derive(Clone, Copy)]
-pub enum Booking {
-    At(u32),
-    NoBooking,
-}
-
 // A line without the CR at its end.
-fn without_return(line: &[u8]) -> &[u8]
+#[tactic(auto, unfolding(crate::specs::Booking::without_return))]
+pub fn without_return(line: &[u8]) -> &[u8]
     ensures { result.now ≡ without_return line.now }
 {
-    let bytes = line.len();
-    if bytes == 0 {
-        return line;
+    match line {
+        [front @ .., b'\r'] => front,
+        _ => line,
     }
-    if columns::column(line, bytes - 1) != 13 {
-        return line;
-    }
-    &line[..bytes - 1]
-}
-
-// The line that starts at a byte of the file.
-pub fn line_at(file: &[u8], at: usize) -> &[u8]
-    requires { at ≤ length file.now }
-    ensures { result.now ≡ without_return (first_line (drop at file.now)) }
-{
-    without_return(lines::line_at(file, at))
 }
 
 // The number that a digit is.
@@ -45,7 +24,7 @@ fn digit(byte: u8) -> u32
     (byte - b'0') as u32
 }
 
-// The day that a line begins with; 0 where it begins with none.
+// The day that a line begins with; 0 where it begins with none. (`day_of` of specs/Booking.antt has that 0: day 00 is none, too.)
 fn day_of(line: &[u8]) -> u32
     ensures { result ≡ day_of line.now }
 {
@@ -55,23 +34,21 @@ fn day_of(line: &[u8]) -> u32
     0
 }
 
-// What a line is.
-pub fn booking_of(line: &[u8]) -> Booking
+// The minute of the month that a line books; none where it is no booking.
+#[tactic(auto, unfolding(crate::specs::Booking::booking_of))]
+pub fn booking_of(line: &[u8]) -> Option<u32>
     ensures { result ≡ booking_of line.now }
 {
     if columns::column(line, 2) != b' ' {
-        return Booking::NoBooking;
+        return None;
     }
     if columns::all_among(line, 8, 9, b'0', b'9') {
-        return Booking::NoBooking;
+        return None;
     }
     let day = day_of(line);
     if day == 0 {
-        return Booking::NoBooking;
+        return None;
     }
-    let time = times::time_of(columns::part(line, 3, 5));
-    match time {
-        Time::At(minute) => Booking::At(dates::minute_of_month(day, minute)),
-        Time::NoTime => Booking::NoBooking,
-    }
+    let minute = times::time_of(columns::part(line, 3, 5))?;
+    Some(dates::minute_of_month(day, minute))
 }

@@ -4,9 +4,7 @@ ghost use Rattle.columns.specs.Lines.{lines_of};
 ghost use Rattle.daybook.specs.Bookings.{longest_of, most_bookings};
 ghost use Rattle.daybook.specs.inner.Reading.{ReadPost};
 
-use crate::booking;
-use crate::booking::Booking;
-use card::lines;
+use crate::booking::{booking_of, without_return};
 
 // The longest file that is read, in bytes.
 pub const FILE: usize = 65_536;
@@ -14,65 +12,53 @@ pub const FILE: usize = 65_536;
 // No such file has more bookings: each takes eight bytes at the least.
 pub const PLACES: usize = FILE / 8;
 
-// What a file comes to: so many bookings, or the number of the first line that is none.
-#[derive(Clone, Copy)]
-pub enum Reading {
-    Bookings(usize),
-    NoBooking(usize),
+// A line that is no booking, by its number, the first being 1.
+#[derive(Clone, Copy, Debug, PartialEq, Eq)]
+pub struct NoBooking {
+    pub line: usize,
 }
 
-// Room for the minutes of a file's bookings. (Each a function's result, so that its length is known as a fact.)
-pub fn minute_places() -> [u32; PLACES]
-    ensures { most_bookings ≡ length result }
-{
-    [0; PLACES]
-}
-
-// Room for their heights.
-pub fn height_places() -> [i64; PLACES]
-    ensures { most_bookings ≡ length result }
-{
-    [0; PLACES]
-}
-
-// Fills in the minutes of the bookings of a file.
-fn fill_minutes(file: &[u8], minutes: &mut [u32]) -> Reading
+// Fills in the minutes of the bookings of a file; gives how many there are.
+#[tactic(auto, using(crate::proofs::reading::Walk::rest_shorter, crate::proofs::reading::Walk::rest_far, crate::proofs::reading::Walk::stops, crate::proofs::reading::Walk::one_more, crate::proofs::reading::Walk::no_more))]
+fn fill_minutes(file: &[u8], minutes: &mut [u32]) -> Result<usize, NoBooking>
     requires { length file.now ≤ 8 * length minutes.old }
     ensures { ReadPost file.now (length minutes.old) minutes.new result }
 {
-    let mut at: usize = 0;
-    let mut k: usize = 0;
-    while at < file.len() {
-        let line = booking::booking_of(booking::line_at(file, at));
-        let Booking::At(minute) = line else {
-            return Reading::NoBooking(k + 1);
+    let mut rest = file;
+    let mut count = 0;
+    while !rest.is_empty() {
+        let Some(minute) = booking_of(without_return(columns::first_line(rest))) else {
+            return Err(NoBooking { line: count + 1 });
         };
-        minutes[k] = minute;
-        k += 1;
-        at = lines::next_line(file, at);
+        minutes[count] = minute;
+        count += 1;
+        rest = columns::rest_lines(rest);
     }
-    Reading::Bookings(k)
+    Ok(count)
 }
 
-// Fills in the minutes of the bookings of a file, which is the first bytes of a buffer.
-pub fn read(buffer: &[u8; FILE], bytes: usize, minutes: &mut [u32; PLACES]) -> Reading
+// Fills in the minutes of the bookings of a file, which is the first bytes of a buffer. (The buffer's type bounds the file: a slice would need a
+// `requires`.)
+pub fn read(
+    buffer: &[u8; FILE],
+    bytes: usize,
+    minutes: &mut [u32; PLACES],
+) -> Result<usize, NoBooking>
     ensures { ReadPost (take bytes buffer.now) most_bookings minutes.new result }
 {
     fill_minutes(columns::part(buffer, 0, bytes), minutes)
 }
 
 // The length of the longest line of a file.
+#[tactic(auto, using(crate::proofs::reading::Walk::rest_shorter, crate::proofs::reading::Walk::longest_here, crate::proofs::reading::Walk::longest_none))]
 pub fn longest_line(file: &[u8]) -> usize
     ensures { result ≡ longest_of (lines_of file.now) }
 {
-    let mut longest: usize = 0;
-    let mut at: usize = 0;
-    while at < file.len() {
-        let bytes = booking::line_at(file, at).len();
-        if longest < bytes {
-            longest = bytes;
-        }
-        at = lines::next_line(file, at);
+    let mut longest = 0;
+    let mut rest = file;
+    while !rest.is_empty() {
+        longest = longest.max(without_return(columns::first_line(rest)).len());
+        rest = columns::rest_lines(rest);
     }
     longest
 }

@@ -11,6 +11,7 @@ use digits::dates;
 use drawing_picture::{picture, title, yearband};
 use drawing_plots::plots;
 use monthturns::yearturns;
+use messages::months::Month;
 use output::pages::Page;
 use page::face::Face;
 use page::shown;
@@ -128,7 +129,11 @@ pub fn day(rt: HostRuntime, clock: Clock, face: Face, date: Date) -> io::Result<
     match clock::series(clock, start, 5, &mut heights) {
         Answer::Accepted => day_turns(rt, clock, face, date, &heights),
         Answer::Refused(refusal, _) => {
-            messages::refused_day(rt, date.year, date.month, date.day, refusal)
+            let month = Month {
+                year: date.year,
+                month: date.month,
+            };
+            messages::refused_day(rt, month, date.day, refusal)
         }
     }
 }

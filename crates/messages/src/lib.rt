@@ -5,62 +5,51 @@ mod pieces; // pieces of a line
 mod phrases; // which words say what
 mod textlines; // a line of a text
 pub mod matters; // what a refusal is about: of minutes, or of a card
+pub mod months; // a month by its name
 
+use crate::months::Month;
 use card::faults::Fault;
 use commandline::Wrong;
-use digits::{dates, texts};
 use limits::STEP;
-use refusals::Refusal;
+use refusals::{Refusal, Refused};
 use std::io;
 
-// Says a piece of text.
+// Says a piece of text that need not be one of characters, as a file's name.
 fn say(rt: HostRuntime, text: &[u8]) -> io::Result<()> {
     rt.stderr().write_all(text)
 }
 
-// Says a number.
-fn say_number(rt: HostRuntime, number: u64) -> io::Result<()> {
-    rt.stderr().print(number)
-}
-
 // Says the end of a line on a refusal: its number.
 fn say_refusal(rt: HostRuntime, refusal: Refusal) -> io::Result<()> {
-    say(rt, b" (refusal ")?;
-    say_number(rt, refusals::number_of(refusal) as u64)?;
-    say(rt, b")\n")
+    eprintln!(rt; " (refusal {})", refusals::number_of(refusal))
 }
 
-// Says which of several, where there are several.
-fn say_which(rt: HostRuntime, which: Option<usize>) -> io::Result<()> {
-    if let Some(number) = which {
-        say(rt, b" ")?;
-        say_number(rt, number as u64)?;
-    }
-    Ok(())
+// Says a refusal's own words, and its number.
+fn say_general(rt: HostRuntime, refusal: Refusal) -> io::Result<()> {
+    pieces::write_general(&rt.stderr(), refusal)?;
+    say_refusal(rt, refusal)
 }
 
-// Says what is wrong on a line.
+// Says what is wrong on a line, and which of several it is, where there are several.
 fn say_fault(rt: HostRuntime, fault: Fault) -> io::Result<()> {
-    let what = fault.what;
-    let trouble = fault.trouble;
-    pieces::write_what(&rt.stderr(), what)?;
-    say_which(rt, fault.which)?;
-    say(rt, b" ")?;
-    pieces::write_trouble(&rt.stderr(), trouble)
+    pieces::write_what(&rt.stderr(), fault.what)?;
+    if let Some(which) = fault.which {
+        eprint!(rt; " {which}")?;
+    }
+    eprint!(rt; " ")?;
+    pieces::write_trouble(&rt.stderr(), fault.trouble)
 }
 
 // Says the start of a line on what was asked with a number: SUBJECT NUMBER:
 fn say_subject(rt: HostRuntime, subject: &[u8], number: u64) -> io::Result<()> {
     say(rt, subject)?;
-    say(rt, b" ")?;
-    say_number(rt, number)?;
-    say(rt, b": ")
+    eprint!(rt; " {number}: ")
 }
 
 // Says the start of a line on a line of a file: FILE line N:
 fn say_line(rt: HostRuntime, file: &[u8], line: usize) -> io::Result<()> {
     say(rt, file)?;
-    say_subject(rt, b" line", line as u64)
+    eprint!(rt; " line {line}: ")
 }
 
 // FILE line N: what is wrong (refusal n)
@@ -84,8 +73,7 @@ pub fn refused_plainly(
     refusal: Refusal,
 ) -> io::Result<()> {
     say_line(rt, file, line)?;
-    pieces::write_general(&rt.stderr(), refusal)?;
-    say_refusal(rt, refusal)
+    say_general(rt, refusal)
 }
 
 // SUBJECT NUMBER: words (refusal n), for what was asked with a number.
@@ -96,8 +84,7 @@ pub fn refused_number(
     refusal: Refusal,
 ) -> io::Result<()> {
     say_subject(rt, subject, number)?;
-    pieces::write_general(&rt.stderr(), refusal)?;
-    say_refusal(rt, refusal)
+    say_general(rt, refusal)
 }
 
 // month NUMBER: words (refusal n), for a month that the clock refuses.
@@ -117,77 +104,52 @@ pub fn refused_turns(
         return refused_number(rt, subject, number, refusal);
     }
     say_subject(rt, subject, number)?;
-    say(rt, b"more than ")?;
-    say_number(rt, room as u64)?;
-    say(rt, b" high and low waters, the most that it has room for")?;
+    eprint!(rt; "more than {room} high and low waters, the most that it has room for")?;
     say_refusal(rt, refusal)
 }
 
 // --strides WORD: words (refusal n), for strides that the clock refuses.
 pub fn refused_strides(rt: HostRuntime, word: &[u8], refusal: Refusal) -> io::Result<()> {
-    say(rt, b"--strides ")?;
+    eprint!(rt; "--strides ")?;
     say(rt, word)?;
-    say(rt, b": ")?;
-    pieces::write_general(&rt.stderr(), refusal)?;
-    say_refusal(rt, refusal)
-}
-
-// Says a month and its year, as February 2026.
-fn say_month(rt: HostRuntime, year: u32, month: u32) -> io::Result<()> {
-    let name = dates::month_name(month);
-    say(rt, texts::trimmed(&name))?;
-    say(rt, b" ")?;
-    say_number(rt, year as u64)
+    eprint!(rt; ": ")?;
+    say_general(rt, refusal)
 }
 
 // day NUMBER: MONTH has so many days (refusal n), for a day that the clock refuses; the general words where the month has that day.
-pub fn refused_day(
-    rt: HostRuntime,
-    year: u32,
-    month: u32,
-    day: u32,
-    refusal: Refusal,
-) -> io::Result<()> {
-    if !matters::lacks_day(refusal, year, month, day) {
+pub fn refused_day(rt: HostRuntime, month: Month, day: u32, refusal: Refusal) -> io::Result<()> {
+    if !matters::lacks_day(refusal, month, day) {
         return refused_number(rt, b"day", day as u64, refusal);
     }
-    say_subject(rt, b"day", day as u64)?;
-    say_month(rt, year, month)?;
-    say(rt, b" has ")?;
-    say_number(rt, calendar::month_days(year, month) as u64)?;
-    say(rt, b" days")?;
+    let days = calendar::month_days(month.year, month.month);
+    eprint!(rt; "day {day}: {month} has {days} days")?;
     say_refusal(rt, refusal)
 }
 
 // step NUMBER: a step is 1 to 1440 minutes (refusal n), for a step out of range.
 pub fn refused_step(rt: HostRuntime, step: u32, refusal: Refusal) -> io::Result<()> {
-    say_subject(rt, b"step", step as u64)?;
-    say(rt, b"a step is 1 to ")?;
-    say_number(rt, STEP)?;
-    say(rt, b" minutes")?;
+    eprint!(rt; "step {step}: a step is 1 to {STEP} minutes")?;
     say_refusal(rt, refusal)
 }
 
 // count NUMBER: the series runs past the end of MONTH, whose last minute is N (refusal n)
 pub fn refused_count(
     rt: HostRuntime,
-    year: u32,
-    month: u32,
+    month: Month,
     count: u32,
     refusal: Refusal,
 ) -> io::Result<()> {
-    say_subject(rt, b"count", count as u64)?;
-    say(rt, b"the series runs past the end of ")?;
-    say_month(rt, year, month)?;
-    say(rt, b", whose last minute is ")?;
-    say_number(rt, calendar::month_minutes(year, month) as u64)?;
+    let last = calendar::month_minutes(month.year, month.month);
+    eprint!(rt;
+        "count {count}: the series runs past the end of {month}, whose last minute is {last}"
+    )?;
     say_refusal(rt, refusal)
 }
 
 // FILE line N: it is no booking.
 pub fn no_booking(rt: HostRuntime, file: &[u8], line: usize) -> io::Result<()> {
     say_line(rt, file, line)?;
-    say(rt, b"no booking, DD HH:MM is expected\n")
+    eprintln!(rt; "no booking, DD HH:MM is expected")
 }
 
 // Says the day and the time of a booking on a line of a text, which are its first eight bytes.
@@ -198,125 +160,113 @@ fn say_booking(rt: HostRuntime, text: &[u8], line: usize) -> io::Result<()> {
     Ok(())
 }
 
-// FILE line N: DD HH:MM is outside MONTH (refusal n), for a booking on a line of the file's text that the clock refuses.
-pub fn refused_booking<'a>(
+// FILE line N: DD HH:MM is outside MONTH (refusal n), for a booking of the file's text that the clock refuses, on the line that is the place.
+pub fn refused_booking(
     rt: HostRuntime,
-    file: &'a [u8],
-    text: &'a [u8],
-    line: usize,
-    year: u32,
-    month: u32,
-    refusal: Refusal,
+    file: &[u8],
+    text: &[u8],
+    month: Month,
+    refused: Refused,
 ) -> io::Result<()> {
+    let line = refused.place;
+    let refusal = refused.refusal;
     if !matters::of_minutes(refusal) {
         return refused_plainly(rt, file, line, refusal);
     }
     say_line(rt, file, line)?;
     say_booking(rt, text, line)?;
-    say(rt, b" is outside ")?;
-    say_month(rt, year, month)?;
+    eprint!(rt; " is outside {month}")?;
     say_refusal(rt, refusal)
 }
 
-// Says which hours the cards of a number have.
-fn say_hours(rt: HostRuntime, number: usize) -> io::Result<()> {
+// Which hours the cards of a number have.
+fn hours_of(number: usize) -> &'static str {
     if number == 1 {
-        return say(rt, b"01:00 to 12:00");
+        "01:00 to 12:00"
+    } else {
+        "13:00 to 24:00"
     }
-    say(rt, b"13:00 to 24:00")
 }
 
 // card N of DAY MONTH, its hours: words, in hundredths of the unit (refusal n), for the card at a place of a month's hourly cards.
-fn refused_card(
-    rt: HostRuntime,
-    year: u32,
-    month: u32,
-    place: usize,
-    refusal: Refusal,
-) -> io::Result<()> {
-    let number = matters::card_number(place);
-    say(rt, b"card ")?;
-    say_number(rt, number as u64)?;
-    say(rt, b" of ")?;
-    say_number(rt, matters::card_day(place) as u64)?;
-    say(rt, b" ")?;
-    say_month(rt, year, month)?;
-    say(rt, b", ")?;
-    say_hours(rt, number)?;
-    say(rt, b": ")?;
-    pieces::write_general(&rt.stderr(), refusal)?;
-    say(rt, b", in hundredths of the unit")?;
-    say_refusal(rt, refusal)
+fn refused_card(rt: HostRuntime, month: Month, refused: Refused) -> io::Result<()> {
+    let number = matters::card_number(refused.place);
+    let day = matters::card_day(refused.place);
+    let hours = hours_of(number);
+    eprint!(rt; "card {number} of {day} {month}, {hours}: ")?;
+    pieces::write_general(&rt.stderr(), refused.refusal)?;
+    eprint!(rt; ", in hundredths of the unit")?;
+    say_refusal(rt, refused.refusal)
 }
 
 // What the clock refuses of a month's hourly cards: the card at a place, or their station number.
 pub fn refused_hourly(
     rt: HostRuntime,
-    year: u32,
-    month: u32,
+    month: Month,
     station: u32,
-    place: usize,
-    refusal: Refusal,
+    refused: Refused,
 ) -> io::Result<()> {
-    if 0 < place {
-        return refused_card(rt, year, month, place, refusal);
+    if 0 < refused.place {
+        return refused_card(rt, month, refused);
     }
-    refused_number(rt, b"station", station as u64, refusal)
+    refused_number(rt, b"station", station as u64, refused.refusal)
 }
 
 // FILE: why the system refused it.
 pub fn failed(rt: HostRuntime, file: &[u8], error: io::Error) -> io::Result<()> {
     say(rt, file)?;
-    say(rt, b": ")?;
+    eprint!(rt; ": ")?;
     pieces::write_error(&rt.stderr(), error)?;
-    say(rt, b"\n")
+    eprintln!(rt)
 }
 
 // FILE: it is too large.
 pub fn too_large(rt: HostRuntime, file: &[u8]) -> io::Result<()> {
     say(rt, file)?;
-    say(rt, b": larger than 65536 bytes\n")
+    eprintln!(rt; ": larger than 65536 bytes")
 }
 
 // The command line is longer than the program can take.
 pub fn too_long(rt: HostRuntime) -> io::Result<()> {
-    say(rt, b"the command line is too long, try --help\n")
+    eprintln!(rt; "the command line is too long, try --help")
 }
 
 // WORD: what is wrong with it, try --help
 pub fn wrong_word(rt: HostRuntime, word: &[u8], wrong: Wrong) -> io::Result<()> {
     say(rt, word)?;
     pieces::write_wrong(&rt.stderr(), wrong)?;
-    say(rt, b", try --help\n")
+    eprintln!(rt; ", try --help")
 }
 
-// One line of the list of refusals: number and words.
-fn list_one(rt: HostRuntime, refusal: Refusal) -> io::Result<()> {
-    rt.print(refusals::number_of(refusal) as u64)?;
-    rt.write_all(b" ")?;
-    pieces::write_general(&rt, refusal)?;
-    rt.write_all(b"\n")
-}
+// The refusals, in the order of their numbers.
+static REFUSALS: [Refusal; 19] = [
+    Refusal::BadLine,
+    Refusal::Malformed,
+    Refusal::OutOfRange,
+    Refusal::BadName,
+    Refusal::Missing,
+    Refusal::TooMany,
+    Refusal::Ended,
+    Refusal::BadDate,
+    Refusal::BadMinutes,
+    Refusal::TooManyTurns,
+    Refusal::TooLarge,
+    Refusal::NoTable,
+    Refusal::NoStation,
+    Refusal::NoMonth,
+    Refusal::UnequalBuffers,
+    Refusal::BadStationNumber,
+    Refusal::BadHeight,
+    Refusal::ShortBuffer,
+    Refusal::BadStride,
+];
 
-// The list of all refusals, on standard output.
+// The list of all refusals, on standard output: a line each, its number and words.
 pub fn list_refusals(rt: HostRuntime) -> io::Result<()> {
-    list_one(rt, Refusal::BadLine)?;
-    list_one(rt, Refusal::Malformed)?;
-    list_one(rt, Refusal::OutOfRange)?;
-    list_one(rt, Refusal::BadName)?;
-    list_one(rt, Refusal::Missing)?;
-    list_one(rt, Refusal::TooMany)?;
-    list_one(rt, Refusal::Ended)?;
-    list_one(rt, Refusal::BadDate)?;
-    list_one(rt, Refusal::BadMinutes)?;
-    list_one(rt, Refusal::TooManyTurns)?;
-    list_one(rt, Refusal::TooLarge)?;
-    list_one(rt, Refusal::NoTable)?;
-    list_one(rt, Refusal::NoStation)?;
-    list_one(rt, Refusal::NoMonth)?;
-    list_one(rt, Refusal::UnequalBuffers)?;
-    list_one(rt, Refusal::BadStationNumber)?;
-    list_one(rt, Refusal::BadHeight)?;
-    list_one(rt, Refusal::ShortBuffer)?;
-    list_one(rt, Refusal::BadStride)
+    for refusal in &REFUSALS {
+        print!(rt; "{} ", refusals::number_of(*refusal))?;
+        pieces::write_general(&rt, *refusal)?;
+        println!(rt)?;
+    }
+    Ok(())
 }

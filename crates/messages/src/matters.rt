@@ -2,6 +2,7 @@
 ghost use Rattle.std.specs.Prelude.{◌≡◌};
 ghost use Rattle.messages.specs.Matters.{of_minutes, of_strides, of_room, lacks_day, series_matter, card_day, card_number};
 
+use crate::months::Month;
 use calls::reasons;
 use calls::reasons::Reason;
 use refusals::Refusal;
@@ -10,50 +11,45 @@ use refusals::Refusal;
 pub fn of_minutes(refusal: Refusal) -> bool
     ensures { result ≡ of_minutes refusal }
 {
-    refusals::number_of(refusal) == refusals::number_of(Refusal::BadMinutes)
+    refusal == Refusal::BadMinutes
 }
 
 // Whether a refusal is that of a stride.
 pub fn of_strides(refusal: Refusal) -> bool
     ensures { result ≡ of_strides refusal }
 {
-    refusals::number_of(refusal) == refusals::number_of(Refusal::BadStride)
+    refusal == Refusal::BadStride
 }
 
 // Whether a refusal is that of more turns than there is room for.
 pub fn of_room(refusal: Refusal) -> bool
     ensures { result ≡ of_room refusal }
 {
-    refusals::number_of(refusal) == refusals::number_of(Refusal::TooManyTurns)
+    refusal == Refusal::TooManyTurns
 }
 
 // Whether a day is refused because its month lacks it.
-pub fn lacks_day(refusal: Refusal, year: u32, month: u32, day: u32) -> bool
-    ensures { result ≡ lacks_day refusal year month day }
+#[tactic(auto, unfolding(crate::specs::Matters::lacks_day))]
+pub fn lacks_day(refusal: Refusal, month: Month, day: u32) -> bool
+    ensures { result ≡ lacks_day refusal month.year month.month day }
 {
-    of_minutes(refusal) && calendar::month_days(year, month) < day
+    of_minutes(refusal) && calendar::month_days(month.year, month.month) < day
 }
 
 // The question of 9 that turns down a series of so many heights in a month; none where the refusal is another.
-pub fn series_matter(
-    refusal: Refusal,
-    year: u32,
-    month: u32,
-    start: u32,
-    step: u32,
-    places: usize,
-) -> Reason
-    ensures { result ≡ series_matter refusal year month start step places }
+#[tactic(auto, unfolding(crate::specs::Matters::series_matter))]
+pub fn series_matter(refusal: Refusal, month: Month, start: u32, step: u32, places: usize) -> Option<Reason>
+    ensures { result ≡ series_matter refusal month.year month.month start step places }
 {
     if of_minutes(refusal) {
         return reasons::series_reason(
-            calendar::month_minutes(year, month) as u64,
+            calendar::month_minutes(month.year, month.month) as u64,
             start as u64,
             step as u64,
             places,
         );
     }
-    Reason::Within
+    None
 }
 
 // The day of the card at a place of a month's hourly cards, counted from 1.

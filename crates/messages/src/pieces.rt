@@ -7,8 +7,7 @@ use std::io;
 use std::io::Write;
 
 // The rows of what is at fault.
-fn what_text() -> [u8; 284] {
-    *b"the file\n\
+static WHAT: [u8; 284] = *b"the file\n\
        the line\n\
        name\n\
        frequency\n\
@@ -28,18 +27,15 @@ fn what_text() -> [u8; 284] {
        mark of latitude\n\
        latitude\n\
        amplitude\n\
-       phase lag"
-}
+       phase lag";
 
 // What is at fault.
 pub fn write_what(to: &impl Print, what: What) -> io::Result<()> {
-    let text = what_text();
-    to.write_all(phrases::what_words(&text, what))
+    to.write_all(phrases::words_of(&WHAT, what))
 }
 
 // The rows of what is wrong with it; ~ stands for the limit that is passed.
-fn trouble_text() -> [u8; 559] {
-    *b"is over ~ columns long\n\
+static TROUBLE: [u8; 559] = *b"is over ~ columns long\n\
        has a byte outside 32 to 126\n\
        is a malformed number\n\
        is out of range\n\
@@ -61,56 +57,35 @@ fn trouble_text() -> [u8; 559] {
        ends inside the longitudes\n\
        ends inside the main constituents\n\
        ends inside the shallow-water constituents\n\
-       has no station card"
-}
+       has no station card";
 
 // What is wrong with it.
 pub fn write_trouble(to: &impl Print, trouble: Trouble) -> io::Result<()> {
-    let text = trouble_text();
-    write_limited(
-        to,
-        phrases::trouble_words(&text, trouble),
-        limit_of(trouble),
-    )
+    write_limited(to, phrases::words_of(&TROUBLE, trouble), limit_of(trouble))
 }
 
-// Words with a limit where ~ stands, the byte behind those of words.
-fn write_limited(to: &impl Print, words: &[u8], limit: u64) -> io::Result<()> {
-    let end = columns::run_end(words, 0, words.len(), 32, 125);
-    to.write_all(columns::part(words, 0, end))?;
-    if end < words.len() {
-        to.print(limit)?;
-        to.write_all(columns::part(words, end + 1, words.len()))?;
-    }
-    Ok(())
+// Words with a limit, if there is one, where ~ stands.
+fn write_limited(to: &impl Print, words: &[u8], limit: Option<u64>) -> io::Result<()> {
+    let mark = words.iter().position(|byte| *byte == b'~');
+    let (Some(limit), Some(mark)) = (limit, mark) else {
+        return to.write_all(words);
+    };
+    to.write_all(&words[..mark])?;
+    to.print(limit)?;
+    to.write_all(&words[mark + 1..])
 }
 
-// The limit of which a trouble speaks; 0 where it speaks of none.
-fn limit_of(trouble: Trouble) -> u64 {
+// The limit of which a trouble speaks.
+fn limit_of(trouble: Trouble) -> Option<u64> {
     match trouble {
-        Trouble::TooLong => limits::COLUMNS as u64,
-        Trouble::BadByte => 0,
-        Trouble::Malformed => 0,
-        Trouble::OutOfRange => 0,
-        Trouble::NotWhole => 0,
-        Trouble::PastTwelve => limits::SIZES,
-        Trouble::BadMark => 0,
-        Trouble::SouthTwice => 0,
-        Trouble::Blank => 0,
-        Trouble::Twice => 0,
-        Trouble::NoFrequency => 0,
-        Trouble::NoDefinition => 0,
-        Trouble::NotMain => 0,
-        Trouble::TooManyFrequencies => limits::FREQUENCIES as u64,
-        Trouble::TooManyMains => limits::MAINS as u64,
-        Trouble::TooManySatellites => limits::SATELLITES as u64,
-        Trouble::TooManyShallows => limits::SHALLOWS as u64,
-        Trouble::TooManyRecords => limits::RECORDS as u64,
-        Trouble::EndedInFrequencies => 0,
-        Trouble::EndedInLongitudes => 0,
-        Trouble::EndedInMains => 0,
-        Trouble::EndedInShallows => 0,
-        Trouble::NoStationCard => 0,
+        Trouble::TooLong => Some(limits::COLUMNS as u64),
+        Trouble::PastTwelve => Some(limits::SIZES),
+        Trouble::TooManyFrequencies => Some(limits::FREQUENCIES as u64),
+        Trouble::TooManyMains => Some(limits::MAINS as u64),
+        Trouble::TooManySatellites => Some(limits::SATELLITES as u64),
+        Trouble::TooManyShallows => Some(limits::SHALLOWS as u64),
+        Trouble::TooManyRecords => Some(limits::RECORDS as u64),
+        _ => None,
     }
 }
 
@@ -121,8 +96,7 @@ pub fn write_general(to: &impl Print, refusal: Refusal) -> io::Result<()> {
 }
 
 // The rows of what is wrong with a word of the command line.
-fn wrong_text() -> [u8; 216] {
-    *b": no such command\n\
+static WRONG: [u8; 216] = *b": no such command\n\
        : no such option\n\
        : its value is missing\n\
        : more words are wanted\n\
@@ -130,13 +104,11 @@ fn wrong_text() -> [u8; 216] {
        : not a whole number\n\
        : not a time HH:MM\n\
        : not a day of a month\n\
-       : not three strides in whole minutes, as 180,30,360"
-}
+       : not three strides in whole minutes, as 180,30,360";
 
 // What is wrong with a word of the command line.
 pub fn write_wrong(to: &impl Print, wrong: Wrong) -> io::Result<()> {
-    let text = wrong_text();
-    to.write_all(phrases::wrong_words(&text, wrong))
+    to.write_all(phrases::words_of(&WRONG, wrong))
 }
 
 // Why the system refused a file: the library's words, without the error's number.

@@ -1,79 +1,35 @@
 // The bookings of a file, answered together.
-ghost use Rattle.std.specs.Prelude.{◌≤◌, length};
 ghost use Rattle.clock.specs.View.{Made};
-ghost use Rattle.daybook.specs.Bookings.{most_bookings};
 
-use clock::Clock;
-use daybook::reading::{FILE, Reading};
+use crate::View;
+use daybook::reading::{FILE, PLACES};
 use daybook::{answered, reading};
-use page::face::Face;
-use page::shown::Date;
-use refusals::Answer;
+use output::pages::Page;
 use std::io;
 
-// Writes a file's lines with their heights.
-fn write_sheet<'a>(
-    rt: &impl Print,
-    face: Face,
-    date: Date,
-    text: &'a [u8],
-    heights: &'a [i64],
-) -> io::Result<()> {
-    let mut page = [0u8; 4096];
-    let at = answered::put_sheet(rt, &mut page, 0, face, date, text, heights)?;
-    output::flush(rt, &page, at)?;
-    Ok(())
-}
-
-// The heights at the minutes of a file's bookings, all of them in one call of the clock.
-fn with_minutes<'a>(
+// bookings YEAR MONTH FILE: the file's lines, which are the first bytes of a buffer, each with the height at its time. The heights are had in
+// one call of the clock.
+pub fn bookings(
     rt: HostRuntime,
-    clock: Clock,
-    face: Face,
-    date: Date,
-    name: &'a [u8],
-    text: &'a [u8],
-    minutes: &'a [u32],
-) -> io::Result<()>
-    requires made { Made clock }
-    requires minutes_len_bound { length minutes.now ≤ most_bookings }
-{
-    let mut places = reading::height_places();
-    let count = minutes.len();
-    let heights = &mut places[..count];
-    let answer = clock::bookings(clock, minutes, heights);
-    match answer {
-        Answer::Accepted => write_sheet(&rt, face, date, text, heights),
-        Answer::Refused(refusal, line) => {
-            messages::refused_booking(rt, name, text, line, date.year, date.month, refusal)
-        }
-    }
-}
-
-// bookings YEAR MONTH FILE: the file's lines, which are the first bytes of a buffer, each with the height at its time.
-pub fn bookings<'a>(
-    rt: HostRuntime,
-    clock: Clock,
-    face: Face,
-    date: Date,
-    name: &'a [u8],
-    buffer: &'a [u8; FILE],
+    view: &View,
+    name: &[u8],
+    buffer: &[u8; FILE],
     bytes: usize,
 ) -> io::Result<()>
-    requires { Made clock }
+    requires { Made view.now.clock }
 {
-    let mut minutes = reading::minute_places();
-    let read = reading::read(buffer, bytes, &mut minutes);
-    match read {
-        Reading::Bookings(count) => with_minutes(
-            rt,
-            clock,
-            face,
-            date,
-            name,
-            columns::part(buffer, 0, bytes),
-            &minutes[..count],
-        ),
-        Reading::NoBooking(line) => messages::no_booking(rt, name, line),
+    let text = columns::part(buffer, 0, bytes);
+    let mut minutes = [0u32; PLACES];
+    let count = match reading::read(buffer, bytes, &mut minutes) {
+        Ok(count) => count,
+        Err(none) => return messages::no_booking(rt, name, none.line),
+    };
+    let mut places = [0i64; PLACES];
+    let heights = &mut places[..count];
+    if let Err(refused) = clock::bookings(view.clock, &minutes[..count], heights) {
+        return messages::refused_booking(rt, name, text, view.month(), refused);
     }
+    let mut page = Page::new();
+    answered::put_sheet(&rt, &mut page, view.face, view.date, text, heights)?;
+    page.flush(&rt)
 }

@@ -1,23 +1,27 @@
 -- Line n of a text, walked to line by line. Assumes nothing.
-use Prim.Native.Nat.{ℕ, zero, suc, ◌-◌, ◌<◌}
-use mathlib.Core.Path.{◌≡◌}
-use mathlib.Core.List.{List, []}
+use Prim.Native.Nat.{ℕ, zero, suc, ◌+◌, ◌-◌, ◌<◌}
+use mathlib.Core.Path.{◌≡◌, refl}
+use mathlib.Core.List.{List, [], ◌∷◌}
+use native.Mathlib.Numerals.{add-one}
 use native.Mathlib.Omega.{arith}
-use lib.ListN.{length}
+use lib.ListN.{length, drop}
+use lib.Seq.{drop-length}
+use Rattle.columns.specs.Bytes.{leading}
 use Rattle.columns.specs.Lines.{lines_of, first_line, rest_lines}
 use Rattle.columns.proofs.Lines.{lines_next, lines_none}
 use Rattle.messages.specs.Lines.{line_at}
 
--- the next line is one nearer
-pub line-next : (s : List ℕ) (n : ℕ) → 0 < length s → 0 < n → line_at (lines_of s) n ≡ line_at (lines_of (rest_lines s)) (n - 1)
-unfolding line_at
-line-next s (suc n) h p = let e : suc n - 1 ≡ n = omega arith in rw (lines_next s h, e)
-line-next s zero h p = absurd (omega arith)
+-- what is behind the first line has the next line one nearer; behind the end is nothing
+pub line_next : (s : List ℕ) (n : ℕ) → line_at (lines_of s) (n + 1) ≡ line_at (lines_of (rest_lines s)) n
+unfolding line_at lines_of leading
+line_next [] n = refl
+line_next (b ∷ s) n = let h : 0 < length (b ∷ s) = omega arith in rw (lines_next (b ∷ s) h, add-one n) refl
 
-pub line_first : (s : List ℕ) → 0 < length s → line_at (lines_of s) 0 ≡ first_line s
-unfolding line_at
-line_first s h = rw (lines_next s h)
+pub line_first : (s : List ℕ) → line_at (lines_of s) 0 ≡ first_line s
+unfolding line_at lines_of leading
+line_first [] = refl
+line_first (b ∷ s) = let h : 0 < length (b ∷ s) = omega arith in rw (lines_next (b ∷ s) h) refl
 
-pub line-none : (s : List ℕ) (n : ℕ) → length s ≡ 0 → line_at (lines_of s) n ≡ []
-unfolding line_at
-line-none s n h = rw (lines_none s h)
+-- one line nearer, where lines are left to pass
+pub line_passed : (s : List ℕ) (n i : ℕ) → i < n → line_at (lines_of s) (n - i) ≡ line_at (lines_of (rest_lines s)) (n - (i + 1))
+line_passed s n i h = let e : n - i ≡ n - (i + 1) + 1 = omega arith in rw e (line_next s (n - (i + 1)))

@@ -1,13 +1,14 @@
-use Rattle.std.proofs.Common.{drop, length, take, ◌*◌, ◌-◌, ◌≡◌, ◌≤◌}
+use Rattle.std.proofs.Common.{length, take, ◌+◌, ◌*◌, ◌≡◌, ◌≤◌}
 use Rattle.columns.specs.Lines.{lines_of}
 use Rattle.daybook.specs.Bookings.{minutes_from, minutes_of}
 use Rattle.daybook.proofs.reading.fill_minutes.Given as goal
 
-abbrev pub invariant-loop-at : goal.invariant-loop-at
-invariant-loop-at l = (l.at ≤ length l.file)
-    × (8 * l.k ≤ l.at)
-    × (length l.minutes ≡ length l.initial.minutes)
-    × (minutes_from (take l.k l.minutes) (lines_of (drop l.at l.file)) ≡ minutes_of (lines_of l.file))
+abbrev pub invariant-loop-rest : goal.invariant-loop-rest
+invariant-loop-rest l = record {
+  room : 8 * l.count + length l.rest ≤ length l.file;
+  places : length l.minutes ≡ length l.initial.minutes;
+  left : minutes_from (take l.count l.minutes) (lines_of l.rest) ≡ minutes_of (lines_of l.file);
+}
 
-abbrev pub decreases-loop-at : goal.decreases-loop-at
-decreases-loop-at l = length l.file - l.at
+abbrev pub decreases-loop-rest : goal.decreases-loop-rest
+decreases-loop-rest l = length l.rest

@@ -1,10 +1,10 @@
-use Rattle.std.proofs.Common.{drop, length, max, ◌-◌, ◌≡◌, ◌≤◌}
+use Rattle.std.proofs.Common.{length, max, ◌≡◌}
 use Rattle.columns.specs.Lines.{lines_of}
 use Rattle.daybook.specs.Bookings.{longest_of}
 use Rattle.daybook.proofs.reading.longest_line.Given as goal
 
-abbrev pub invariant-loop-at : goal.invariant-loop-at
-invariant-loop-at l = (l.at ≤ length l.file) × (max l.longest (longest_of (lines_of (drop l.at l.file))) ≡ longest_of (lines_of l.file))
+abbrev pub invariant-loop-rest : goal.invariant-loop-rest
+invariant-loop-rest l = max l.longest (longest_of (lines_of l.rest)) ≡ longest_of (lines_of l.file)
 
-abbrev pub decreases-loop-at : goal.decreases-loop-at
-decreases-loop-at l = length l.file - l.at
+abbrev pub decreases-loop-rest : goal.decreases-loop-rest
+decreases-loop-rest l = length l.rest

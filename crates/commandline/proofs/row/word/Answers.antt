@@ -1,4 +1,4 @@
--- `commandline::word` meets its contract: the part is as long as the word. Assumes nothing.
+-- `commandline::row::word` meets its contract: the part is as long as the word. Assumes nothing.
 use Prim.Native.Nat.{◌-◌}
 use mathlib.Core.Path.{◌≡◌, sym, ◌∙◌}
 use native.Mathlib.Omega.{arith}
@@ -6,7 +6,7 @@ use lib.ListN.{length, drop}
 use Rattle.columns.specs.Bytes.{among}
 use Rattle.columns.proofs.Bytes.{leading-is}
 use Rattle.commandline.specs.Words.{word_at}
-use Rattle.commandline.proofs.word.Goals as goal
+use Rattle.commandline.proofs.row.word.Goals as goal
 
 pub returns : goal.returns
 unfolding word_at

@@ -1,9 +1,0 @@
--- `daybook::answered::put_shown` meets its contract: the page keeps its length, and the next place stays on it.
-use Rattle.std.proofs.Common.{length, ◌-◌, ◌≡◌, ◌≤◌}
-use Rattle.daybook.proofs.answered.put_shown.Given as goal
-
-abbrev pub invariant-loop-i : goal.invariant-loop-i
-invariant-loop-i g l = (length l.page ≡ length l.fn.page) × (l.next ≤ length l.fn.page)
-
-abbrev pub decreases-loop-i : goal.decreases-loop-i
-decreases-loop-i g l = length l.line - l.i
