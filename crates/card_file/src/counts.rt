@@ -9,7 +9,7 @@ use crate::reader;
 use limits::MAINS;
 use table::Table;
 
-// What a card file comes to: the counts of an accepted file, or the refusal's number and line.
+// What a card file comes to: the counts of an accepted file, or the refusal's number and line. (No Result: it is the struct that C sees.)
 #[repr(C)]
 #[derive(Clone, Copy)]
 pub struct Counts {
@@ -21,7 +21,7 @@ pub struct Counts {
     pub shallows: usize,
 }
 
-// The shorter of two.
+// The shorter of two. (No `min`: it calls std's code, which `has-the-clock` of claim_runs can't have.)
 fn shorter(a: usize, b: usize) -> usize
     ensures { result ≡ min a b }
 {
