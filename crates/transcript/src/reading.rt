@@ -101,13 +101,13 @@ fn read_file(
 }
 
 // The rows with record k, from 0; past the first 146 nothing is kept.
-fn with_row(rows: Rows, k: usize, record: Record) -> Rows
-    ensures { result ≡ kept_row rows k record.place record.amplitude record.phase }
+fn with_row(rows: Rows, k: usize, one: Record) -> Rows
+    ensures { result ≡ kept_row rows k one.place one.amplitude one.phase }
 {
     if RECORDS <= k {
         return rows;
     }
-    put(rows, k, record.place, record.amplitude, record.phase)
+    put(rows, k, one.place, one.amplitude, one.phase)
 }
 
 // A station's lines, the first 146 as records. Where one is bad, the window begins with it.
