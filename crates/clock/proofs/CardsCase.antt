@@ -1,9 +1,9 @@
 -- A card file's two cases, accepted and refused, from what the reader promises. Assumes nothing.
-use mathlib.Core.Path.{◌≡◌, sym, ap, subst, ◌∙◌}
+use mathlib.Core.Path.{◌≡◌, sym, ◌∙◌}
 use mathlib.Core.Bool.{true}
 use Prim.Native.Nat.{ℕ}
 use mathlib.Core.List.{List}
-use Rattle.refusals.specs.Outcome.{accepted, refused, number_of}
+use Rattle.refusals.specs.Outcome.{accepted, refused}
 use Rattle.table.specs.inner.View.{table_of}
 use Rattle.table.specs.declared.Table.{Table}
 use Rattle.card_file.specs.Cards.{cards_outcome}

@@ -4,5 +4,6 @@ pub mod CardsCase
 pub mod Stations
 pub mod Months
 pub mod OneMonth
+pub mod Sheets
 pub mod Hours
 pub mod Linked

@@ -1,7 +1,6 @@
 -- A station's two cases, accepted and refused, from what the check of its records promises. Assumes nothing.
 use Prim.{Unit}
 use mathlib.Core.Path.{◌≡◌, sym, ap, ◌∙◌}
-use Prim.Native.Nat.{ℕ}
 use mathlib.Core.List.{List}
 use lib.ListN.{length}
 use lib.IntN.{ℤ}

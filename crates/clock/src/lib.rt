@@ -172,6 +172,14 @@ fn with_station(clock: Clock, station: Station) -> After
 fn with_month(clock: Clock, year: u32, month: u32, last: u64, prepared: Month) -> After
     ensures { result ≡ accepts (with_month clock year month last prepared) }
 {
+    let Month {
+        count,
+        arguments,
+        lags,
+        frequencies,
+        ps,
+        qs,
+    } = prepared;
     After {
         answer: Ok(()),
         clock: Clock {
@@ -179,12 +187,12 @@ fn with_month(clock: Clock, year: u32, month: u32, last: u64, prepared: Month) -
             year,
             month,
             last,
-            count: month_prepared::held(prepared.count),
-            arguments: prepared.arguments,
-            lags: prepared.lags,
-            frequencies: prepared.frequencies,
-            ps: prepared.ps,
-            qs: prepared.qs,
+            count: month_prepared::held(count),
+            arguments,
+            lags,
+            frequencies,
+            ps,
+            qs,
             ..clock
         },
     }
@@ -341,9 +349,12 @@ pub fn turns(
     requires { Made clock }
     ensures { TurnsPost clock first last minutes.old minutes.new heights.old heights.new (turns_returned result) }
 {
-    if let Err(refused) =
-        asked::turns_answer(clock.there(), clock.last, first as u64, last as u64)
-    {
+    if let Err(refused) = asked::turns_answer(
+        clock.there(),
+        clock.last,
+        first as u64,
+        last as u64,
+    ) {
         return Err(refused);
     }
     let reach = Reach {

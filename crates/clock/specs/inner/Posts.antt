@@ -7,8 +7,6 @@ use Rattle.refusals.specs.declared.Refused.{Refused}
 use Rattle.cosine.specs.Fixed.{IsTable}
 use Rattle.table.specs.inner.View.{table_of}
 use Rattle.table.specs.declared.Table as declared
-use Rattle.table.specs.Table.{Table}
-use Rattle.station.specs.Station.{Station}
 use Rattle.station.specs.Strides.{usual_strides}
 use Rattle.station.specs.inner.Station.{station_of}
 use Rattle.month_prepared.specs.inner.Rows.{last_of}
