@@ -7,7 +7,7 @@ use Prim.Native.Nat.{ℕ, zero, suc, ◌+◌, ◌-◌, ◌*◌, ◌≤◌, ◌<�
 use native.Mathlib.Omega.{arith}
 use borrow.Author.Tests.{leb-true, ne_eqb}
 use lib.Dec.{leb, eqb, lit≤}
-use lib.ListN.{get_or, length, get_or-eq_default}
+use lib.ListN.{get_or, get_or-eq_default}
 use Rattle.calendar.specs.Calendar.{month_lengths, is_fourth, month_days, month_minutes, months_days, between, in_range}
 
 -- each number of a list is at most `most`

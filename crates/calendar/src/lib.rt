@@ -64,10 +64,11 @@ pub fn days_before(year: u32, month: u32) -> u64
     ensures small { result ≤ 12 * 31 }
 {
     let mut days: u64 = 0;
-    let mut passed: u32 = 0;
-    while passed < 12 && passed + 1 < month {
+    for passed in 0..12 {
+        if month <= passed + 1 {
+            return days;
+        }
         days += month_days(year, passed + 1) as u64;
-        passed += 1;
     }
     days
 }

@@ -2,7 +2,7 @@
 use Prim.{Unit}
 use Prim.Native.Nat.{ℕ}
 use mathlib.Core.Bool.{Bool, true, false, not}
-use mathlib.Core.Path.{◌≡◌, refl, sym, ap, ◌∙◌}
+use mathlib.Core.Path.{◌≡◌, refl, sym, ap}
 use mathlib.Core.List.{List, map}
 use lib.Dec.{eqb}
 use borrow.Author.Tests.{eqb-true, not-false}
@@ -14,8 +14,7 @@ use Rattle.table.specs.Table.{Table}
 use Rattle.station.specs.Station.{Station}
 use Rattle.heights.specs.Height.{height_at}
 use Rattle.heights.specs.inner.Places.{AllWithin}
-use Rattle.calls.specs.State.{Dated, State}
-use Rattle.calls.specs.Calls.{filled}
+use Rattle.calls.specs.State.{Dated}
 use Rattle.calls.specs.Bookings.{minutes_from, bookings_heights, bookings_gives}
 use Rattle.calls.specs.inner.Flags.{state_of, bookings_by}
 use Rattle.calls.proofs.bookings.Minutes.{minutes-within}

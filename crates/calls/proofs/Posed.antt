@@ -40,21 +40,21 @@ turns-of first last minutes heights o =
 
 -- ---- by the flags
 
--- a refusal's place is 0
-pub no_place : {A B : Type 0} {n p number place : ℕ} → ◌≡◌ {A = Outcome A} (refused n p) (refused number place) → ◌≡◌ {A = Outcome B} (refused n 0) (refused number 0)
-no_place {n} {number} e = let z : n ≡ number = cc in ap (λ (k : ℕ). refused k 0) z
+-- a refusal is the same, whatever would be given
+pub same_refusal : {A B : Type 0} {n p number place : ℕ} → ◌≡◌ {A = Outcome A} (refused n p) (refused number place) → ◌≡◌ {A = Outcome B} (refused n p) (refused number place)
+same_refusal {n} {p} {number} {place} e = let y : n ≡ number = cc in let z : p ≡ place = cc in rw (y, z)
 
 module _ (outside : Dated → Bool) (table : Table) (station : Station) (month : Dated) where
-  refused-by : (t s d : Bool) (number place : ℕ) → minutes_by t s d (outside month) ≡ refused number place → ready outside (state_of t table s station d month) ≡ refused number 0
+  refused-by : (t s d : Bool) (number place : ℕ) → minutes_by t s d (outside month) ≡ refused number place → ready outside (state_of t table s station d month) ≡ refused number place
   refused-by true true true number place e = nine (outside month) e
     where
       nine : (o : Bool) → ◌≡◌ {A = Outcome Unit} (answered (refuse_if {A = Unit {0} × Unit {0} × Unit {0}} o 9 0 (accepted (tt, tt, tt)))) (refused number place)
-          → refuse_if {A = Table × Station × Dated} o 9 0 (accepted (table, station, month)) ≡ refused number 0
-      nine true e' = no_place e'
+          → refuse_if {A = Table × Station × Dated} o 9 0 (accepted (table, station, month)) ≡ refused number place
+      nine true e' = same_refusal e'
       nine false e' = not-both (sym e')
-  refused-by true true false number place e = no_place e
-  refused-by true false d number place e = no_place e
-  refused-by false s d number place e = no_place e
+  refused-by true true false number place e = same_refusal e
+  refused-by true false d number place e = same_refusal e
+  refused-by false s d number place e = same_refusal e
 
   given_by : (t s d : Bool) → minutes_by t s d (outside month) ≡ accepted tt → ready outside (state_of t table s station d month) ≡ accepted (table, station, month)
   given_by true true true e = nine (outside month) e
@@ -77,7 +77,7 @@ module _ (t : Bool) (table : Table) (s : Bool) (station : Station) (d : Bool) (m
     abbrev outside-height : Dated → Bool
     outside-height m = minute_outside m.prepared.last minute
 
-    pub height-refused : (number place : ℕ) → minutes_by t s d (minute_outside month.prepared.last minute) ≡ refused number place → refused number 0 ≡ height_returns before minute
+    pub height-refused : (number place : ℕ) → minutes_by t s d (minute_outside month.prepared.last minute) ≡ refused number place → refused number place ≡ height_returns before minute
     unfolding height_returns
     height-refused number place e = sym (ap (height-of minute) (refused-by outside-height table station month t s d number place e))
 
@@ -92,7 +92,7 @@ module _ (t : Bool) (table : Table) (s : Bool) (station : Station) (d : Bool) (m
     outside-series m = series_outside m.prepared.last start step (length heights)
 
     pub series-refused : (number place : ℕ) → minutes_by t s d (series_outside month.prepared.last start step (length heights)) ≡ refused number place
-        → record { returned = refused number 0; heights = heights } ≡ series_gives before start step heights
+        → record { returned = refused number place; heights = heights } ≡ series_gives before start step heights
     unfolding series_gives series_heights
     series-refused number place e = rw (ap (series-of start step (length heights)) (refused-by outside-series table station month t s d number place e))
 
@@ -108,7 +108,7 @@ module _ (t : Bool) (table : Table) (s : Bool) (station : Station) (d : Bool) (m
     outside-turns m = turns_outside m.prepared.last first last
 
     pub turns-refused : (number place : ℕ) → minutes_by t s d (turns_outside month.prepared.last first last) ≡ refused number place
-        → record { returned = refused number 0; minutes = minutes; heights = heights } ≡ turns_gives before first last minutes heights
+        → record { returned = refused number place; minutes = minutes; heights = heights } ≡ turns_gives before first last minutes heights
     unfolding turns_gives
     turns-refused number place e = sym (ap (turns-of first last minutes heights) (refused-by outside-turns table station month t s d number place e))
 

@@ -10,7 +10,6 @@ use Rattle.refusals.specs.Outcome.{Outcome, accepted, refused, refuse_if, ◌>>=
 use Rattle.calendar.specs.Calendar.{year_in_range}
 use Rattle.table.specs.Table.{Table}
 use Rattle.station.specs.Station.{Station}
-use Rattle.station.specs.Strides.{usual_strides}
 use Rattle.month_prepared.specs.Prepared.{Month}
 use Rattle.year.specs.Year.{year_of}
 use Rattle.heights.specs.Height.{height_at}
@@ -19,7 +18,7 @@ use Rattle.turns.specs.Search.{turns_of}
 use Rattle.turns.specs.Written.{TurnsGiven, unless_refused, given}
 use Rattle.turns.specs.Strides.{station_stride, station_stride01}
 use Rattle.turns.proofs.strides.Usual.{usual-stride}
-use Rattle.calls.specs.State.{Maybe, none, some, Dated}
+use Rattle.calls.specs.State.{none, some, Dated}
 use Rattle.calls.specs.Asked.{turns_outside}
 use Rattle.calls.specs.Calls.{turns_gives}
 use Rattle.calls.specs.Year.{YearGiven, year_gives, sheet_asked, sheet_outside, sheet_over, unless_turned_down}

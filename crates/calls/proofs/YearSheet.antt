@@ -24,7 +24,7 @@ use Rattle.calls.specs.State.{Maybe, some, Dated, State}
 use Rattle.calls.specs.Year.{sheet_outside, sheet_asked, YearGiven, unless_turned_down, beside, sheet_over, year_gives}
 use Rattle.calls.specs.declared.annual.Sheet.{Sheet}
 use Rattle.calls.specs.inner.Flags.{state_of, year_by}
-use Rattle.calls.proofs.Posed.{no_place}
+use Rattle.calls.proofs.Posed.{same_refusal}
 
 -- a year that passes is in range, with a table and a station
 pub year-passed : (t s : Bool) (year : ℕ) → year_by t s year ≡ accepted tt → (t ≡ true) × (s ≡ true) × (year_in_range year ≡ true)
@@ -81,20 +81,20 @@ module _ (sheet : Sheet) (series : List ℤ) (minutes : List ℕ) (heights : Lis
     -- ---- 21, 22 and 8
 
     asked-refused : (t s d : Bool) (month : Dated) (number place : ℕ) → year_by t s sheet.year ≡ refused number place
-        → sheet_asked (state_of t table s station d month) sheet (length series) ≡ refused number 0
+        → sheet_asked (state_of t table s station d month) sheet (length series) ≡ refused number place
     unfolding sheet_asked
     asked-refused true true d month number place e = eight (not (year_in_range sheet.year)) _ e
       where
         eight : (outside : Bool) (next : Table × Station → Outcome (Table × Station × List Month))
             → ◌≡◌ {A = Outcome Unit} (answered (refuse_if {A = Unit {0} × Unit {0}} outside 8 0 (accepted (tt, tt)))) (refused number place)
-            → (refuse_if outside 8 0 (accepted (table, station)) >>= next) ≡ refused number 0
-        eight true next e' = no_place e'
+            → (refuse_if outside 8 0 (accepted (table, station)) >>= next) ≡ refused number place
+        eight true next e' = same_refusal e'
         eight false next e' = not-both (sym e')
-    asked-refused true false d month number place e = no_place e
-    asked-refused false s d month number place e = no_place e
+    asked-refused true false d month number place e = same_refusal e
+    asked-refused false s d month number place e = same_refusal e
 
     pub year-refused : (t s d : Bool) (month : Dated) (number place : ℕ) → year_by t s sheet.year ≡ refused number place
-        → turned_down number 0 ≡ year_gives (state_of t table s station d month) sheet series minutes heights
+        → turned_down number place ≡ year_gives (state_of t table s station d month) sheet series minutes heights
     unfolding year_gives
     year-refused t s d month number place e = sym (ap sheet-of (asked-refused t s d month number place e))
 

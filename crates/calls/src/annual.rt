@@ -4,7 +4,7 @@ ghost use Rattle.refusals.specs.Outcome.{outcome_of};
 ghost use Rattle.calls.specs.Year.{sheet_outside};
 ghost use Rattle.calls.specs.inner.Flags.{year_by};
 
-use crate::asked::{series_outside, state_answer, turns_outside};
+use crate::asked::{There, series_outside, state_answer, turns_outside};
 use refusals::{Answer, Refusal};
 
 // A year, the start and the step of a series, the first and the last minute of a search; minutes are counted from 1 January.
@@ -21,15 +21,17 @@ pub struct Sheet {
 pub fn year_answer(tabled: bool, stationed: bool, year: u32) -> Answer
     ensures { outcome_of result ≡ year_by tabled stationed year }
 {
-    match state_answer(tabled, stationed, true) {
-        Answer::Accepted => {
-            if !calendar::year_in_range(year) {
-                return Answer::Refused(Refusal::BadDate, 0);
-            }
-            Answer::Accepted
-        }
-        Answer::Refused(refusal, place) => Answer::Refused(refusal, place),
+    if let Err(refused) = state_answer(There {
+        tabled,
+        stationed,
+        dated: true,
+    }) {
+        return Err(refused);
     }
+    if !calendar::year_in_range(year) {
+        return Err(Refusal::BadDate.at(0));
+    }
+    Ok(())
 }
 
 // Whether the series of so many heights, or the search, is outside the year.

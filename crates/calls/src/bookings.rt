@@ -5,7 +5,7 @@ ghost use Rattle.calls.specs.Asked.{minute_outside};
 ghost use Rattle.calls.specs.Bookings.{minutes_from};
 ghost use Rattle.calls.specs.inner.Flags.{bookings_by};
 
-use crate::asked::state_answer;
+use crate::asked::{There, state_answer};
 use refusals::{Answer, Refusal};
 
 // Whether a minute is past a month's last.
@@ -19,34 +19,23 @@ fn minute_outside(last: u64, minute: u32) -> bool
 fn minutes_answer(last: u64, minutes: &[u32]) -> Answer
     ensures { outcome_of result ≡ minutes_from last 1 minutes.now }
 {
-    let mut k: usize = 0;
-    while k < minutes.len() {
-        if minute_outside(last, minutes[k]) {
-            return Answer::Refused(Refusal::BadMinutes, k + 1);
+    for (k, minute) in minutes.iter().enumerate() {
+        if minute_outside(last, *minute) {
+            return Err(Refusal::BadMinutes.at(k + 1));
         }
-        k = k + 1;
     }
-    Answer::Accepted
+    Ok(())
 }
 
 // What a list of minutes asks, with so many places lent for its heights.
-pub fn bookings_answer(
-    tabled: bool,
-    stationed: bool,
-    dated: bool,
-    last: u64,
-    minutes: &[u32],
-    places: usize,
-) -> Answer
-    ensures { outcome_of result ≡ bookings_by tabled stationed dated last minutes.now places }
+pub fn bookings_answer(there: There, last: u64, minutes: &[u32], places: usize) -> Answer
+    ensures { outcome_of result ≡ bookings_by there.tabled there.stationed there.dated last minutes.now places }
 {
-    match state_answer(tabled, stationed, dated) {
-        Answer::Accepted => {
-            if minutes.len() != places {
-                return Answer::Refused(Refusal::UnequalBuffers, 0);
-            }
-            minutes_answer(last, minutes)
-        }
-        Answer::Refused(refusal, place) => Answer::Refused(refusal, place),
+    if let Err(refused) = state_answer(there) {
+        return Err(refused);
     }
+    if minutes.len() != places {
+        return Err(Refusal::UnequalBuffers.at(0));
+    }
+    minutes_answer(last, minutes)
 }

@@ -7,10 +7,10 @@ ghost use Rattle.month.specs.inner.View.{prepared_of};
 ghost use Rattle.calls.specs.inner.Flags.{date_by};
 ghost use Rattle.calls.specs.inner.Posts.{TakenPost};
 
-use crate::asked::state_answer;
-use month::{Preparation, Prepared};
-use refusals::{Answer, Refusal};
-use station::Taken;
+use crate::asked::{There, state_answer};
+use month_prepared::Month;
+use refusals::{Answer, Refusal, Refused};
+use station::Station;
 use station::records::Rows;
 use station::strides::Strides;
 use table::Table;
@@ -23,40 +23,42 @@ pub fn station_answer(
     strides: Strides,
     n: usize,
     rows: Rows,
-) -> Taken
+) -> Result<Station, Refused>
     ensures { TakenPost tabled table (station_lent latitude strides (records_of rows n)) result }
 {
-    match state_answer(tabled, true, true) {
-        Answer::Accepted => station::take_station(table.frequencies, latitude, strides, n, rows),
-        Answer::Refused(refusal, place) => Taken {
-            answer: Answer::Refused(refusal, place),
-            station: station::no_station(latitude, strides),
-        },
+    if let Err(refused) = state_answer(There {
+        tabled,
+        stationed: true,
+        dated: true,
+    }) {
+        return Err(refused);
     }
+    station::take_station(table.frequencies, latitude, strides, n, rows)
 }
 
 // What a date asks before its month is prepared: 21, 22, 8.
 pub fn date_answer(tabled: bool, stationed: bool, year: u32, month: u32) -> Answer
     ensures { outcome_of result ≡ date_by tabled stationed year month }
 {
-    match state_answer(tabled, stationed, true) {
-        Answer::Accepted => {
-            if !calendar::in_range(year, month) {
-                return Answer::Refused(Refusal::BadDate, 0);
-            }
-            Answer::Accepted
-        }
-        Answer::Refused(refusal, place) => Answer::Refused(refusal, place),
+    if let Err(refused) = state_answer(There {
+        tabled,
+        stationed,
+        dated: true,
+    }) {
+        return Err(refused);
     }
+    if !calendar::in_range(year, month) {
+        return Err(Refusal::BadDate.at(0));
+    }
+    Ok(())
 }
 
 // What a prepared month says: that it is accepted, or 11 and the record.
-pub fn month_answer(prepared: Prepared) -> Answer
+pub fn month_answer(prepared: Result<Month, Refused>) -> Answer
     ensures { outcome_of result ≡ answered (prepared_of prepared) }
 {
-    let answer = prepared.answer;
-    match answer {
-        Preparation::Ready => Answer::Accepted,
-        Preparation::TooLarge(place) => Answer::Refused(Refusal::TooLarge, place),
+    match prepared {
+        Ok(_) => Ok(()),
+        Err(refused) => Err(refused),
     }
 }

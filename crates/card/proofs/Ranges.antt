@@ -1,25 +1,23 @@
 -- Laws of number fields: what a range tells of the number in it, and a row of fields with one field more.
 -- By cases on the signs, and by the clauses of the definitions. Assumes nothing.
-use mathlib.Core.Path.{◌≡◌, refl, ap, ◌∙◌}
-use Prim.Native.Nat.{ℕ, zero, suc, ◌+◌, ◌-◌, ◌^◌, ◌≤◌, ◌<◌}
+use mathlib.Core.Path.{◌≡◌, refl, ap}
+use Prim.Native.Nat.{ℕ, suc, ◌+◌, ◌-◌, ◌≤◌, ◌<◌}
 use mathlib.Core.List.{List, [], ◌∷◌, ◌++◌}
-use mathlib.Core.Bool.{Bool, true, false, false≢true, cond, ◌&&◌}
-use lib.Dec.{T}
+use mathlib.Core.Bool.{true}
 use lib.ListN.{length, set, take}
 use lib.Seq.{take-suc-set}
-use lib.IntN.{ℤ, pos, negsuc, neg_ℤ, nat_abs, ◌-ℤ◌, +ℤ_idl}
-use lib.Signed.{le_z, non_neg}
-use mir.Syntax.{w8, w64}
-use mir.Val.{SFits, to_z, of_z}
-use mir.ValLaws.{to_z-of_z}
-use borrow.Author.Tests.{leb-true, le-leb}
+use lib.IntN.{ℤ, pos, negsuc, neg_ℤ}
+use lib.Signed.{le_z}
+use mir.Syntax.{w8}
+use mir.Val.{SFits}
+use borrow.Author.Tests.{leb-true}
 use native.Mathlib.Omega.{arith}
 use native.Mathlib.Numerals.{add-one}
 use Rattle.fields.specs.Number as field
 use Rattle.fields.specs.Number.{ranged}
-use Rattle.fields.specs.declared.Field.TheVariants.{Value, OutOfRange}
-use Rattle.fields.specs.declared.Field.{Field}
-use Rattle.columns.specs.Columns.{columns}
+use Rattle.std.specs.Prelude.{Result, Ok, Err}
+use Rattle.fields.specs.declared.FieldError.{FieldError}
+use Rattle.fields.proofs.Ranges.{ranged-within, le_z-trans}
 use Rattle.card.specs.declared.formats.NumberField.{NumberField}
 use Rattle.card.specs.declared.formats.Row.{Row}
 use Rattle.card.specs.declared.formats.Row.TheVariants as row
@@ -28,41 +26,13 @@ use Rattle.card.specs.inner.Fields.{IsSmall}
 use Rattle.refusals.specs.Checked.{good, ◌>>=◌}
 use Rattle.card.specs.Card.{field_gives, field_on, number, numbers_from}
 
--- a number that is in its range keeps to its bounds
-pub ranged-within : (low high v : ℤ) (x : field.Contents) → Value v ≡ ranged low high x → (le_z low v ≡ true) × (le_z v high ≡ true)
-unfolding ranged
-ranged-within low high v field.malformed e = let z : ◌≡◌ {A = ℕ} 0 1 = cc in absurd (omega arith)
-ranged-within low high v (field.numeric z) e = go (le_z low z) (le_z z high) refl refl e
-  where
-    go : (s t : Bool) → le_z low z ≡ s → le_z z high ≡ t → Value v ≡ cond (s && t) (Value z) OutOfRange → (le_z low v ≡ true) × (le_z v high ≡ true)
-    go true true a b q = let v-is : v ≡ z = cc in rw v-is (a, b)
-    go true false a b q = let z : ◌≡◌ {A = ℕ} 0 1 = cc in absurd (omega arith)
-    go false t a b q = let z : ◌≡◌ {A = ℕ} 0 1 = cc in absurd (omega arith)
-
-pub le_z-trans : (a b c : ℤ) → le_z a b ≡ true → le_z b c ≡ true → le_z a c ≡ true
-le_z-trans (pos a) (pos b) (pos c) p q = le-leb a c (omega (arith, leb-true a b p, leb-true b c q))
-le_z-trans (pos a) (pos b) (negsuc c) p q = absurd (false≢true q)
-le_z-trans (pos a) (negsuc b) c p q = absurd (false≢true p)
-le_z-trans (negsuc a) b (pos c) p q = refl
-le_z-trans (negsuc a) (pos b) (negsuc c) p q = absurd (false≢true q)
-le_z-trans (negsuc a) (negsuc b) (negsuc c) p q = le-leb c a (omega (arith, leb-true b a p, leb-true c b q))
-
 -- a field whose range fits eight bits
-pub small-fits : (low high v : ℤ) (x : field.Contents) → (le_z (neg_ℤ (pos 127)) low ≡ true) × (le_z high (pos 127) ≡ true) → Value v ≡ ranged low high x → SFits w8 v
+pub small-fits : (low high v : ℤ) (x : field.Contents) → (le_z (neg_ℤ (pos 127)) low ≡ true) × (le_z high (pos 127) ≡ true) → Ok v ≡ ranged low high x → SFits w8 v
 small-fits low high v x (l, h) e = let r = ranged-within low high v x e in fits v (le_z-trans (neg_ℤ (pos 127)) low v l r.0) (le_z-trans v high (pos 127) r.1 h)
   where
     fits : (v : ℤ) → le_z (neg_ℤ (pos 127)) v ≡ true → le_z v (pos 127) ≡ true → SFits w8 v
     fits (pos n) a b = record { sfits = omega (arith, leb-true n 127 b) }
     fits (negsuc n) a b = record { sfits = omega (arith, leb-true n 126 a) }
-
--- a field with a range that does not go below 0
-pub natural-is : (low high v : ℤ) (x : field.Contents) → le_z (pos 0) low ≡ true → Value v ≡ ranged low high x → T (non_neg v) × (nat_abs v ≤ nat_abs high)
-natural-is low high v x l e = let r = ranged-within low high v x e in at_least v high (le_z-trans (pos 0) low v l r.0) r.1
-  where
-    at_least : (v high : ℤ) → le_z (pos 0) v ≡ true → le_z v high ≡ true → T (non_neg v) × (nat_abs v ≤ nat_abs high)
-    at_least (pos n) (pos m) a b = (tt, leb-true n m b)
-    at_least (pos n) (negsuc m) a b = absurd (false≢true b)
-    at_least (negsuc n) high a b = absurd (false≢true a)
 
 -- a row of fields, field k next: one field more, or none left
 pub numbers_more : (line : List ℕ) (f : ℕ → NumberField) (left : List ℤ) (k n : ℕ) → k < n
@@ -79,7 +49,7 @@ pub take-stored : {A : Type 0} (vs : List A) (k : ℕ) (v : A) → k < length vs
 take-stored vs k v h = rw (add-one k) (take-suc-set vs k v h)
 
 -- the number in a field of the line is what the field gives
-pub number_is : (line : List ℕ) (f : NumberField) (x : Field) → x ≡ field_on line f → field_gives f x ≡ number line f
+pub number_is : (line : List ℕ) (f : NumberField) (x : Result ℤ FieldError) → x ≡ field_on line f → field_gives f x ≡ number line f
 unfolding number
 number_is line f x e = ap (field_gives f) e
 
@@ -87,3 +57,12 @@ number_is line f x e = ap (field_gives f) e
 pub row_small : (row : Row) (k : ℕ) → IsSmall (row_field row k)
 row_small row.Doodson k = (refl, refl)
 row_small (row.Differences j) k = (refl, refl)
+
+-- where a number was read, the field gave it
+pub number-in : (line : List ℕ) (f : NumberField) (v : ℤ) → good v ≡ number line f → Ok v ≡ field_on line f
+unfolding number
+number-in line f v e = go (field_on line f) e
+  where
+    go : (x : Result ℤ FieldError) → good v ≡ field_gives f x → Ok v ≡ x
+    go (Ok w) q = let is : v ≡ w = cc in ap Ok is
+    go (Err error) q = let z : ◌≡◌ {A = ℕ} 0 1 = cc in absurd (omega arith)

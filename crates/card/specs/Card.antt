@@ -1,13 +1,10 @@
 -- 01: one card. "Cards go line by line, 1 first, then fields left to right, each 2, 3, 4, 5".
-use Rattle.std.specs.Prelude.{ℕ, zero, suc, ◌+◌, List, [], ◌∷◌, ◌++◌, cond, leb, ℤ}
+use Rattle.std.specs.Prelude.{ℕ, zero, suc, ◌+◌, List, [], ◌∷◌, ◌++◌, cond, leb, ℤ, Option, Some, None, Result, Ok, Err}
 use Rattle.columns.specs.Bytes.{blank, every}
 use Rattle.columns.specs.Lines.{line_good, blank_card}
 use Rattle.columns.specs.Names.{place_of}
 use Rattle.columns.specs.Columns.{columns}
-use Rattle.columns.specs.declared.names.Found.{Found}
-use Rattle.columns.specs.declared.names.Found.TheVariants.{At, Nothing}
-use Rattle.fields.specs.declared.Field.{Field}
-use Rattle.fields.specs.declared.Field.TheVariants.{Value, Malformed, OutOfRange}
+use Rattle.fields.specs.declared.FieldError.{FieldError}
 use Rattle.fields.specs.Number.{contents_of, ranged}
 use Rattle.refusals.specs.Checked.{Checked, good, bad, ◌>>=◌}
 use Rattle.refusals.specs.Places.{is_among}
@@ -16,7 +13,7 @@ use Rattle.card.specs.declared.faults.Trouble.TheVariants as trouble
 use Rattle.card.specs.declared.faults.Trouble.{Trouble}
 use Rattle.card.specs.declared.faults.Fault.{Fault}
 use Rattle.card.specs.declared.formats.NumberField.{NumberField}
-use Rattle.card.specs.Faults.{only, bad_line}
+use Rattle.card.specs.Faults.{only, bad_line, trouble_in}
 use Rattle.card.specs.Formats.{fault_in}
 
 -- what a card gives, or what it is refused for (the place is its line); `>>=` leads to what stands to the right of it
@@ -24,13 +21,12 @@ abbrev pub Card : Type 0 → Type 0
 Card = Checked Fault
 
 -- "2 malformed number", "3 number outside its stated range"
-abbrev pub field_gives : NumberField → Field → Card ℤ
-field_gives f (Value v) = good v
-field_gives f Malformed = bad (fault_in f trouble.Malformed)
-field_gives f OutOfRange = bad (fault_in f trouble.OutOfRange)
+abbrev pub field_gives : NumberField → Result ℤ FieldError → Card ℤ
+field_gives f (Ok v) = good v
+field_gives f (Err error) = bad (fault_in f (trouble_in error))
 
 -- what stands in a field of the line
-abbrev pub field_on : List ℕ → NumberField → Field
+abbrev pub field_on : List ℕ → NumberField → Result ℤ FieldError
 field_on line f = ranged f.low f.high (contents_of f.format (columns line f.from f.width))
 
 -- the number in a field of the line
@@ -48,17 +44,17 @@ numbers_from line f left k (suc n) = do
 abbrev pub numbers : List ℕ → (ℕ → NumberField) → ℕ → Card (List ℤ)
 numbers line f n = numbers_from line f [] 0 n
 
-abbrev pub unless_found : Found → List ℕ → Card (List ℕ)
-unless_found (At place) name = bad (only what.Name trouble.Twice)
-unless_found Nothing name = good name
+abbrev pub unless_found : Option ℕ → List ℕ → Card (List ℕ)
+unless_found (Some place) name = bad (only what.Name trouble.Twice)
+unless_found None name = good name
 
 -- "4 a constituent's own name blank, or twice in part 1": the name on a frequency card, after those of the cards before it
 unfoldable pub new_name : List (List ℕ) → List ℕ → Card (List ℕ)
 new_name before name = cond (every blank name) (bad (only what.Name trouble.Blank)) (unless_found (place_of name before) name)
 
-abbrev pub place_found : Found → Card ℕ
-place_found (At place) = good place
-place_found Nothing = bad (only what.Name trouble.NoFrequency)
+abbrev pub place_found : Option ℕ → Card ℕ
+place_found (Some place) = good place
+place_found None = bad (only what.Name trouble.NoFrequency)
 
 -- the place of the frequency with a main or shallow constituent's own name: "4 a constituent's own name blank", "5 definition without frequency"
 unfoldable pub place_named : List (List ℕ) → List ℕ → Card ℕ

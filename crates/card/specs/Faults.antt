@@ -1,15 +1,22 @@
 -- 01, "Turned down by the input": what is wrong with a refused card, and the number that it earns.
-use Rattle.std.specs.Prelude.{ℕ, List, cond, ltb, length}
+use Rattle.std.specs.Prelude.{ℕ, List, cond, ltb, length, None}
 use Rattle.limits.specs.Limits.{most_columns}
 use Rattle.refusals.specs.Outcome.{number_of}
 use Rattle.refusals.specs.declared.Refusal.{Refusal}
 use Rattle.refusals.specs.declared.Refusal.TheVariants as refusal
 use Rattle.refusals.specs.declared.Refusal.TheVariants.{BadLine, BadName, Missing, TooMany, Ended}
+use Rattle.fields.specs.declared.FieldError.{FieldError}
+use Rattle.fields.specs.declared.FieldError.TheVariants as field
 use Rattle.card.specs.declared.faults.What.{What}
 use Rattle.card.specs.declared.faults.What.TheVariants.{Card}
 use Rattle.card.specs.declared.faults.Trouble.{Trouble}
 use Rattle.card.specs.declared.faults.Trouble.TheVariants.{TooLong, BadByte, Malformed, OutOfRange, NotWhole, PastTwelve, BadMark, SouthTwice, Blank, Twice, NoFrequency, NoDefinition, NotMain, TooManyFrequencies, TooManyMains, TooManySatellites, TooManyShallows, TooManyRecords, EndedInFrequencies, EndedInLongitudes, EndedInMains, EndedInShallows, NoStationCard}
 use Rattle.card.specs.declared.faults.Fault.{Fault}
+
+-- "2 malformed number", "3 number outside its stated range": what is wrong with the number in a field
+abbrev pub trouble_in : FieldError → Trouble
+trouble_in field.Malformed = Malformed
+trouble_in field.OutOfRange = OutOfRange
 
 -- the row of 01's table that each trouble falls under
 abbrev pub refusal_for : Trouble → Refusal
@@ -50,7 +57,7 @@ fault_number fault = number_of (refusal_for fault.trouble)
 
 -- a fault of a thing of which there is one only
 abbrev pub only : What → Trouble → Fault
-only what trouble = record { what = what; which = 0; trouble = trouble }
+only what trouble = record { what = what; which = None; trouble = trouble }
 
 -- a line that is not good: which of 1's two it is
 unfoldable pub bad_line : List ℕ → Fault

@@ -1,8 +1,6 @@
 -- 01, The card file, part 4: which main constituent a name stands for.
-use Rattle.std.specs.Prelude.{ℕ, ◌+◌, List, [], ◌∷◌, cond, eqb}
+use Rattle.std.specs.Prelude.{ℕ, ◌+◌, List, [], ◌∷◌, cond, eqb, Option, Some, None}
 use Rattle.columns.specs.Names.{place_of}
-use Rattle.columns.specs.declared.names.Found.{Found}
-use Rattle.columns.specs.declared.names.Found.TheVariants.{At, Nothing}
 use Rattle.refusals.specs.Checked.{good, bad, ◌>>=◌}
 use Rattle.card.specs.declared.faults.What.TheVariants.{PartName}
 use Rattle.card.specs.declared.faults.Trouble.TheVariants.{NotMain}
@@ -11,11 +9,11 @@ use Rattle.card.specs.Card.{Card}
 
 -- "5 part not a main", of part j, from 0
 abbrev pub not_main : ℕ → Fault
-not_main j = record { what = PartName; which = j + 1; trouble = NotMain }
+not_main j = record { what = PartName; which = Some (j + 1); trouble = NotMain }
 
-abbrev pub part_found : ℕ → Found → Card ℕ
-part_found j (At place) = good place
-part_found j Nothing = bad (not_main j)
+abbrev pub part_found : ℕ → Option ℕ → Card ℕ
+part_found j (Some place) = good place
+part_found j None = bad (not_main j)
 
 -- where a place stands first among the mains' places, which have positions k and up, for part j
 unfoldable pub main_at : ℕ → ℕ → List ℕ → ℕ → Card ℕ

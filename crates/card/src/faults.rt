@@ -1,8 +1,9 @@
 // What is wrong with a refused card: which of its fields, and what is the matter with it. 01's number of the refusal follows from it.
 ghost use Rattle.std.specs.Prelude.{◌≡◌};
 ghost use Rattle.card.specs.Faults as spec;
-ghost use Rattle.card.specs.Faults.{bad_line, refusal_for};
+ghost use Rattle.card.specs.Faults.{bad_line, refusal_for, trouble_in};
 
+use fields::FieldError;
 use limits::COLUMNS;
 use refusals::Refusal;
 
@@ -60,11 +61,22 @@ pub enum Trouble {
     NoStationCard,
 }
 
-// What is at fault, which of several, from 1 (0: there is one only), and what is wrong with it.
+impl From<FieldError> for Trouble {
+    ghost from_gives = { λ error trouble. trouble ≡ trouble_in error };
+
+    fn from(error: FieldError) -> Trouble {
+        match error {
+            FieldError::Malformed => Trouble::Malformed,
+            FieldError::OutOfRange => Trouble::OutOfRange,
+        }
+    }
+}
+
+// What is at fault, which of several, from 1 (none: there is one only), and what is wrong with it.
 #[derive(Clone, Copy)]
 pub struct Fault {
     pub what: What,
-    pub which: usize,
+    pub which: Option<usize>,
     pub trouble: Trouble,
 }
 
@@ -74,7 +86,7 @@ pub fn only(what: What, trouble: Trouble) -> Fault
 {
     Fault {
         what,
-        which: 0,
+        which: None,
         trouble,
     }
 }
@@ -94,28 +106,24 @@ pub fn refusal_for(trouble: Trouble) -> Refusal
     ensures { result ≡ refusal_for trouble }
 {
     match trouble {
-        Trouble::TooLong => Refusal::BadLine,
-        Trouble::BadByte => Refusal::BadLine,
+        Trouble::TooLong | Trouble::BadByte => Refusal::BadLine,
         Trouble::Malformed => Refusal::Malformed,
-        Trouble::OutOfRange => Refusal::OutOfRange,
-        Trouble::NotWhole => Refusal::OutOfRange,
-        Trouble::PastTwelve => Refusal::OutOfRange,
-        Trouble::BadMark => Refusal::OutOfRange,
-        Trouble::SouthTwice => Refusal::OutOfRange,
-        Trouble::Blank => Refusal::BadName,
-        Trouble::Twice => Refusal::BadName,
-        Trouble::NoFrequency => Refusal::Missing,
-        Trouble::NoDefinition => Refusal::Missing,
-        Trouble::NotMain => Refusal::Missing,
-        Trouble::TooManyFrequencies => Refusal::TooMany,
-        Trouble::TooManyMains => Refusal::TooMany,
-        Trouble::TooManySatellites => Refusal::TooMany,
-        Trouble::TooManyShallows => Refusal::TooMany,
-        Trouble::TooManyRecords => Refusal::TooMany,
-        Trouble::EndedInFrequencies => Refusal::Ended,
-        Trouble::EndedInLongitudes => Refusal::Ended,
-        Trouble::EndedInMains => Refusal::Ended,
-        Trouble::EndedInShallows => Refusal::Ended,
-        Trouble::NoStationCard => Refusal::Ended,
+        Trouble::OutOfRange
+        | Trouble::NotWhole
+        | Trouble::PastTwelve
+        | Trouble::BadMark
+        | Trouble::SouthTwice => Refusal::OutOfRange,
+        Trouble::Blank | Trouble::Twice => Refusal::BadName,
+        Trouble::NoFrequency | Trouble::NoDefinition | Trouble::NotMain => Refusal::Missing,
+        Trouble::TooManyFrequencies
+        | Trouble::TooManyMains
+        | Trouble::TooManySatellites
+        | Trouble::TooManyShallows
+        | Trouble::TooManyRecords => Refusal::TooMany,
+        Trouble::EndedInFrequencies
+        | Trouble::EndedInLongitudes
+        | Trouble::EndedInMains
+        | Trouble::EndedInShallows
+        | Trouble::NoStationCard => Refusal::Ended,
     }
 }

@@ -18,11 +18,11 @@ pub const SHALLOW_NAME: usize = 6;
 // "ratio, 0 to 2.0000", in ten-thousandths.
 pub const RATIO: u32 = 20_000;
 
-// A number field: what it holds and which of several, from 1 (0: there is one only); its first column, width and format; its range.
+// A number field: what it holds and which of several, from 1 (none: there is one only); its first column, width and format; its range.
 #[derive(Clone, Copy)]
 pub struct NumberField {
     pub what: What,
-    pub which: usize,
+    pub which: Option<usize>,
     pub from: usize,
     pub width: usize,
     pub format: Format,
@@ -34,9 +34,8 @@ pub struct NumberField {
 pub fn fault_in(f: NumberField, trouble: Trouble) -> Fault
     ensures { result ≡ fault_in f trouble }
 {
-    let what = f.what;
     Fault {
-        what,
+        what: f.what,
         which: f.which,
         trouble,
     }
@@ -48,7 +47,7 @@ pub fn frequency() -> NumberField
 {
     NumberField {
         what: What::Frequency,
-        which: 0,
+        which: None,
         from: 12,
         width: 13,
         format: Format::Fixed(10),
@@ -72,7 +71,7 @@ pub fn five_field(card: FiveCard, k: usize) -> NumberField
     match card {
         FiveCard::Longitudes => NumberField {
             what: What::Longitude,
-            which: k + 1,
+            which: Some(k + 1),
             from: 13 * k,
             width: 13,
             format: Format::Fixed(10),
@@ -81,7 +80,7 @@ pub fn five_field(card: FiveCard, k: usize) -> NumberField
         },
         FiveCard::Increases => NumberField {
             what: What::Increase,
-            which: k + 1,
+            which: Some(k + 1),
             from: 13 * k,
             width: 13,
             format: Format::Fixed(10),
@@ -98,7 +97,7 @@ fn doodson(k: usize) -> NumberField
 {
     NumberField {
         what: What::Doodson,
-        which: k + 1,
+        which: Some(k + 1),
         from: 12 + 3 * k,
         width: 3,
         format: Format::Whole,
@@ -113,7 +112,7 @@ pub fn main_phase() -> NumberField
 {
     NumberField {
         what: What::Phase,
-        which: 0,
+        which: None,
         from: 30,
         width: 5,
         format: Format::Fixed(2),
@@ -128,7 +127,7 @@ pub fn satellite_count() -> NumberField
 {
     NumberField {
         what: What::SatelliteCount,
-        which: 0,
+        which: None,
         from: 35,
         width: 4,
         format: Format::Whole,
@@ -144,7 +143,7 @@ fn difference(j: usize, k: usize) -> NumberField
 {
     NumberField {
         what: What::Difference,
-        which: j + 1,
+        which: Some(j + 1),
         from: 11 + 23 * j + 3 * k,
         width: 3,
         format: Format::Whole,
@@ -160,7 +159,7 @@ pub fn satellite_phase(j: usize) -> NumberField
 {
     NumberField {
         what: What::SatellitePhase,
-        which: j + 1,
+        which: Some(j + 1),
         from: 11 + 23 * j + 9,
         width: 4,
         format: Format::Fixed(2),
@@ -176,7 +175,7 @@ pub fn ratio(j: usize) -> NumberField
 {
     NumberField {
         what: What::Ratio,
-        which: j + 1,
+        which: Some(j + 1),
         from: 11 + 23 * j + 13,
         width: 7,
         format: Format::Fixed(4),
@@ -217,7 +216,7 @@ pub fn part_count() -> NumberField
 {
     NumberField {
         what: What::PartCount,
-        which: 0,
+        which: None,
         from: 11,
         width: 1,
         format: Format::Whole,
@@ -233,7 +232,7 @@ pub fn coefficient(j: usize) -> NumberField
 {
     NumberField {
         what: What::Coefficient,
-        which: j + 1,
+        which: Some(j + 1),
         from: 14 + 15 * j,
         width: 5,
         format: Format::Fixed(2),

@@ -35,33 +35,39 @@ pub fn after_line(file: &[u8], at: usize, width: usize) -> usize
     end
 }
 
-// Where the reader stands behind a part, byte and line, or what is wrong on a line.
+// Where the reader stands behind a part: the byte and the line that come next.
 #[derive(Clone, Copy)]
-pub enum Progress {
-    Reached(usize, usize),
-    Refused(Fault, usize),
+pub struct Reached {
+    pub at: usize,
+    pub line: usize,
 }
 
-// Whether a card ends its part, has fields to read, or is refused before them.
+// What is wrong in a part, and on which line.
+#[derive(Clone, Copy)]
+pub struct Misread {
+    pub fault: Fault,
+    pub line: usize,
+}
+
+// Whether a card ends its part, or has fields to read.
 #[derive(Clone, Copy)]
 pub enum Opening {
     Ends,
     Fields,
-    Fails(Fault),
 }
 
 // How the card on the line begins, after `before` cards of `most`; one more is `excess`.
-pub fn begins(line: &[u8], before: usize, most: usize, excess: Trouble) -> Opening
+pub fn begins(line: &[u8], before: usize, most: usize, excess: Trouble) -> Result<Opening, Fault>
     ensures { opening_gives result ≡ card.opening most excess before line.now }
 {
     if columns::line_good(line) {
         if columns::is_blank(line) {
-            return Opening::Ends;
+            return Ok(Opening::Ends);
         }
         if most <= before {
-            return Opening::Fails(faults::only(What::Card, excess));
+            return Err(faults::only(What::Card, excess));
         }
-        return Opening::Fields;
+        return Ok(Opening::Fields);
     }
-    Opening::Fails(faults::bad_line(line))
+    Err(faults::bad_line(line))
 }

@@ -7,32 +7,26 @@ ghost use Rattle.refusals.specs.Places.{is_among};
 ghost use Rattle.card.specs.Card.{place_named};
 ghost use Rattle.card.specs.Places.{not_main, main_at, main_named};
 ghost use Rattle.card.specs.Formats.{part_name};
-ghost use Rattle.card.specs.inner.Places.{place_gives, places_in};
+ghost use Rattle.card.specs.inner.Answers.{card_gives};
+ghost use Rattle.card.specs.inner.Places.{places_in};
 
 use crate::faults;
 use crate::faults::{Fault, Trouble, What};
 use crate::formats::part_name;
 use columns::names;
 
-// A place, or what is wrong with a name.
-#[derive(Clone, Copy)]
-pub enum Place {
-    At(u16),
-    Bad(Fault),
-}
-
 // The place of the frequency with the name in five columns of the line.
-pub fn place_named(line: &[u8], from: usize, names: &[u8], count: usize) -> Place
+pub fn place_named(line: &[u8], from: usize, names: &[u8], count: usize) -> Result<u16, Fault>
     requires { count ≤ most_frequencies }
-    ensures { place_gives result ≡ place_named (names_from names.now 0 count) (columns line.now from 5) }
+    ensures { card_gives (λ p. p) result ≡ place_named (names_from names.now 0 count) (columns line.now from 5) }
 {
     let name = names::name_part(line, from);
     if names::name_blank(name) {
-        return Place::Bad(faults::only(What::Name, Trouble::Blank));
+        return Err(faults::only(What::Name, Trouble::Blank));
     }
     match names::find_name(name, names, count) {
-        names::Found::At(place) => Place::At(place as u16),
-        names::Found::Nothing => Place::Bad(faults::only(What::Name, Trouble::NoFrequency)),
+        Some(place) => Ok(place as u16),
+        None => Err(faults::only(What::Name, Trouble::NoFrequency)),
     }
 }
 
@@ -41,12 +35,10 @@ pub fn is_among(place: u16, cards: &[u16], width: usize, count: usize) -> bool
     requires { (width ≤ 6) × (count ≤ most_frequencies) }
     ensures { result ≡ is_among place (places_in width cards.now count) }
 {
-    let mut k = 0;
-    while k < count {
-        if place == table::at_u16(cards, width * k) {
+    for k in 0..count {
+        if place == *table::at(cards, width * k, &0) {
             return true;
         }
-        k = k + 1;
     }
     false
 }
@@ -58,24 +50,22 @@ fn not_main(j: usize) -> Fault
 {
     Fault {
         what: What::PartName,
-        which: j + 1,
+        which: Some(j + 1),
         trouble: Trouble::NotMain,
     }
 }
 
 // The main with a place, by its position, for part j.
-pub fn main_at(j: usize, place: u16, cards: &[u16], count: usize) -> Place
+pub fn main_at(j: usize, place: u16, cards: &[u16], count: usize) -> Result<u16, Fault>
     requires { (j < 4) × (count ≤ most_frequencies) }
-    ensures { place_gives result ≡ main_at j place (places_in 3 cards.now count) 0 }
+    ensures { card_gives (λ p. p) result ≡ main_at j place (places_in 3 cards.now count) 0 }
 {
-    let mut k = 0;
-    while k < count {
-        if place == table::at_u16(cards, 3 * k) {
-            return Place::At(k as u16);
+    for k in 0..count {
+        if place == *table::at(cards, 3 * k, &0) {
+            return Ok(k as u16);
         }
-        k = k + 1;
     }
-    Place::Bad(not_main(j))
+    Err(not_main(j))
 }
 
 // The main with the name of part j on the line, by its position.
@@ -86,12 +76,12 @@ pub fn main_named(
     frequencies: usize,
     cards: &[u16],
     mains: usize,
-) -> Place
+) -> Result<u16, Fault>
     requires { (j < 4) × (frequencies ≤ most_frequencies) × (mains ≤ most_frequencies) }
-    ensures { place_gives result ≡ main_named j (names_from names.now 0 frequencies) (places_in 3 cards.now mains) (columns line.now (part_name j) 5) }
+    ensures { card_gives (λ p. p) result ≡ main_named j (names_from names.now 0 frequencies) (places_in 3 cards.now mains) (columns line.now (part_name j) 5) }
 {
     match names::find_name(names::name_part(line, part_name(j)), names, frequencies) {
-        names::Found::At(place) => main_at(j, place as u16, cards, mains),
-        names::Found::Nothing => Place::Bad(not_main(j)),
+        Some(place) => main_at(j, place as u16, cards, mains),
+        None => Err(not_main(j)),
     }
 }

@@ -1,8 +1,6 @@
 -- 01, The card file: the whole of it. Its four parts in order, then that every frequency is defined.
-use Rattle.std.specs.Prelude.{ℕ, zero, suc, ◌+◌, List, [], ◌++◌, cond, length}
+use Rattle.std.specs.Prelude.{Option, Some, None, ℕ, zero, suc, ◌+◌, List, [], ◌++◌, cond, length}
 use Rattle.columns.specs.Lines.{lines_of}
-use Rattle.columns.specs.declared.names.Found.{Found}
-use Rattle.columns.specs.declared.names.Found.TheVariants.{At, Nothing}
 use Rattle.refusals.specs.Outcome as outcome
 use Rattle.refusals.specs.Outcome.{Outcome}
 use Rattle.table.specs.Table.{Table}
@@ -24,14 +22,14 @@ followed (given a lines n) next = next a lines n
 followed (refused fault n) next = refused fault n
 
 -- "Undefined frequency names come last, in their order": the first of n places from k on that is not among those defined
-unfoldable pub first_undefined : List ℕ → ℕ → ℕ → Found
-first_undefined defined k zero = Nothing
-first_undefined defined k (suc n) = cond (is_among k defined) (first_undefined defined (k + 1) n) (At k)
+unfoldable pub first_undefined : List ℕ → ℕ → ℕ → Option ℕ
+first_undefined defined k zero = None
+first_undefined defined k (suc n) = cond (is_among k defined) (first_undefined defined (k + 1) n) (Some k)
 
 -- "5 frequency without definition". A part 1 card has no card before it but of part 1, so place k stands on line k + 1.
-abbrev pub unless_undefined : {A : Type 0} → Found → Reading A → Reading A
-unless_undefined Nothing reading = reading
-unless_undefined (At k) reading = refused (only Name NoDefinition) (k + 1)
+abbrev pub unless_undefined : {A : Type 0} → Option ℕ → Reading A → Reading A
+unless_undefined None reading = reading
+unless_undefined (Some k) reading = refused (only Name NoDefinition) (k + 1)
 
 -- the table of a card file, from its bytes, or what is wrong with a line; "lines after it are ignored"
 unfoldable pub read_cards : List ℕ → Reading Table

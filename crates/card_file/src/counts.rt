@@ -7,7 +7,6 @@ ghost use Rattle.card_file.specs.Counts.{counts_of};
 
 use crate::reader;
 use limits::MAINS;
-use refusals::Answer;
 use table::Table;
 
 // What a card file comes to: the counts of an accepted file, or the refusal's number and line.
@@ -29,23 +28,13 @@ fn shorter(a: usize, b: usize) -> usize
     if a < b { a } else { b }
 }
 
-// A small number, widened.
-fn wide(x: u16) -> usize
-    ensures { (result ≡ x) × (result ≤ 65_535) }
-{
-    x as usize
-}
-
 // The satellites of all mains together.
 pub fn satellites_of(table: Table) -> usize
     ensures { result ≡ satellites_in (table_of table).mains }
 {
-    let most = shorter(table.mains, MAINS);
     let mut total: usize = 0;
-    let mut k: usize = 0;
-    while k < most {
-        total += wide(table.maincards[3 * k + 2]);
-        k += 1;
+    for k in 0..shorter(table.mains, MAINS) {
+        total += table.maincards[3 * k + 2] as usize;
     }
     total
 }
@@ -54,11 +43,8 @@ pub fn satellites_of(table: Table) -> usize
 pub fn check_cards(file: &[u8]) -> Counts
     ensures { result ≡ counts_of (cards_outcome file.now) }
 {
-    let read = reader::read_cards(file);
-    let answer = read.answer;
-    let table = read.table;
-    match answer {
-        Answer::Accepted => Counts {
+    match reader::read_cards(file) {
+        Ok(table) => Counts {
             number: 0,
             line: 0,
             frequencies: table.frequencies,
@@ -66,9 +52,9 @@ pub fn check_cards(file: &[u8]) -> Counts
             satellites: satellites_of(table),
             shallows: table.shallows,
         },
-        Answer::Refused(refusal, line) => Counts {
-            number: refusals::number_of(refusal),
-            line,
+        Err(refused) => Counts {
+            number: refusals::number_of(refused.refusal),
+            line: refused.place,
             frequencies: 0,
             mains: 0,
             satellites: 0,

@@ -1,5 +1,5 @@
 -- 01, The card file, part 4: a shallow-water card.
-use Rattle.std.specs.Prelude.{ℕ, ◌+◌, List, [], ◌++◌, length, nat_abs}
+use Rattle.std.specs.Prelude.{ℕ, List, [], ◌++◌, length, nat_abs}
 use Rattle.limits.specs.Limits.{most_shallows}
 use Rattle.columns.specs.Columns.{columns}
 use Rattle.table.specs.Table.{Shallow}

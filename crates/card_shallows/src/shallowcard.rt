@@ -3,108 +3,72 @@ ghost use Rattle.std.specs.Prelude.{◌≡◌, ◌++◌, ◌≤◌, ◌+◌};
 ghost use Rattle.limits.specs.Limits.{most_frequencies, most_mains, most_shallows};
 ghost use Rattle.columns.specs.Columns.{columns};
 ghost use Rattle.columns.specs.Names.{names_from};
-ghost use Rattle.card.specs.Card.{new_place, opened, read_fields, fails};
+ghost use Rattle.card.specs.Card.{new_place};
 ghost use Rattle.card.specs.Formats.{shallow_name};
 ghost use Rattle.card_shallows.specs.Shallow.{shallow_card, next_shallow};
-ghost use Rattle.card.specs.inner.Places.{place_gives, places_in};
-ghost use Rattle.card_shallows.specs.inner.Answers.{shallow_gives};
+ghost use Rattle.card.specs.inner.Answers.{card_gives};
+ghost use Rattle.card.specs.inner.Lines.{next_gives};
+ghost use Rattle.card.specs.inner.Places.{places_in};
+ghost use Rattle.card_shallows.specs.inner.Answers.{in_row};
 
-use crate::parts::{ShallowRead, ShallowStep, parts_on};
+use crate::parts::{ShallowRow, parts_on};
+use crate::shallows::Shallows;
 use card::faults::{Fault, Trouble, What};
 use card::formats::SHALLOW_NAME;
 use card::lines::{Opening, begins};
-use card::places::{Place, is_among, place_named};
-use card::{Natural, faults, formats, natural_field};
+use card::places::{is_among, place_named};
+use card::{faults, formats, natural_field};
 use limits::SHALLOWS;
+use table::Table;
 
-// A card with a fault.
-fn failed(fault: Fault) -> ShallowRead
-    ensures { shallow_gives result ≡ fails fault }
+// The place of a card's own name, if no main and no shallow constituent before it has it. The table is that of the parts before.
+fn own_place(line: &[u8], table: &Table, before: &Shallows) -> Result<u16, Fault>
+    requires { (table.now.frequencies ≤ most_frequencies) × (table.now.mains ≤ most_mains) × (before.now.count ≤ most_shallows) }
+    ensures { card_gives (λ p. p) result ≡ new_place (names_from table.now.names 0 table.now.frequencies) (places_in 3 table.now.maincards table.now.mains ++ places_in 6 before.now.cards before.now.count) (columns line.now shallow_name 5) }
 {
-    ShallowRead {
-        step: ShallowStep::Fails(fault),
-        card: [0u16; 6],
-        coefficients: [0i8; 4],
-    }
-}
-
-// The place of a card's own name, if no main and no shallow constituent has it.
-fn own_place(
-    line: &[u8],
-    names: &[u8],
-    frequencies: usize,
-    maincards: &[u16],
-    mains: usize,
-    cards: &[u16],
-    count: usize,
-) -> Place
-    requires { (frequencies ≤ most_frequencies) × (mains ≤ most_mains) × (count ≤ most_shallows) }
-    ensures { place_gives result ≡ new_place (names_from names.now 0 frequencies) (places_in 3 maincards.now mains ++ places_in 6 cards.now count) (columns line.now shallow_name 5) }
-{
-    match place_named(line, SHALLOW_NAME, names, frequencies) {
-        Place::At(place) => {
-            if is_among(place, maincards, 3, mains) {
-                return Place::Bad(faults::only(What::Name, Trouble::Twice));
+    match place_named(line, SHALLOW_NAME, &table.names, table.frequencies) {
+        Ok(place) => {
+            if is_among(place, &table.maincards, 3, table.mains) {
+                return Err(faults::only(What::Name, Trouble::Twice));
             }
-            if is_among(place, cards, 6, count) {
-                return Place::Bad(faults::only(What::Name, Trouble::Twice));
+            if is_among(place, &before.cards, 6, before.count) {
+                return Err(faults::only(What::Name, Trouble::Twice));
             }
-            Place::At(place)
+            Ok(place)
         }
-        Place::Bad(fault) => Place::Bad(fault),
+        Err(fault) => Err(fault),
     }
 }
 
 // The fields of a card.
-fn shallow_card(
-    line: &[u8],
-    names: &[u8],
-    frequencies: usize,
-    maincards: &[u16],
-    mains: usize,
-    cards: &[u16],
-    count: usize,
-) -> ShallowRead
-    requires { (frequencies ≤ most_frequencies) × (mains ≤ most_mains) × (count ≤ most_shallows) }
-    ensures { shallow_gives result ≡ opened read_fields (shallow_card (names_from names.now 0 frequencies) (places_in 3 maincards.now mains) (places_in 6 cards.now count) line.now) }
+fn shallow_card(line: &[u8], table: &Table, before: &Shallows) -> Result<ShallowRow, Fault>
+    requires { (table.now.frequencies ≤ most_frequencies) × (table.now.mains ≤ most_mains) × (before.now.count ≤ most_shallows) }
+    ensures { card_gives in_row result ≡ shallow_card (names_from table.now.names 0 table.now.frequencies) (places_in 3 table.now.maincards table.now.mains) (places_in 6 before.now.cards before.now.count) line.now }
 {
-    match own_place(line, names, frequencies, maincards, mains, cards, count) {
-        Place::At(place) => match natural_field(line, formats::part_count()) {
-            Natural::Value(parts) => parts_on(
-                line,
-                place,
-                parts as u16,
-                names,
-                frequencies,
-                maincards,
-                mains,
-            ),
-            Natural::Bad(fault) => failed(fault),
+    match own_place(line, table, before) {
+        Ok(place) => match natural_field(line, formats::part_count()) {
+            Ok(parts) => parts_on(line, place, parts as u16, table),
+            Err(fault) => Err(fault),
         },
-        Place::Bad(fault) => failed(fault),
+        Err(fault) => Err(fault),
     }
 }
 
-// The next card of part 4, after `count` shallow constituents.
+// The next card of part 4, after the shallow constituents before it: none where it ends the part.
 pub fn next_shallow(
     line: &[u8],
-    names: &[u8],
-    frequencies: usize,
-    maincards: &[u16],
-    mains: usize,
-    cards: &[u16],
-    count: usize,
-) -> ShallowRead
-    requires { (frequencies ≤ most_frequencies) × (mains ≤ most_mains) × (count ≤ most_shallows) }
-    ensures { shallow_gives result ≡ next_shallow (names_from names.now 0 frequencies) (places_in 3 maincards.now mains) (places_in 6 cards.now count) line.now }
+    table: &Table,
+    before: &Shallows,
+) -> Result<Option<ShallowRow>, Fault>
+    requires { (table.now.frequencies ≤ most_frequencies) × (table.now.mains ≤ most_mains) × (before.now.count ≤ most_shallows) }
+    ensures { next_gives in_row result ≡ next_shallow (names_from table.now.names 0 table.now.frequencies) (places_in 3 table.now.maincards table.now.mains) (places_in 6 before.now.cards before.now.count) line.now }
 {
-    match begins(line, count, SHALLOWS, Trouble::TooManyShallows) {
-        Opening::Ends => ShallowRead {
-            step: ShallowStep::Ends,
-            card: [0u16; 6],
-            coefficients: [0i8; 4],
+    match begins(line, before.count, SHALLOWS, Trouble::TooManyShallows) {
+        Ok(Opening::Ends) => Ok(None),
+        Ok(Opening::Fields) => match shallow_card(line, table, before) {
+            Ok(row) => Ok(Some(row)),
+            Err(fault) => Err(fault),
         },
-        Opening::Fields => shallow_card(line, names, frequencies, maincards, mains, cards, count),
-        Opening::Fails(fault) => failed(fault),
+        Err(fault) => Err(fault),
     }
 }

@@ -1,102 +1,83 @@
 // Part 4 of the card file: shallow-water constituents.
-ghost use Rattle.std.specs.Prelude.{◌≡◌, [], ◌≤◌, ◌+◌, ◌*◌, ◌<◌, length, drop};
+ghost use Rattle.std.specs.Prelude.{◌≡◌, [], ◌≤◌, ◌+◌, ◌*◌, ◌<◌, length, drop, IfOk};
 ghost use Rattle.limits.specs.Limits.{most_frequencies, most_mains, most_shallows};
 ghost use Rattle.columns.specs.Names.{names_from};
 ghost use Rattle.card_shallows.specs.Shallows.{shallows_from};
 ghost use Rattle.card.specs.inner.Places.{places_in};
 ghost use Rattle.std.proofs.lemmas.List.Edits.{sets};
 ghost use Rattle.columns.specs.Lines.{lines_of};
-ghost use Rattle.table.specs.inner.View.{listed, shallow_of};
-ghost use Rattle.card.specs.inner.Lines.{reading_gives};
+ghost use Rattle.card.specs.inner.Lines.{reading_gives, WithinFile};
+ghost use Rattle.card_shallows.specs.inner.Answers.{shallows_in};
 
-use crate::parts::ShallowStep;
+use crate::parts::ShallowRow;
 use crate::shallowcard::next_shallow;
 use card::faults;
 use card::faults::{Trouble, What};
-use card::lines::{Progress, after_line, line_at};
-use table::{COEFFICIENTS, MAIN_CARDS, NAMES, SHALLOW_CARDS};
+use card::lines::{Misread, Reached, after_line, line_at};
+use table::{COEFFICIENTS, SHALLOW_CARDS, Table};
+
+// Where the reader of part 4 stands, and the shallow constituents that it has read.
+#[derive(Clone, Copy)]
+pub struct Shallows {
+    pub reached: Reached,
+    pub count: usize,
+    pub cards: [u16; SHALLOW_CARDS],
+    pub coefficients: [i8; COEFFICIENTS],
+}
 
 // Stores the rows of shallow constituent k.
 fn put_shallow(
     cards: &mut [u16; SHALLOW_CARDS],
     coefficients: &mut [i8; COEFFICIENTS],
     k: usize,
-    card: [u16; 6],
-    row: [i8; 4],
+    row: ShallowRow,
 )
     requires { k < most_shallows }
-    ensures cards_after { cards.new ≡ sets cards.old (6 * k) card }
-    ensures coefficients_after { coefficients.new ≡ sets coefficients.old (4 * k) row }
+    ensures cards_after { cards.new ≡ sets cards.old (6 * k) row.card }
+    ensures coefficients_after { coefficients.new ≡ sets coefficients.old (4 * k) row.coefficients }
 {
-    table::put_u16(cards, 6 * k, &card);
-    table::put_i8(coefficients, 4 * k, &row);
+    table::put_u16(cards, 6 * k, &row.card);
+    table::put_i8(coefficients, 4 * k, &row.coefficients);
 }
 
-// The shallow constituents that part 4 gives, and where it ends.
-#[derive(Clone, Copy)]
-pub struct Shallows {
-    pub progress: Progress,
-    pub count: usize,
-    pub cards: [u16; SHALLOW_CARDS],
-    pub coefficients: [i8; COEFFICIENTS],
-}
-
-// Part 4, from a byte of the file on, which begins line n.
-pub fn read_shallows(
-    file: &[u8],
-    at: usize,
-    n: usize,
-    names: &[u8; NAMES],
-    frequencies: usize,
-    maincards: &[u16; MAIN_CARDS],
-    mains: usize,
-) -> Shallows
-    requires { (at ≤ length file.now) × (n ≤ at + 1) × (frequencies ≤ most_frequencies) × (mains ≤ most_mains) }
-    ensures count_value { reading_gives file.now result.progress (listed (shallow_of result.cards result.coefficients) 0 result.count) ≡ shallows_from (names_from names.now 0 frequencies) (places_in 3 maincards.now mains) (lines_of (drop at file.now)) n [] }
-    ensures count_le_most_shallows { result.count ≤ most_shallows }
+// Part 4, from a line of the file on, after the table of the parts before it; or the line that is wrong.
+pub fn read_shallows(file: &[u8], from: Reached, table: &Table) -> Result<Shallows, Misread>
+    requires { WithinFile file.now from × (table.now.frequencies ≤ most_frequencies) × (table.now.mains ≤ most_mains) }
+    ensures count_value { reading_gives file.now (λ r. r.reached) shallows_in result ≡ shallows_from (names_from table.now.names 0 table.now.frequencies) (places_in 3 table.now.maincards table.now.mains) (lines_of (drop from.at file.now)) from.line [] }
+    ensures count_le_most_shallows { IfOk result (λ r. r.count ≤ most_shallows) }
 {
-    let mut cards = [0u16; SHALLOW_CARDS];
-    let mut coefficients = [0i8; COEFFICIENTS];
-    let mut count = 0;
-    let mut here = at;
-    let mut line_number = n;
-    while here < file.len() {
-        let line = line_at(file, here);
-        let next = after_line(file, here, line.len());
-        let read = next_shallow(line, names, frequencies, maincards, mains, &cards, count);
-        let step = read.step;
-        let card = read.card;
-        let row = read.coefficients;
-        match step {
-            ShallowStep::Ends => {
-                return Shallows {
-                    progress: Progress::Reached(next, line_number + 1),
-                    count: count,
-                    cards: cards,
-                    coefficients: coefficients,
-                };
+    let mut read = Shallows {
+        reached: from,
+        count: 0,
+        cards: [0u16; SHALLOW_CARDS],
+        coefficients: [0i8; COEFFICIENTS],
+    };
+    // (It goes on by a line's length, so it is a `while`.)
+    while read.reached.at < file.len() {
+        let here = read.reached;
+        let line = line_at(file, here.at);
+        let next = Reached {
+            at: after_line(file, here.at, line.len()),
+            line: here.line + 1,
+        };
+        match next_shallow(line, table, &read) {
+            Ok(Some(row)) => put_shallow(&mut read.cards, &mut read.coefficients, read.count, row),
+            Ok(None) => {
+                read.reached = next;
+                return Ok(read);
             }
-            ShallowStep::Gives => put_shallow(&mut cards, &mut coefficients, count, card, row),
-            ShallowStep::Fails(fault) => {
-                return Shallows {
-                    progress: Progress::Refused(fault, line_number),
-                    count: count,
-                    cards: cards,
-                    coefficients: coefficients,
-                };
+            Err(fault) => {
+                return Err(Misread {
+                    fault,
+                    line: here.line,
+                });
             }
         }
-        count = count + 1;
-        here = next;
-        line_number = line_number + 1;
+        read.count = read.count + 1;
+        read.reached = next;
     }
-    Shallows {
-        progress: Progress::Refused(
-            faults::only(What::File, Trouble::EndedInShallows),
-            line_number,
-        ),
-        count: count,
-        cards: cards,
-        coefficients: coefficients,
-    }
+    Err(Misread {
+        fault: faults::only(What::File, Trouble::EndedInShallows),
+        line: read.reached.line,
+    })
 }

@@ -1,17 +1,14 @@
 -- 01: what a height and turns return, in its own numbers and values, for each answer of the code.
 -- Assumes nothing.
-use Rattle.std.specs.Prelude.{ℤ}
-use Rattle.refusals.specs.Outcome.{Outcome, accepted, refused, number_of}
+use Rattle.std.specs.Prelude.{ℤ, Result, Ok, Err}
+use Rattle.refusals.specs.Outcome.{Outcome, accepted, refused, number_of, outcome_of}
+use Rattle.refusals.specs.declared.Refused.{Refused}
 use Rattle.turns.specs.Written.{TurnsFound}
-use Rattle.clock.specs.declared.HeightAnswer.{HeightAnswer}
-use Rattle.clock.specs.declared.HeightAnswer.TheVariants as height
-use Rattle.clock.specs.declared.TurnsAnswer.{TurnsAnswer}
-use Rattle.clock.specs.declared.TurnsAnswer.TheVariants as turns
+use Rattle.turns.specs.declared.search.Summary.{Summary}
 
-abbrev pub height_returned : HeightAnswer → Outcome ℤ
-height_returned (height.Height h) = accepted h
-height_returned (height.Refused r place) = refused (number_of r) place
+abbrev pub height_returned : Result ℤ Refused → Outcome ℤ
+height_returned = outcome_of
 
-abbrev pub turns_returned : TurnsAnswer → Outcome TurnsFound
-turns_returned (turns.Turns count high) = accepted (record { count = count; high = high })
-turns_returned (turns.Refused r place) = refused (number_of r) place
+abbrev pub turns_returned : Result Summary Refused → Outcome TurnsFound
+turns_returned (Ok found) = accepted (record { count = found.count; high = found.high })
+turns_returned (Err e) = refused (number_of e.refusal) e.place

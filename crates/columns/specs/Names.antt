@@ -1,8 +1,6 @@
 -- 01, The card file: "Names are five columns compared byte by byte".
-use Rattle.std.specs.Prelude.{ℕ, zero, suc, ◌+◌, ◌*◌, List, [], ◌∷◌, Bool, true, false, cond, ◌&&◌, eqb}
+use Rattle.std.specs.Prelude.{ℕ, zero, suc, ◌+◌, ◌*◌, List, [], ◌∷◌, Bool, true, false, cond, ◌&&◌, eqb, Option, Some, None}
 use Rattle.columns.specs.Columns.{padded}
-use Rattle.columns.specs.declared.names.Found.{Found}
-use Rattle.columns.specs.declared.names.Found.TheVariants.{At, Nothing}
 
 -- "compared byte by byte"
 unfoldable pub same : List ℕ → List ℕ → Bool
@@ -21,10 +19,10 @@ names_from names k zero = []
 names_from names k (suc n) = name_at names k ∷ names_from names (k + 1) n
 
 -- where a name stands first in a list of names, which has places k and up
-unfoldable pub place_from : List ℕ → List (List ℕ) → ℕ → Found
-place_from name [] k = Nothing
-place_from name (n ∷ ns) k = cond (same name n) (At k) (place_from name ns (k + 1))
+unfoldable pub place_from : List ℕ → List (List ℕ) → ℕ → Option ℕ
+place_from name [] k = None
+place_from name (n ∷ ns) k = cond (same name n) (Some k) (place_from name ns (k + 1))
 
 -- the place of a name in a list of names, from 0
-abbrev pub place_of : List ℕ → List (List ℕ) → Found
+abbrev pub place_of : List ℕ → List (List ℕ) → Option ℕ
 place_of name names = place_from name names 0

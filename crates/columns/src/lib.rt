@@ -15,14 +15,12 @@ pub mod names; // names of five columns
 fn line_length(file: &[u8]) -> usize
     ensures { result ≡ length (first_line file.now) }
 {
-    let mut i = 0;
-    while i < file.len() {
-        if column(file, i) == 10 {
-            return i;
+    for (k, b) in file.iter().enumerate() {
+        if *b == b'\n' {
+            return k;
         }
-        i = i + 1;
     }
-    i
+    file.len()
 }
 
 // The part of the line from byte `from` on, `width` bytes or as many as it has.
@@ -60,25 +58,20 @@ pub fn rest_lines(file: &[u8]) -> &[u8]
 pub fn column(line: &[u8], k: usize) -> u8
     ensures { result ≡ columns.column line.now k }
 {
-    if k < line.len() { line[k] } else { 32 }
+    if k < line.len() { line[k] } else { b' ' }
 }
 
 // The column where the bytes from `low` to `high` end that stand in column k and the next, before column `end`.
 pub fn run_end(line: &[u8], k: usize, end: usize, low: u8, high: u8) -> usize
     ensures { result ≡ k + length (leading (among low high) (columns line.now k (end - k))) }
 {
-    let mut i = k;
-    while i < end {
+    for i in k..end {
         let b = column(line, i);
-        if b < low {
+        if b < low || high < b {
             return i;
         }
-        if high < b {
-            return i;
-        }
-        i = i + 1;
     }
-    i
+    if k < end { end } else { k }
 }
 
 // Whether the columns from k on, before column `end`, hold bytes from `low` to `high` only.
@@ -95,12 +88,12 @@ pub fn line_good(line: &[u8]) -> bool
     if COLUMNS < line.len() {
         return false;
     }
-    all_among(line, 0, line.len(), 32, 126)
+    all_among(line, 0, line.len(), b' ', b'~')
 }
 
 // Whether the line is a blank card.
 pub fn is_blank(line: &[u8]) -> bool
     ensures { result ≡ blank_card line.now }
 {
-    all_among(line, 0, line.len(), 32, 32)
+    all_among(line, 0, line.len(), b' ', b' ')
 }

@@ -4,13 +4,6 @@ ghost use Rattle.columns.specs.Bytes.{blank, every};
 ghost use Rattle.columns.specs.Columns.{padded, columns};
 ghost use Rattle.columns.specs.Names.{same, name_at, names_from, place_of};
 
-// Where a name stands among others.
-#[derive(Clone, Copy)]
-pub enum Found {
-    At(usize),
-    Nothing,
-}
-
 // The name in five columns of the line, as a part of the lent line: shorter where the line ends before.
 pub fn name_part(line: &[u8], from: usize) -> &[u8]
     ensures result_value { result.now ≡ take 5 (drop from line.now) }
@@ -23,7 +16,7 @@ pub fn name_part(line: &[u8], from: usize) -> &[u8]
 pub fn name_blank(part: &[u8]) -> bool
     ensures { result ≡ every blank (columns part.now 0 5) }
 {
-    crate::all_among(part, 0, 5, 32, 32)
+    crate::all_among(part, 0, 5, b' ', b' ')
 }
 
 // The name at a place of a row of names of five bytes each, as a part of the row.
@@ -47,11 +40,8 @@ fn byte(row: &[u8], k: usize) -> u8
 fn same_name(part: &[u8], row: &[u8]) -> bool
     ensures { result ≡ same (columns part.now 0 5) (padded 0 row.now 0 5) }
 {
-    let mut j = 0;
-    while j < 5 {
-        if crate::column(part, j) == byte(row, j) {
-            j = j + 1;
-        } else {
+    for j in 0..5 {
+        if crate::column(part, j) != byte(row, j) {
             return false;
         }
     }
@@ -66,15 +56,13 @@ fn is_name(part: &[u8], names: &[u8], place: usize) -> bool
 }
 
 // The first place below `count` whose name is this one, padded.
-pub fn find_name(part: &[u8], names: &[u8], count: usize) -> Found
+pub fn find_name(part: &[u8], names: &[u8], count: usize) -> Option<usize>
     ensures { result ≡ place_of (columns part.now 0 5) (names_from names.now 0 count) }
 {
-    let mut k = 0;
-    while k < count {
+    for k in 0..count {
         if is_name(part, names, k) {
-            return Found::At(k);
+            return Some(k);
         }
-        k = k + 1;
     }
-    Found::Nothing
+    None
 }

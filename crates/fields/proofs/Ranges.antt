@@ -3,26 +3,27 @@
 use mathlib.Core.Path.{◌≡◌, refl, sym, ◌∙◌}
 use Prim.Native.Nat.{ℕ, zero, suc, ◌≤◌, ◌<◌, min}
 use mathlib.Core.List.{List}
-use mathlib.Core.Bool.{Bool, true, false, cond, not, and-false}
-use lib.IntN.{ℤ, pos, negsuc, neg_ℤ, ◌-ℤ◌}
+use mathlib.Core.Bool.{Bool, true, false, false≢true, cond, ◌&&◌, not, and-false}
+use lib.IntN.{ℤ, pos, negsuc, neg_ℤ, nat_abs, ◌-ℤ◌}
 use lib.ListN.{drop}
-use lib.Signed.{lt_z, le_z}
-use lib.Dec.{leb, ltb}
+use lib.Signed.{lt_z, le_z, non_neg}
+use lib.Dec.{T, leb, ltb}
 use native.Mathlib.Nat.{zero-add}
 use native.Mathlib.Omega.{arith}
-use borrow.Author.Tests.{ltb-true, ltb-false, le-leb, lt-leb}
+use borrow.Author.Tests.{ltb-true, ltb-false, leb-true, le-leb, lt-leb}
 use mir.Syntax.{w64}
 use mir.Val.{SFits, to_z}
 use mir.ValLaws.{to_z_pos}
 use Rattle.columns.specs.Bytes.{blank, behind}
 use Rattle.fields.specs.Numerals.{begins, whole_good, whole_size, fixed_good, fixed_size}
-use Rattle.fields.specs.Number.{numeric, malformed, signed, ranged, unsigned, unblanked, contents_of}
+use Rattle.fields.specs.Number.{Contents, numeric, malformed, signed, ranged, unsigned, unblanked, contents_of}
 use Rattle.fields.specs.inner.Cap.{cap, kept}
 use Rattle.fields.specs.inner.Kept.{kept_of, kept_gives, written_in}
 use Rattle.fields.specs.declared.Format.{Format}
 use Rattle.fields.specs.declared.Format.TheVariants.{Whole, Fixed}
 use Rattle.fields.specs.declared.Written.{Written}
-use Rattle.fields.specs.declared.Field.TheVariants.{Value, OutOfRange}
+use Rattle.fields.specs.declared.FieldError.TheVariants.{OutOfRange}
+use Rattle.std.specs.Prelude.{Ok, Err}
 
 leb-ltb : (a b : ℕ) → leb a b ≡ not (ltb b a)
 leb-ltb a b = go (ltb b a) refl
@@ -47,12 +48,12 @@ above (pos k) n f h = lt-leb n k (omega arith)
 above (negsuc k) n f h = refl
 
 module _ (low high : ℤ) (fl : SFits w64 low) (fh : SFits w64 high) where
-  pub out_below : (size : ℕ) → cap ≤ size → ranged low high (numeric (neg_ℤ (pos size))) ≡ OutOfRange
+  pub out_below : (size : ℕ) → cap ≤ size → ranged low high (numeric (neg_ℤ (pos size))) ≡ Err OutOfRange
   unfolding ranged
   out_below zero h = absurd (omega arith)
   out_below (suc m) h = rw (below low m fl (omega arith))
 
-  pub out-above : (size : ℕ) → 9223372036854775807 < size → ranged low high (numeric (pos size)) ≡ OutOfRange
+  pub out-above : (size : ℕ) → 9223372036854775807 < size → ranged low high (numeric (pos size)) ≡ Err OutOfRange
   unfolding ranged
   out-above size h = rw (above high size fh h, and-false)
 
@@ -96,19 +97,33 @@ module _ (low high : ℤ) (fl : SFits w64 low) (fh : SFits w64 high) where
       go true = sized-gives format true (drop 1 bs)
       go false = sized-gives format false bs
 
--- a range from 0 on: nothing with a minus but 0, and nothing above its end
-pub minus-out : (high size : ℕ) → 0 < size → OutOfRange ≡ ranged (pos 0) (pos high) (numeric (signed true size))
+-- a number that is in its range keeps to its bounds
+pub ranged-within : (low high v : ℤ) (x : Contents) → Ok v ≡ ranged low high x → (le_z low v ≡ true) × (le_z v high ≡ true)
 unfolding ranged
-minus-out high zero h = absurd (omega arith)
-minus-out high (suc m) h = refl
+ranged-within low high v malformed e = let z : ◌≡◌ {A = ℕ} 0 1 = cc in absurd (omega arith)
+ranged-within low high v (numeric z) e = go (le_z low z) (le_z z high) refl refl e
+  where
+    go : (s t : Bool) → le_z low z ≡ s → le_z z high ≡ t → Ok v ≡ cond (s && t) (Ok z) (Err OutOfRange) → (le_z low v ≡ true) × (le_z v high ≡ true)
+    go true true a b q = let v-is : v ≡ z = cc in rw v-is (a, b)
+    go true false a b q = let z : ◌≡◌ {A = ℕ} 0 1 = cc in absurd (omega arith)
+    go false t a b q = let z : ◌≡◌ {A = ℕ} 0 1 = cc in absurd (omega arith)
 
-pub above-out : (high size : ℕ) → high < size → OutOfRange ≡ ranged (pos 0) (pos high) (numeric (pos size))
-unfolding ranged
-above-out high size h = rw (lt-leb size high h, and-false)
+pub le_z-trans : (a b c : ℤ) → le_z a b ≡ true → le_z b c ≡ true → le_z a c ≡ true
+le_z-trans (pos a) (pos b) (pos c) p q = le-leb a c (omega (arith, leb-true a b p, leb-true b c q))
+le_z-trans (pos a) (pos b) (negsuc c) p q = absurd (false≢true q)
+le_z-trans (pos a) (negsuc b) c p q = absurd (false≢true p)
+le_z-trans (negsuc a) b (pos c) p q = refl
+le_z-trans (negsuc a) (pos b) (negsuc c) p q = absurd (false≢true q)
+le_z-trans (negsuc a) (negsuc b) (negsuc c) p q = le-leb c a (omega (arith, leb-true b a p, leb-true c b q))
 
-pub natural-in : (high size : ℕ) → size ≤ high → Value (pos size) ≡ ranged (pos 0) (pos high) (numeric (pos size))
-unfolding ranged
-natural-in high size h = rw (le-leb 0 size (omega arith), le-leb size high h)
+-- a field with a range that does not go below 0
+pub natural-is : (low high v : ℤ) (x : Contents) → le_z (pos 0) low ≡ true → Ok v ≡ ranged low high x → T (non_neg v) × (nat_abs v ≤ nat_abs high)
+natural-is low high v x l e = let r = ranged-within low high v x e in at_least v high (le_z-trans (pos 0) low v l r.0) r.1
+  where
+    at_least : (v high : ℤ) → le_z (pos 0) v ≡ true → le_z v high ≡ true → T (non_neg v) × (nat_abs v ≤ nat_abs high)
+    at_least (pos n) (pos m) a b = (tt, leb-true n m b)
+    at_least (pos n) (negsuc m) a b = absurd (false≢true b)
+    at_least (negsuc n) high a b = absurd (false≢true a)
 
 -- the number below 0 that the reader makes of a size
 pub small_pos : (n : ℕ) → n < 9223372036854775808 → to_z w64 n ≡ pos n

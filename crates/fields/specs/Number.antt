@@ -1,13 +1,13 @@
 -- 01, The card file: "A number is blanks, perhaps a minus, digits, blanks. F fields need one point, at least one digit, and no more
 -- decimals than their format. Blank number fields are malformed."
-use Rattle.std.specs.Prelude.{ℕ, List, Bool, true, false, cond, ◌&&◌, ℤ, pos, neg_ℤ, drop}
+use Rattle.std.specs.Prelude.{ℕ, List, Bool, true, false, cond, ◌&&◌, ℤ, pos, neg_ℤ, drop, Result, Ok, Err}
 use Rattle.std.specs.Int.Signed.{le_z}
 use Rattle.columns.specs.Bytes.{blank, behind}
 use Rattle.fields.specs.Numerals.{begins, whole_good, whole_size, fixed_good, fixed_size}
 use Rattle.fields.specs.declared.Format.{Format}
 use Rattle.fields.specs.declared.Format.TheVariants.{Whole, Fixed}
-use Rattle.fields.specs.declared.Field.{Field}
-use Rattle.fields.specs.declared.Field.TheVariants.{Value, Malformed, OutOfRange}
+use Rattle.fields.specs.declared.FieldError.{FieldError}
+use Rattle.fields.specs.declared.FieldError.TheVariants.{Malformed, OutOfRange}
 
 -- what a field holds: an F field's number is in units of its format's last decimal
 pub data Contents : Type 0 where
@@ -33,6 +33,6 @@ unfoldable pub contents_of : Format → List ℕ → Contents
 contents_of format field = unblanked format (behind blank field)
 
 -- malformed is refused by 2, a number outside its stated range by 3
-unfoldable pub ranged : ℤ → ℤ → Contents → Field
-ranged low high malformed = Malformed
-ranged low high (numeric z) = cond (le_z low z && le_z z high) (Value z) OutOfRange
+unfoldable pub ranged : ℤ → ℤ → Contents → Result ℤ FieldError
+ranged low high malformed = Err Malformed
+ranged low high (numeric z) = cond (le_z low z && le_z z high) (Ok z) (Err OutOfRange)

@@ -1,17 +1,17 @@
 // Number fields of a card: one reader for every I and F format and range.
 #![tactic(auto)]
 
-ghost use Rattle.std.specs.Prelude.{◌≡◌, ◌-◌, pos};
+ghost use Rattle.std.specs.Prelude.{◌≡◌, ◌-◌, ◌≤◌, pos, IfOk};
 ghost use Rattle.columns.specs.Bytes.{blank, behind};
 ghost use Rattle.columns.specs.Columns.{columns};
 ghost use Rattle.fields.specs.Number as number;
 ghost use Rattle.fields.specs.Number.{signed, contents_of, ranged};
 ghost use Rattle.fields.specs.inner.Kept.{kept_of, written_in};
-ghost use Rattle.fields.specs.inner.Narrow.{narrow_gives, NarrowWithin};
+ghost use Rattle.fields.specs.inner.Narrow.{narrow_gives};
 
 mod numerals; // what stands behind the sign
 
-use crate::numerals::{CAP, Size, begins, fixed_size, whole_size};
+use crate::numerals::{CAP, begins, fixed_size, whole_size};
 
 // 01's I and F: a whole number, and one with a point and so many decimals at the most.
 #[derive(Clone, Copy)]
@@ -20,31 +20,22 @@ pub enum Format {
     Fixed(usize),
 }
 
-// What a number field holds: an F field's value is in units of its format's last decimal.
+// Why a field holds no number of its range.
 #[derive(Clone, Copy)]
-pub enum Field {
-    Value(i64),
+pub enum FieldError {
     Malformed,
     OutOfRange,
 }
 
-// The same of a field whose range goes from 0 to a number of 32 bits.
-#[derive(Clone, Copy)]
-pub enum Narrow {
-    Value(u32),
-    Malformed,
-    OutOfRange,
-}
-
-// What a field writes: perhaps a minus, and a size behind it.
+// What a field writes: perhaps a minus, and behind it a size, if it is well formed.
 #[derive(Clone, Copy)]
 struct Written {
     negative: bool,
-    size: Size,
+    size: Option<u64>,
 }
 
 // A field behind its sign, without it.
-fn size_of(field: &[u8], k: usize, end: usize, format: Format) -> Size
+fn size_of(field: &[u8], k: usize, end: usize, format: Format) -> Option<u64>
     ensures { result ≡ kept_of format (columns field.now k (end - k)) }
 {
     match format {
@@ -58,8 +49,8 @@ fn written_in(line: &[u8], from: usize, width: usize, format: Format) -> Written
     ensures { result ≡ written_in format (behind blank (columns line.now from width)) }
 {
     let field = columns::part(line, from, width);
-    let start = columns::run_end(field, 0, width, 32, 32);
-    if begins(field, start, width, 45) {
+    let start = columns::run_end(field, 0, width, b' ', b' ');
+    if begins(field, start, width, b'-') {
         return Written {
             negative: true,
             size: size_of(field, start + 1, width, format),
@@ -72,20 +63,17 @@ fn written_in(line: &[u8], from: usize, width: usize, format: Format) -> Written
 }
 
 // A number in its range.
-fn within(z: i64, low: i64, high: i64) -> Field
+fn within(z: i64, low: i64, high: i64) -> Result<i64, FieldError>
     ensures { result ≡ ranged low high (number.numeric z) }
 {
-    if z < low {
-        return Field::OutOfRange;
+    if z < low || high < z {
+        return Err(FieldError::OutOfRange);
     }
-    if high < z {
-        return Field::OutOfRange;
-    }
-    Field::Value(z)
+    Ok(z)
 }
 
 // A size with its sign, in its range.
-fn ranged(negative: bool, size: u64, low: i64, high: i64) -> Field
+fn ranged(negative: bool, size: u64, low: i64, high: i64) -> Result<i64, FieldError>
     ensures { result ≡ ranged low high (number.numeric (signed negative size)) }
 {
     if negative {
@@ -93,32 +81,15 @@ fn ranged(negative: bool, size: u64, low: i64, high: i64) -> Field
             return within(0, low, high);
         }
         if CAP <= size {
-            return Field::OutOfRange;
+            return Err(FieldError::OutOfRange);
         }
         let less = (size - 1) as i64;
         return within(-1 - less, low, high);
     }
-    if 9223372036854775807 < size {
-        return Field::OutOfRange;
+    if (i64::MAX as u64) < size {
+        return Err(FieldError::OutOfRange);
     }
     within(size as i64, low, high)
-}
-
-// A size with its sign, in 32 bits if it is from 0 to `high`.
-fn narrowed(negative: bool, size: u64, high: u32) -> Narrow
-    ensures result_value { narrow_gives result ≡ ranged (pos 0) (pos high) (number.numeric (signed negative size)) }
-    ensures narrow_within { NarrowWithin result high }
-{
-    if negative {
-        if size == 0 {
-            return Narrow::Value(0);
-        }
-        return Narrow::OutOfRange;
-    }
-    if (high as u64) < size {
-        return Narrow::OutOfRange;
-    }
-    Narrow::Value(size as u32)
 }
 
 // The number in `width` columns of the line from column `from` on, if it is from `low` to `high`.
@@ -129,26 +100,30 @@ pub fn ranged_field(
     format: Format,
     low: i64,
     high: i64,
-) -> Field
+) -> Result<i64, FieldError>
     ensures { result ≡ ranged low high (contents_of format (columns line.now from width)) }
 {
     let written = written_in(line, from, width, format);
-    let size = written.size;
-    match size {
-        Size::Of(n) => ranged(written.negative, n, low, high),
-        Size::Bad => Field::Malformed,
+    match written.size {
+        Some(size) => ranged(written.negative, size, low, high),
+        None => Err(FieldError::Malformed),
     }
 }
 
 // The same number in 32 bits, if it is from 0 to `high`.
-pub fn narrow_field(line: &[u8], from: usize, width: usize, format: Format, high: u32) -> Narrow
+pub fn narrow_field(
+    line: &[u8],
+    from: usize,
+    width: usize,
+    format: Format,
+    high: u32,
+) -> Result<u32, FieldError>
     ensures result_value { narrow_gives result ≡ ranged (pos 0) (pos high) (contents_of format (columns line.now from width)) }
-    ensures narrow_within { NarrowWithin result high }
+    ensures narrow_within { IfOk result (λ n. n ≤ high) }
 {
-    let written = written_in(line, from, width, format);
-    let size = written.size;
-    match size {
-        Size::Of(n) => narrowed(written.negative, n, high),
-        Size::Bad => Narrow::Malformed,
+    // No `?` or `map`: `has-the-clock` of claim_runs cannot have std's code.
+    match ranged_field(line, from, width, format, 0, high as i64) {
+        Ok(value) => Ok(value as u32),
+        Err(error) => Err(error),
     }
 }

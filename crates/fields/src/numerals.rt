@@ -5,22 +5,15 @@ ghost use Rattle.fields.specs.Numerals as number;
 ghost use Rattle.fields.specs.Numerals.{whole_good, whole_size, fixed_good, fixed_size};
 ghost use Rattle.fields.specs.inner.Cap.{cap, kept};
 
-// A number without its sign.
-#[derive(Clone, Copy)]
-pub enum Size {
-    Of(u64),
-    Bad,
-}
-
 // 2^63 + 1: a larger size is kept as this one, for it is outside every range.
-pub const CAP: u64 = 9223372036854775809;
+pub const CAP: u64 = (1 << 63) + 1;
 
 // A byte less 48, or 0.
 fn digit(b: u8) -> u64
     ensures value { result ≡ b - 48 }
     ensures upper_bound { result < 256 }
 {
-    if b < 48 { 0 } else { (b - 48) as u64 }
+    if b < b'0' { 0 } else { (b - b'0') as u64 }
 }
 
 // The number with a digit more, capped.
@@ -28,7 +21,7 @@ fn push(size: u64, digit: u64) -> u64
     requires { digit < 256 }
     ensures { result ≡ min cap (10 * size + digit) }
 {
-    if 1000000000000000000 < size {
+    if 1_000_000_000_000_000_000 < size {
         return CAP;
     }
     let x = 10 * size + digit;
@@ -41,10 +34,8 @@ fn numeral(field: &[u8], k: usize, end: usize, before: u64) -> u64
     ensures { result ≡ min cap (number.numeral before (columns field.now k (end - k))) }
 {
     let mut v = before;
-    let mut i = k;
-    while i < end {
+    for i in k..end {
         v = push(v, digit(columns::column(field, i)));
-        i = i + 1;
     }
     v
 }
@@ -55,10 +46,8 @@ fn zeros(before: u64, n: usize) -> u64
     ensures { result ≡ min cap (number.numeral before (replicate n 48)) }
 {
     let mut v = before;
-    let mut i = 0;
-    while i < n {
+    for _ in 0..n {
         v = push(v, 0);
-        i = i + 1;
     }
     v
 }
@@ -74,17 +63,17 @@ pub fn begins(field: &[u8], k: usize, end: usize, b: u8) -> bool
 }
 
 // An I field behind its sign, from column k to column `end`.
-pub fn whole_size(field: &[u8], k: usize, end: usize) -> Size
+pub fn whole_size(field: &[u8], k: usize, end: usize) -> Option<u64>
     ensures { result ≡ kept (whole_good (columns field.now k (end - k))) (whole_size (columns field.now k (end - k))) }
 {
-    let last = columns::run_end(field, k, end, 48, 57);
+    let last = columns::run_end(field, k, end, b'0', b'9');
     if last <= k {
-        return Size::Bad;
+        return None;
     }
-    if columns::all_among(field, last, end, 32, 32) {
-        return Size::Of(numeral(field, k, last, 0));
+    if columns::all_among(field, last, end, b' ', b' ') {
+        return Some(numeral(field, k, last, 0));
     }
-    Size::Bad
+    None
 }
 
 // The digits of an F field that is well formed: from column k to the point, and from there to column `stop`.
@@ -97,22 +86,22 @@ fn fixed_digits(field: &[u8], k: usize, point: usize, stop: usize, missing: usiz
 }
 
 // An F field behind its sign, from column k to column `end`.
-pub fn fixed_size(field: &[u8], k: usize, end: usize, decimals: usize) -> Size
+pub fn fixed_size(field: &[u8], k: usize, end: usize, decimals: usize) -> Option<u64>
     ensures { result ≡ kept (fixed_good decimals (columns field.now k (end - k))) (fixed_size decimals (columns field.now k (end - k))) }
 {
-    let point = columns::run_end(field, k, end, 48, 57);
-    if begins(field, point, end, 46) {
-        let stop = columns::run_end(field, point + 1, end, 48, 57);
+    let point = columns::run_end(field, k, end, b'0', b'9');
+    if begins(field, point, end, b'.') {
+        let stop = columns::run_end(field, point + 1, end, b'0', b'9');
         if stop <= k + 1 {
-            return Size::Bad;
+            return None;
         }
         let written = stop - (point + 1);
         if decimals < written {
-            return Size::Bad;
+            return None;
         }
-        if columns::all_among(field, stop, end, 32, 32) {
-            return Size::Of(fixed_digits(field, k, point, stop, decimals - written));
+        if columns::all_among(field, stop, end, b' ', b' ') {
+            return Some(fixed_digits(field, k, point, stop, decimals - written));
         }
     }
-    Size::Bad
+    None
 }

@@ -1,3 +1,4 @@
 -- What ties the code to the definitions beside this folder. Only inner contracts cite it.
 pub mod Angles
 pub mod Places
+pub mod Lent

@@ -3,10 +3,8 @@
 #![tactic(auto)]
 
 ghost use Rattle.std.specs.Prelude.{◌≡◌, ◌≤◌, ◌^◌, nat_abs};
-ghost use Rattle.limits.specs.Limits.{most_minutes, most_records};
-ghost use Rattle.cosine.specs.Fixed.{IsTable};
-ghost use Rattle.month_prepared.specs.inner.View.{constituents_from};
-ghost use Rattle.month_prepared.specs.inner.Rows.{IsRow};
+ghost use Rattle.limits.specs.Limits.{most_minutes};
+ghost use Rattle.heights.specs.inner.Lent.{IsLent, constituents_lent};
 ghost use Rattle.heights.specs.Height.{height_at};
 
 pub mod minuteangle; // angles
@@ -21,28 +19,29 @@ use crate::shares::share_at;
 use cosine::ENTRIES;
 use limits::RECORDS;
 
+// The constituents of a month, as they are lent with the table of cosines: V, lag, frequency, P and Q at the first `count` places of each.
+#[derive(Clone, Copy)]
+pub struct Lent<'a> {
+    pub table: &'a [u32; ENTRIES],
+    pub arguments: &'a [u64],
+    pub lags: &'a [u16; RECORDS],
+    pub frequencies: &'a [u64; RECORDS],
+    pub ps: &'a [i32],
+    pub qs: &'a [i32],
+    pub count: usize,
+}
+
 // The height at a minute.
-pub fn height<'a>(
-    table: &'a [u32; ENTRIES],
-    arguments: &'a [u64],
-    lags: &'a [u16; RECORDS],
-    frequencies: &'a [u64; RECORDS],
-    ps: &'a [i32],
-    qs: &'a [i32],
-    count: usize,
-    minute: u64,
-) -> i64
-    requires table { IsTable table.now × ((count ≤ most_records) × (minute ≤ most_minutes)) }
-    requires row { IsRow arguments.now ps.now qs.now }
-    ensures value { result ≡ height_at (constituents_from arguments.now lags.now frequencies.now ps.now qs.now count) minute }
+pub fn height(lent: Lent, minute: u64) -> i64
+    requires lent { IsLent lent }
+    requires minute_bound { minute ≤ most_minutes }
+    ensures value { result ≡ height_at (constituents_lent lent.entry) minute }
     ensures result_bound { nat_abs result ≤ 2 ^ 28 }
 {
     let mut sum: i64 = 0;
-    let mut k: usize = 0;
-    while k < count {
-        let angle = angle_at(arguments[k], lags[k], frequencies[k], minute);
-        sum = sum + share_at(table, angle, ps[k], qs[k]);
-        k = k + 1;
+    for k in 0..lent.count {
+        let angle = angle_at(lent.arguments[k], lent.lags[k], lent.frequencies[k], minute);
+        sum = sum + share_at(lent.table, angle, lent.ps[k], lent.qs[k]);
     }
     (sum + 2_048) >> 12
 }

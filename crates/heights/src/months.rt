@@ -1,44 +1,57 @@
 // Heights in months that follow one another: each minute's with the weights of the month that owns it.
 ghost use Rattle.std.specs.Prelude.{◌≡◌, ◌≤◌, ◌<◌, length};
-ghost use Rattle.limits.specs.Limits.{most_step};
-ghost use Rattle.cosine.specs.Fixed.{IsTable};
-ghost use Rattle.month_prepared.specs.inner.Rows.{Following, HasRows, last_of, month_at, months_in};
-ghost use Rattle.heights.specs.Height.{height_at, height_over};
+ghost use Rattle.month_prepared.specs.inner.Rows.{Following, last_of};
+ghost use Rattle.heights.specs.Height.{height_over};
 ghost use Rattle.heights.specs.Series.{series_of};
+ghost use Rattle.heights.specs.inner.Lent.{AreLent, IsMonth, months_lent};
 ghost use Rattle.heights.specs.inner.Places.{IsOwn, PlacesPost, SeriesWithin};
 
+use crate::Lent;
 use cosine::ENTRIES;
 use limits::RECORDS;
 use month_prepared::months::{InMonth, Months, owner};
 
+// Months that follow one another, as they are lent with the table of cosines: V, P and Q in a row of RECORDS places for each month, the lags and
+// the frequencies, which are the same in each.
+#[derive(Clone, Copy)]
+pub struct LentMonths<'a> {
+    pub table: &'a [u32; ENTRIES],
+    pub arguments: &'a [u64],
+    pub lags: &'a [u16; RECORDS],
+    pub frequencies: &'a [u64; RECORDS],
+    pub ps: &'a [i32],
+    pub qs: &'a [i32],
+    pub months: Months,
+}
+
+impl<'a> LentMonths<'a> {
+    // The constituents of a month, from 0.
+    pub fn month(self, month: usize) -> Lent<'a>
+        requires { AreLent self × (month < self.months.many) }
+        ensures { IsMonth self.entry month result }
+    {
+        let from = month * RECORDS;
+        let to = from + RECORDS;
+        Lent {
+            table: self.table,
+            arguments: &self.arguments[from..to],
+            lags: self.lags,
+            frequencies: self.frequencies,
+            ps: &self.ps[from..to],
+            qs: &self.qs[from..to],
+            count: self.months.count,
+        }
+    }
+}
+
 // The height at a minute of the months.
-pub fn height<'a>(
-    table: &'a [u32; ENTRIES],
-    arguments: &'a [u64],
-    lags: &'a [u16; RECORDS],
-    frequencies: &'a [u64; RECORDS],
-    ps: &'a [i32],
-    qs: &'a [i32],
-    months: Months,
-    minute: u64,
-) -> i64
-    requires table { IsTable table.now × (Following months × HasRows months arguments.now ps.now qs.now) }
-    requires minute_bound { minute ≤ last_of months }
-    ensures { result ≡ height_over (months_in arguments.now lags.now frequencies.now ps.now qs.now months) minute }
+pub fn height(lent: LentMonths, minute: u64) -> i64
+    requires lent { AreLent lent }
+    requires minute_bound { minute ≤ last_of lent.months }
+    ensures { result ≡ height_over (months_lent lent.entry) minute }
 {
-    let own = owner(months, minute);
-    let from = own.month * RECORDS;
-    let to = from + RECORDS;
-    crate::height(
-        table,
-        &arguments[from..to],
-        lags,
-        frequencies,
-        &ps[from..to],
-        &qs[from..to],
-        months.count,
-        own.minute,
-    )
+    let own = owner(lent.months, minute);
+    crate::height(lent.month(own.month), own.minute)
 }
 
 // How many of the places that are left stand at minutes of the month that owns the first of them.
@@ -54,72 +67,18 @@ fn places_in(months: Months, own: InMonth, step: u64, left: usize) -> usize
     if places < left { places } else { left }
 }
 
-// The heights at a month's own minute and on, by steps, one for each lent place, with that month's weights.
-fn month_series<'a>(
-    table: &'a [u32; ENTRIES],
-    arguments: &'a [u64],
-    lags: &'a [u16; RECORDS],
-    frequencies: &'a [u64; RECORDS],
-    ps: &'a [i32],
-    qs: &'a [i32],
-    months: Months,
-    own: InMonth,
-    step: u64,
-    out: &mut [i64],
-)
-    requires table { IsTable table.now × (Following months × HasRows months arguments.now ps.now qs.now) }
-    requires own { IsOwn months own × (step ≤ most_step) }
-    ensures { out.new ≡ series_of (height_at (month_at arguments.now lags.now frequencies.now ps.now qs.now months own.month).constituents) own.minute step (length out.old) }
-{
-    let from = own.month * RECORDS;
-    let to = from + RECORDS;
-    crate::series::series(
-        table,
-        &arguments[from..to],
-        lags,
-        frequencies,
-        &ps[from..to],
-        &qs[from..to],
-        months.count,
-        own.minute,
-        step,
-        out,
-    );
-}
-
-// The heights at start, start + step, start + 2 × step and so on, one for each lent place: a month's places together.
-pub fn series<'a>(
-    table: &'a [u32; ENTRIES],
-    arguments: &'a [u64],
-    lags: &'a [u16; RECORDS],
-    frequencies: &'a [u64; RECORDS],
-    ps: &'a [i32],
-    qs: &'a [i32],
-    months: Months,
-    start: u64,
-    step: u64,
-    out: &mut [i64],
-)
-    requires table { IsTable table.now × (Following months × HasRows months arguments.now ps.now qs.now) }
-    requires series_within { SeriesWithin (last_of months) start step (length out.old) }
-    ensures { out.new ≡ series_of (height_over (months_in arguments.now lags.now frequencies.now ps.now qs.now months)) start step (length out.old) }
+// The heights at start, start + step, start + 2 × step and so on, one for each lent place: a month's places together, with that month's weights.
+pub fn series(lent: LentMonths, start: u64, step: u64, out: &mut [i64])
+    requires lent { AreLent lent }
+    requires series_within { SeriesWithin (last_of lent.months) start step (length out.old) }
+    ensures { out.new ≡ series_of (height_over (months_lent lent.entry)) start step (length out.old) }
 {
     let mut n: usize = 0;
+    // it goes on by a month's places, not by one
     while n < out.len() {
-        let own = owner(months, start + n as u64 * step);
-        let end = n + places_in(months, own, step, out.len() - n);
-        month_series(
-            table,
-            arguments,
-            lags,
-            frequencies,
-            ps,
-            qs,
-            months,
-            own,
-            step,
-            &mut out[n..end],
-        );
+        let own = owner(lent.months, start + n as u64 * step);
+        let end = n + places_in(lent.months, own, step, out.len() - n);
+        crate::series::series(lent.month(own.month), own.minute, step, &mut out[n..end]);
         n = end;
     }
 }

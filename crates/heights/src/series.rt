@@ -4,34 +4,26 @@ ghost use Rattle.std.specs.Prelude.{◌≡◌, ◌+◌, ◌*◌, ◌%◌, ◌≤
 ghost use Rattle.limits.specs.Limits.{most_minutes, most_records, most_step};
 ghost use Rattle.angles.specs.Ticks.{turn};
 ghost use Rattle.cosine.specs.Fixed.{IsTable};
-ghost use Rattle.month_prepared.specs.inner.View.{constituents_from};
-ghost use Rattle.month_prepared.specs.inner.Rows.{IsRow};
 ghost use Rattle.heights.specs.Height.{height_at};
 ghost use Rattle.heights.specs.Series.{series_of};
+ghost use Rattle.heights.specs.inner.Lent.{IsLent, constituents_lent};
 ghost use Rattle.heights.specs.inner.Angles.{Angles, Advances, Below, MovedOn, HeightOf};
 
+use crate::Lent;
 use crate::minuteangle::{ADVANCE, LAP, angle_at};
 use crate::shares::share_at;
 use angles::TURN;
 use cosine::ENTRIES;
 use limits::RECORDS;
 
-// The angles of the first `count` constituents at a minute.
-fn angles_at<'a>(
-    arguments: &'a [u64],
-    lags: &'a [u16; RECORDS],
-    frequencies: &'a [u64; RECORDS],
-    count: usize,
-    minute: u64,
-) -> [u64; RECORDS]
-    requires { (count ≤ most_records) × ((minute ≤ most_minutes) × (length arguments.now ≡ most_records)) }
-    ensures { Angles arguments.now lags.now frequencies.now count minute result }
+// The angles of the constituents at a minute.
+fn angles_at(lent: Lent, minute: u64) -> [u64; RECORDS]
+    requires { IsLent lent × (minute ≤ most_minutes) }
+    ensures { Angles lent.entry.arguments.now lent.entry.lags.now lent.entry.frequencies.now lent.entry.count minute result }
 {
     let mut angles = [0u64; RECORDS];
-    let mut k: usize = 0;
-    while k < count {
-        angles[k] = angle_at(arguments[k], lags[k], frequencies[k], minute);
-        k = k + 1;
+    for k in 0..lent.count {
+        angles[k] = angle_at(lent.arguments[k], lent.lags[k], lent.frequencies[k], minute);
     }
     angles
 }
@@ -50,10 +42,8 @@ fn advances(frequencies: &[u64; RECORDS], count: usize, step: u64) -> [u64; RECO
     ensures { Advances frequencies.now count step result }
 {
     let mut ticks = [0u64; RECORDS];
-    let mut k: usize = 0;
-    while k < count {
+    for k in 0..count {
         ticks[k] = advance(frequencies[k], step);
-        k = k + 1;
     }
     ticks
 }
@@ -73,10 +63,8 @@ fn move_on(angles: &mut [u64; RECORDS], ticks: &[u64; RECORDS], count: usize)
     ensures angles_len { length angles.new ≡ most_records }
     ensures moved_on { MovedOn count ticks.now angles.old angles.new }
 {
-    let mut k: usize = 0;
-    while k < count {
+    for k in 0..count {
         angles[k] = sum_of(angles[k], ticks[k]);
-        k = k + 1;
     }
 }
 
@@ -86,10 +74,8 @@ fn weights_of(row: &[i32]) -> [i32; RECORDS]
     ensures { result ≡ row.now }
 {
     let mut weights = [0i32; RECORDS];
-    let mut k: usize = 0;
-    while k < RECORDS {
+    for k in 0..RECORDS {
         weights[k] = row[k];
-        k = k + 1;
     }
     weights
 }
@@ -107,39 +93,24 @@ fn height_of<'a>(
     ensures result_bound { nat_abs result ≤ 2 ^ 28 }
 {
     let mut sum: i64 = 0;
-    let mut k: usize = 0;
-    while k < count {
+    for k in 0..count {
         sum = sum + share_at(table, angles[k], ps[k], qs[k]);
-        k = k + 1;
     }
     (sum + 2_048) >> 12
 }
 
 // The heights at start, start + step, start + 2 × step and so on, one for each lent place.
-pub fn series<'a>(
-    table: &'a [u32; ENTRIES],
-    arguments: &'a [u64],
-    lags: &'a [u16; RECORDS],
-    frequencies: &'a [u64; RECORDS],
-    ps: &'a [i32],
-    qs: &'a [i32],
-    count: usize,
-    start: u64,
-    step: u64,
-    out: &mut [i64],
-)
-    requires table { IsTable table.now × ((count ≤ most_records) × ((start ≤ most_minutes) × (step ≤ most_step))) }
-    requires row { IsRow arguments.now ps.now qs.now }
-    ensures { out.new ≡ series_of (height_at (constituents_from arguments.now lags.now frequencies.now ps.now qs.now count)) start step (length out.old) }
+pub fn series(lent: Lent, start: u64, step: u64, out: &mut [i64])
+    requires lent { IsLent lent }
+    requires start_bound { (start ≤ most_minutes) × (step ≤ most_step) }
+    ensures { out.new ≡ series_of (height_at (constituents_lent lent.entry)) start step (length out.old) }
 {
-    let mut angles = angles_at(arguments, lags, frequencies, count, start);
-    let ticks = advances(frequencies, count, step);
-    let ps_copied = weights_of(ps);
-    let qs_copied = weights_of(qs);
-    let mut n: usize = 0;
-    while n < out.len() {
-        out[n] = height_of(table, &angles, &ps_copied, &qs_copied, count);
-        move_on(&mut angles, &ticks, count);
-        n = n + 1;
+    let mut angles = angles_at(lent, start);
+    let ticks = advances(lent.frequencies, lent.count, step);
+    let ps = weights_of(lent.ps);
+    let qs = weights_of(lent.qs);
+    for height in out.iter_mut() {
+        *height = height_of(lent.table, &angles, &ps, &qs, lent.count);
+        move_on(&mut angles, &ticks, lent.count);
     }
 }

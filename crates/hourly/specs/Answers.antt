@@ -1,10 +1,9 @@
 -- 01: what the call returns, in its own numbers and values, for each answer of the code.
 -- Assumes nothing.
-use Rattle.std.specs.Prelude.{ℕ}
-use Rattle.refusals.specs.Outcome.{Outcome, accepted, refused, number_of}
-use Rattle.hourly.specs.declared.CardsAnswer.{CardsAnswer}
-use Rattle.hourly.specs.declared.CardsAnswer.TheVariants as answer
+use Rattle.std.specs.Prelude.{ℕ, Result}
+use Rattle.refusals.specs.Outcome.{Outcome, outcome_of}
+use Rattle.refusals.specs.declared.Refused.{Refused}
 
-abbrev pub cards_returned : CardsAnswer → Outcome ℕ
-cards_returned (answer.Bytes count) = accepted count
-cards_returned (answer.Refused r place) = refused (number_of r) place
+-- how many bytes the cards take, or the refusal
+abbrev pub cards_returned : Result ℕ Refused → Outcome ℕ
+cards_returned = outcome_of

@@ -33,12 +33,10 @@ pub fn outside(height: i64) -> bool
 pub fn heights_answer(hours: &[i64]) -> Answer
     ensures { HeightsAnswered hours.now (outcome_of result) }
 {
-    let mut k = 0;
-    while k < hours.len() {
-        if outside(centimetres(hours[k])) {
-            return Answer::Refused(Refusal::BadHeight, k / HEIGHTS + 1);
+    for (k, height) in hours.iter().enumerate() {
+        if outside(centimetres(*height)) {
+            return Err(Refusal::BadHeight.at(k / HEIGHTS + 1));
         }
-        k = k + 1;
     }
-    Answer::Accepted
+    Ok(())
 }

@@ -8,7 +8,7 @@ ghost use Rattle.hourly.specs.Month.{bytes_of, into_buffer};
 ghost use Rattle.hourly.specs.inner.Hours.{cards_in};
 
 use centimetres::HEIGHTS;
-use refusals::{Answer, Refusal};
+use refusals::{Refusal, Refused};
 use writing::{HEADING, Heading};
 
 mod centimetres; // heights in centimetres
@@ -25,32 +25,26 @@ pub const CARD: usize = HEADING + HEIGHTS * NARROW + 1;
 // The bytes of the longest month's cards, two a day.
 pub const LONGEST: usize = 2 * 31 * CARD;
 
-// How many bytes the cards take; or a refusal.
-#[derive(Clone, Copy)]
-pub enum CardsAnswer {
-    Bytes(usize),
-    Refused(Refusal, usize),
-}
-
-// Writes the cards of a month's hours, the heights at 01:00 of the 1st and on; or it is refused: 33 of all heights before 34 of the buffer.
+// Writes the cards of a month's hours, the heights at 01:00 of the 1st and on, and gives how many bytes they take; or it is refused: 33 of all
+// heights before 34 of the buffer.
 pub fn write_cards(
     hours: &[i64],
     station: u32,
     year: u32,
     month: u32,
     out: &mut [u8],
-) -> CardsAnswer
+) -> Result<usize, Refused>
     requires { length hours.now ≡ 24 * month_days year month }
     ensures { record { returned = cards_returned result; buffer = out.new } ≡ into_buffer (bytes_of (cards_in hours.now station year month) (length out.old)) out.old }
 {
-    let answer = centimetres::heights_answer(hours);
-    if let Answer::Refused(refusal, place) = answer {
-        return CardsAnswer::Refused(refusal, place);
+    // No `?`: it calls std's code, which `has-the-clock` of claim_runs can't have.
+    if let Err(refused) = centimetres::heights_answer(hours) {
+        return Err(refused);
     }
     let cards = hours.len() / HEIGHTS;
     let bytes = CARD * cards;
     if out.len() < bytes {
-        return CardsAnswer::Refused(Refusal::ShortBuffer, 0);
+        return Err(Refusal::ShortBuffer.at(0));
     }
     let heading = Heading {
         station,
@@ -58,5 +52,5 @@ pub fn write_cards(
         month,
     };
     writing::put_cards(out, NARROW, heading, hours, cards);
-    CardsAnswer::Bytes(bytes)
+    Ok(bytes)
 }

@@ -25,10 +25,9 @@ fn put_blanks(out: &mut [u8], at: usize, count: usize)
     requires { at + count ≤ length out.old }
     ensures { out.new ≡ sets out.old at (replicate count 32) }
 {
-    let mut j = 0;
-    while j < count {
-        out[at + j] = b' ';
-        j = j + 1;
+    // No `fill`: it calls std's code, which `has-the-clock` of claim_runs can't have.
+    for byte in &mut out[at..at + count] {
+        *byte = b' ';
     }
 }
 
@@ -96,11 +95,9 @@ fn put_heights(out: &mut [u8], at: usize, width: usize, hours: &[i64], first: us
     ensures value { result ≡ at + heights_a_card * width }
 {
     let mut next = at;
-    let mut k = 0;
-    while k < HEIGHTS {
-        put_number(out, next, width, centimetres(hours[first + k]));
-        next = next + width;
-        k = k + 1;
+    for hour in &hours[first..first + HEIGHTS] {
+        put_number(out, next, width, centimetres(*hour));
+        next += width;
     }
     next
 }
@@ -144,9 +141,7 @@ pub fn put_cards(out: &mut [u8], width: usize, heading: Heading, hours: &[i64], 
     ensures { out.new ≡ sets out.old 0 (cards_written width (cards_after hours.now heading.station heading.year heading.month 0 cards)) }
 {
     let mut at = 0;
-    let mut i = 0;
-    while i < cards {
+    for i in 0..cards {
         at = put_card(out, at, width, heading, hours, i);
-        i = i + 1;
     }
 }

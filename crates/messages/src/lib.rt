@@ -31,10 +31,10 @@ fn say_refusal(rt: HostRuntime, refusal: Refusal) -> io::Result<()> {
 }
 
 // Says which of several, where there are several.
-fn say_which(rt: HostRuntime, which: usize) -> io::Result<()> {
-    if 0 < which {
+fn say_which(rt: HostRuntime, which: Option<usize>) -> io::Result<()> {
+    if let Some(number) = which {
         say(rt, b" ")?;
-        say_number(rt, which as u64)?;
+        say_number(rt, number as u64)?;
     }
     Ok(())
 }

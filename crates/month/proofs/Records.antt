@@ -20,7 +20,7 @@ use Rattle.month_satellites.specs.inner.Ranges.{Sized}
 use Rattle.month_satellites.specs.inner.View.{pair_of}
 use Rattle.month_pairs.specs.inner.Corrected.{corrected_of}
 use Rattle.month_satellites.specs.declared.satellites.Pair as code
-use Rattle.month_pairs.specs.declared.pairs.Corrected.TheVariants.{TooLarge, Within}
+use Rattle.std.specs.Prelude.{None, Some}
 use Rattle.month_workings.specs.Worked.{argument_of, correction_of}
 use Rattle.month.specs.Month.{records_prepared, weight, constituent}
 use Rattle.month_workings.specs.inner.View.{IsWorked}
@@ -73,10 +73,10 @@ module _ (frequencies : List ℕ) (mains : List Main) (shallows : List Shallow) 
   -- ---- with what was worked out at record k
 
   module _ (cs : List Constituent) (k n : ℕ) (whole : Outcome (List Constituent)) (inv : before cs (left n k) ≡ whole) (h : k < n) (w : Worked) (is : IsWorked g l mains shallows (get_or places k 0) w) where
-    pub refused-at : w.corrected ≡ TooLarge → refused 11 (k + 1) ≡ whole
+    pub refused-at : w.corrected ≡ None → refused 11 (k + 1) ≡ whole
     refused-at e = sym (ends-refused cs k n h (sym is.correction ∙ ap corrected_of e)) ∙ inv
 
-    module _ (xy : code.Pair) (e : w.corrected ≡ Within xy) where
+    module _ (xy : code.Pair) (e : w.corrected ≡ Some xy) where
       pub small_at : Sized (2 ^ 22) xy
       small_at = subst Small e is.small
 

@@ -17,28 +17,14 @@ use calendar::day_count;
 use cosine::ENTRIES;
 use limits::FREQUENCIES;
 use month_arguments::astronomy::longitudes_on;
-use month_pairs::pairs::Corrected;
 use month_prepared::{Month, held, no_constituents};
 use month_satellites::latitude::latitude_factors;
 use month_workings::worked::{from_mains, work_mains};
 use month_workings::workings::{Given, none_kept};
+use refusals::{Refusal, Refused};
 use station::Station;
 use table::definitions::{find, first_rows};
-use table::{Table, at_u64};
-
-// What preparing a month says: that it is ready, or the record, from 1, that is refused by 11.
-#[derive(Clone, Copy)]
-pub enum Preparation {
-    Ready,
-    TooLarge(usize),
-}
-
-// The answer, and the month where it is ready.
-#[derive(Clone, Copy)]
-pub struct Prepared {
-    pub answer: Preparation,
-    pub month: Month,
-}
+use table::{Table, at};
 
 // The weight of an amplitude, from X or Y.
 fn weight_of(amplitude: u16, x: i64) -> i32
@@ -53,7 +39,7 @@ fn frequency_at(speeds: &[u64; FREQUENCIES], frequencies: usize, place: u8) -> u
     ensures { result ≡ get_or (frequencies_of speeds.now frequencies) place 0 }
 {
     if (place as usize) < frequencies {
-        at_u64(speeds, place as usize)
+        *at(speeds, place as usize, &0)
     } else {
         0
     }
@@ -65,7 +51,7 @@ fn prepare_records(
     table: Table,
     station: Station,
     given: Given,
-) -> Prepared
+) -> Result<Month, Refused>
     requires table { IsTable cosines.now }
     requires given { IsGiven given }
     requires mains_value { given.mains ≡ table.mains }
@@ -76,47 +62,28 @@ fn prepare_records(
     let shallows = first_rows(&table.shallowcards, 6, table.shallows);
     let mut kept = none_kept();
     let mut month = no_constituents();
-    let mut k = 0;
-    while k < n {
+    for k in 0..n {
         let place = station.places[k];
         let found = find(&mains, table.mains, &shallows, table.shallows, place);
-        work_mains(
-            found,
-            cosines,
-            &table.maincards,
-            &table.mainangles,
-            &table.satelliteangles,
-            &table.satelliteratios,
-            &table.shallowcards,
-            given,
-            &mut kept,
-        );
-        let w = from_mains(found, &kept, &table.shallowcards, &table.coefficients);
-        let c = w.corrected;
-        match c {
-            Corrected::TooLarge => {
-                return Prepared {
-                    answer: Preparation::TooLarge(k + 1),
-                    month,
-                };
-            }
-            Corrected::Within(xy) => {
-                let p = weight_of(station.amplitudes[k], xy.x);
-                let q = weight_of(station.amplitudes[k], xy.y);
-                month.arguments[k] = w.argument;
-                month.lags[k] = station.lags[k];
-                month.frequencies[k] = frequency_at(&table.speeds, table.frequencies, place);
-                month.ps[k] = p;
-                month.qs[k] = q;
-                k += 1;
-            }
-        }
+        work_mains(found, cosines, &table, given, &mut kept);
+        let w = from_mains(found, &kept, &table);
+        let Some(xy) = w.corrected else {
+            return Err(Refused {
+                refusal: Refusal::TooLarge,
+                place: k + 1,
+            });
+        };
+        let amplitude = station.amplitudes[k];
+        let p = weight_of(amplitude, xy.x);
+        let q = weight_of(amplitude, xy.y);
+        month.arguments[k] = w.argument;
+        month.lags[k] = station.lags[k];
+        month.frequencies[k] = frequency_at(&table.speeds, table.frequencies, place);
+        month.ps[k] = p;
+        month.qs[k] = q;
     }
     month.count = n;
-    Prepared {
-        answer: Preparation::Ready,
-        month,
-    }
+    Ok(month)
 }
 
 // A station's month: every record's constituent, or the first record, from 1, that is refused by 11.
@@ -126,7 +93,7 @@ pub fn prepare(
     station: Station,
     year: u32,
     month: u32,
-) -> Prepared
+) -> Result<Month, Refused>
     requires table { IsTable cosines.now }
     requires month_value { in_range year month ≡ true }
     ensures { prepared_of result ≡ month_of (table_of table) (station_of station) year month }

@@ -11,8 +11,8 @@ use crate::KEPT;
 use crate::astronomy::Longitudes;
 use angles::{CENTICYCLE, TURN, mod_turn, size};
 use limits::MAINS;
-use table::entries::{integer_at, natural_at};
-use table::{COEFFICIENTS, MAIN_ANGLES, SHALLOW_CARDS};
+use table::entries::entry_at;
+use table::{MAIN_ANGLES, Table};
 
 // An angle, below a turn.
 fn below(angle: u64) -> u64
@@ -34,7 +34,7 @@ fn term(angles: &[i8; MAIN_ANGLES], row: usize, column: usize, angle: u64) -> i6
     ensures value { result ≡ get_or (integers 7 angles.now row) column (pos 0) *ℤ pos (angle % turn) }
     ensures result_bound { nat_abs result ≤ 2 ^ 57 }
 {
-    multiple(integer_at(angles, 7, row, column), angle)
+    multiple(*entry_at(angles, 7, row, column, &0), angle)
 }
 
 // Lunar time at midnight.
@@ -76,25 +76,18 @@ pub fn argument_at(kept: &[i64; KEPT], k: usize) -> u64
 }
 
 // V of the shallow constituent in a row of the table, from the mains' V: the sum over its parts of coefficient times V.
-pub fn shallow_argument<'a>(
-    kept: &'a [i64; KEPT],
-    cards: &'a [u16; SHALLOW_CARDS],
-    coefficients: &'a [i8; COEFFICIENTS],
-    row: usize,
-) -> u64
-    ensures { result ≡ argument_from_parts (arguments_in kept.now) (shallow_of cards.now coefficients.now row) }
+pub fn shallow_argument<'a>(kept: &'a [i64; KEPT], table: &'a Table, row: usize) -> u64
+    ensures { result ≡ argument_from_parts (arguments_in kept.now) (shallow_of table.now.shallowcards table.now.coefficients row) }
 {
-    let parts = natural_at(cards, 6, row, 1) as usize;
+    let parts = *entry_at(&table.shallowcards, 6, row, 1, &0) as usize;
     let mut v = 0;
-    let mut part = 0;
-    while part < parts {
-        let main = natural_at(cards, 6, row, 2 + part) as usize;
+    for part in 0..parts {
+        let main = *entry_at(&table.shallowcards, 6, row, 2 + part, &0) as usize;
         v = advanced(
             v,
-            integer_at(coefficients, 4, row, part),
+            *entry_at(&table.coefficients, 4, row, part, &0),
             argument_at(kept, main),
         );
-        part += 1;
     }
     v
 }

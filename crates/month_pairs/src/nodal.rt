@@ -10,20 +10,20 @@ ghost use Rattle.month_pairs.specs.inner.Corrected.{corrected_of};
 ghost use Rattle.month_pairs.specs.Shallow.{times_part, pair_from_parts};
 ghost use Rattle.month_pairs.specs.inner.Rows.{pairs_of};
 
-use crate::pairs::{Corrected, check, times_part};
+use crate::pairs::{check, times_part};
 use limits::MAINS;
 use month_arguments::KEPT;
 use month_satellites::satellites::{Pair, index};
-use table::entries::{integer_at, natural_at};
-use table::{COEFFICIENTS, SHALLOW_CARDS};
+use table::Table;
+use table::entries::entry_at;
 
-// The pair of main k by its sums X and Y, from what is kept of the mains in rows of V, X and Y: unless it is too large, or (2^20, 0) past the last.
-pub fn pair_at(kept: &[i64; KEPT], k: usize) -> Corrected
+// The pair of main k by its sums X and Y, from what is kept of the mains in rows of V, X and Y: none where it is too large, or (2^20, 0) past the last.
+pub fn pair_at(kept: &[i64; KEPT], k: usize) -> Option<Pair>
     ensures result_value { corrected_of result ≡ get_or (pairs_of kept.now) k (good start_pair) }
     ensures small { Small result }
 {
     if MAINS <= k {
-        return Corrected::Within(Pair { x: 1_048_576, y: 0 });
+        return Some(Pair { x: 1_048_576, y: 0 });
     }
     let x = kept[3 * k + 1];
     let y = kept[3 * k + 2];
@@ -33,44 +33,35 @@ pub fn pair_at(kept: &[i64; KEPT], k: usize) -> Corrected
 // A pair multiplied by part j of the shallow constituent in row k.
 fn times_row_part<'a>(
     kept: &'a [i64; KEPT],
-    cards: &'a [u16; SHALLOW_CARDS],
-    coefficients: &'a [i8; COEFFICIENTS],
+    table: &'a Table,
     k: usize,
     j: usize,
     p: Pair,
-) -> Corrected
+) -> Option<Pair>
     requires { (j < 2 ^ 32) × Sized pair_most p }
-    ensures result_value { corrected_of result ≡ times_part (pairs_of kept.now) (pair_of p) (part_of (naturals 6 cards.now k) (integers 4 coefficients.now k) j) }
+    ensures result_value { corrected_of result ≡ times_part (pairs_of kept.now) (pair_of p) (part_of (naturals 6 table.now.shallowcards k) (integers 4 table.now.coefficients k) j) }
     ensures small { Small result }
 {
-    let main = index(natural_at(cards, 6, k, 2 + j));
-    times_part(p, pair_at(kept, main), integer_at(coefficients, 4, k, j))
+    let main = index(*entry_at(&table.shallowcards, 6, k, 2 + j, &0));
+    times_part(
+        p,
+        pair_at(kept, main),
+        *entry_at(&table.coefficients, 4, k, j, &0),
+    )
 }
 
 // The pair of the shallow constituent in row k.
-pub fn shallow_pair<'a>(
-    kept: &'a [i64; KEPT],
-    cards: &'a [u16; SHALLOW_CARDS],
-    coefficients: &'a [i8; COEFFICIENTS],
-    k: usize,
-) -> Corrected
-    ensures result_value { corrected_of result ≡ pair_from_parts (pairs_of kept.now) (shallow_of cards.now coefficients.now k) }
+pub fn shallow_pair<'a>(kept: &'a [i64; KEPT], table: &'a Table, k: usize) -> Option<Pair>
+    ensures result_value { corrected_of result ≡ pair_from_parts (pairs_of kept.now) (shallow_of table.now.shallowcards table.now.coefficients k) }
     ensures small { Small result }
 {
-    let count = index(natural_at(cards, 6, k, 1));
+    let count = index(*entry_at(&table.shallowcards, 6, k, 1, &0));
     let mut p = Pair { x: 1_048_576, y: 0 };
-    let mut j = 0;
-    while j < count {
-        let c = times_row_part(kept, cards, coefficients, k, j, p);
-        match c {
-            Corrected::TooLarge => {
-                return Corrected::TooLarge;
-            }
-            Corrected::Within(q) => {
-                p = q;
-            }
-        }
-        j = j + 1;
+    for j in 0..count {
+        let Some(q) = times_row_part(kept, table, k, j, p) else {
+            return None;
+        };
+        p = q;
     }
-    Corrected::Within(p)
+    Some(p)
 }

@@ -10,25 +10,18 @@ ghost use Rattle.month_pairs.specs.inner.Corrected.{corrected_of};
 use angles::{floor_div, size};
 use month_satellites::satellites::Pair;
 
-// A constituent's pair, or none, by refusal 11.
-#[derive(Clone, Copy)]
-pub enum Corrected {
-    TooLarge,
-    Within(Pair),
-}
-
-// A pair, unless X or Y is too large.
-pub fn check(p: Pair) -> Corrected
+// A pair, or none where X or Y is too large, by refusal 11.
+pub fn check(p: Pair) -> Option<Pair>
     ensures result_value { corrected_of result ≡ checked (pair_of p) }
     ensures small { Small result }
 {
     if 4_194_304 < size(p.x) {
-        return Corrected::TooLarge;
+        return None;
     }
     if 4_194_304 < size(p.y) {
-        return Corrected::TooLarge;
+        return None;
     }
-    Corrected::Within(p)
+    Some(p)
 }
 
 // The new X of a shallow multiplication, floor((X·x - Y·y)/2^20).
@@ -74,27 +67,20 @@ fn turn(coefficient: i8, p: Pair) -> Pair
 }
 
 // A pair multiplied n times by another.
-fn times_often(start: Pair, by: Pair, n: u64) -> Corrected
+fn times_often(start: Pair, by: Pair, n: u64) -> Option<Pair>
     requires sized { Sized pair_most start }
     requires sized_2 { Sized pair_most by }
     ensures result_value { corrected_of result ≡ times_often n (pair_of start) (pair_of by) }
     ensures small { Small result }
 {
     let mut p = start;
-    let mut left = n;
-    while 0 < left {
-        let c = check(multiplied(p, by));
-        match c {
-            Corrected::TooLarge => {
-                return Corrected::TooLarge;
-            }
-            Corrected::Within(q) => {
-                p = q;
-            }
-        }
-        left = left - 1;
+    for _ in 0..n {
+        let Some(q) = check(multiplied(p, by)) else {
+            return None;
+        };
+        p = q;
     }
-    Corrected::Within(p)
+    Some(p)
 }
 
 // The same number in 64 bits.
@@ -106,14 +92,14 @@ fn widened(n: i8) -> i64
 }
 
 // A pair multiplied by a part's, as often as the coefficient's size.
-pub fn times_part(p: Pair, main: Corrected, coefficient: i8) -> Corrected
+pub fn times_part(p: Pair, main: Option<Pair>, coefficient: i8) -> Option<Pair>
     requires sized { Sized pair_most p }
     requires small { Small main }
     ensures result_value { corrected_of result ≡ times_main (pair_of p) (corrected_of main) coefficient }
     ensures small_2 { Small result }
 {
-    match main {
-        Corrected::TooLarge => Corrected::TooLarge,
-        Corrected::Within(q) => times_often(p, turn(coefficient, q), size(widened(coefficient))),
-    }
+    let Some(q) = main else {
+        return None;
+    };
+    times_often(p, turn(coefficient, q), size(widened(coefficient)))
 }

@@ -37,14 +37,19 @@ pub fn owner(months: Months, minute: u64) -> InMonth
     requires { Following months × (minute ≤ last_of months) }
     ensures { OwnerPost months minute result }
 {
-    let mut month: usize = 0;
     let mut left = minute;
-    while month + 1 < months.many && months.lasts[month] <= left {
+    let final_month = months.many - 1;
+    for month in 0..final_month {
+        if left < months.lasts[month] {
+            return InMonth {
+                month,
+                minute: left,
+            };
+        }
         left = left - months.lasts[month];
-        month = month + 1;
     }
     InMonth {
-        month,
+        month: final_month,
         minute: left,
     }
 }

@@ -11,7 +11,7 @@ ghost use Rattle.month_satellites.specs.inner.View.{longitudes_of, the_satellite
 use crate::latitude::Factors;
 use angles::{CENTICYCLE, floor_div, mod_turn};
 use cosine::{ENTRIES, wave};
-use table::{SATELLITE_ANGLES, SATELLITE_RATIOS, at_i8, at_u32};
+use table::{Table, at};
 
 // The longitudes that satellites go by, in ticks: lunar perigee p, the node's negative N', solar perigee p'.
 #[derive(Clone, Copy)]
@@ -85,10 +85,10 @@ fn marked_term(mark: u32, term: i64, g: Factors) -> i64
     ensures value { result ≡ marked_term (factors_of g) (mark_of mark) term }
     ensures result_bound { nat_abs result ≤ term_most }
 {
-    if mark == 49 {
+    if mark == b'1' as u32 {
         return times_factor(term, g.diurnal);
     }
-    if mark == 50 {
+    if mark == b'2' as u32 {
         return times_factor(term, g.semidiurnal);
     }
     term
@@ -103,21 +103,19 @@ pub fn index(n: u16) -> usize
 }
 
 // Satellite k of the table.
-fn satellite_at<'a>(
-    angles: &'a [i8; SATELLITE_ANGLES],
-    ratios: &'a [u32; SATELLITE_RATIOS],
-    k: usize,
-) -> Satellite
+fn satellite_at(table: &Table, k: usize) -> Satellite
     requires { k < 2 ^ 32 }
-    ensures { the_satellite result ≡ satellite_of angles.now ratios.now k }
+    ensures { the_satellite result ≡ satellite_of table.now.satelliteangles table.now.satelliteratios k }
 {
+    let angles = &table.satelliteangles;
+    let ratios = &table.satelliteratios;
     Satellite {
-        first: at_i8(angles, 4 * k),
-        second: at_i8(angles, 4 * k + 1),
-        third: at_i8(angles, 4 * k + 2),
-        phase: at_i8(angles, 4 * k + 3),
-        ratio: at_u32(ratios, 2 * k),
-        mark: at_u32(ratios, 2 * k + 1),
+        first: *at(angles, 4 * k, &0),
+        second: *at(angles, 4 * k + 1, &0),
+        third: *at(angles, 4 * k + 2, &0),
+        phase: *at(angles, 4 * k + 3, &0),
+        ratio: *at(ratios, 2 * k, &0),
+        mark: *at(ratios, 2 * k + 1, &0),
     }
 }
 
@@ -139,29 +137,26 @@ fn terms_of(cosines: &[u32; ENTRIES], s: Satellite, g: Factors, l: Nodal) -> Pai
 // The sum over a main's satellites, not yet checked for size.
 pub fn main_sum<'a>(
     cosines: &'a [u32; ENTRIES],
-    angles: &'a [i8; SATELLITE_ANGLES],
-    ratios: &'a [u32; SATELLITE_RATIOS],
+    table: &'a Table,
     first: u16,
     count: u16,
     g: Factors,
     l: Nodal,
 ) -> Pair
-    requires table { IsTable cosines.now }
+    requires cosines { IsTable cosines.now }
     requires are_factors { AreFactors g }
     requires are_angles { AreAngles l }
-    ensures result_value { pair_of result ≡ main_pair (factors_of g) (longitudes_of l) (listed (satellite_of angles.now ratios.now) first count) }
+    ensures result_value { pair_of result ≡ main_pair (factors_of g) (longitudes_of l) (listed (satellite_of table.now.satelliteangles table.now.satelliteratios) first count) }
     ensures sized { Sized sum_most result }
 {
     let start = index(first);
     let end = start + index(count);
     let mut x: i64 = 1_048_576;
     let mut y: i64 = 0;
-    let mut k = start;
-    while k < end {
-        let t = terms_of(cosines, satellite_at(angles, ratios, k), g, l);
+    for k in start..end {
+        let t = terms_of(cosines, satellite_at(table, k), g, l);
         x = x + t.x;
         y = y + t.y;
-        k = k + 1;
     }
     Pair { x, y }
 }

@@ -8,88 +8,53 @@ use cosine::ENTRIES;
 use month_arguments::KEPT;
 use month_arguments::arguments::{argument_at, shallow_argument};
 use month_pairs::nodal::{pair_at, shallow_pair};
-use month_pairs::pairs::Corrected;
 use month_satellites::satellites::Pair;
-use table::definitions::Found;
-use table::{
-    COEFFICIENTS, MAIN_ANGLES, MAIN_CARDS, SATELLITE_ANGLES, SATELLITE_RATIOS, SHALLOW_CARDS,
-};
+use table::Table;
+use table::definitions::Defined;
 
-// What stands at a place of the table: its V, and its pair or refusal 11.
+// What stands at a place of the table: its V, and its pair, or none by refusal 11.
 #[derive(Clone, Copy)]
 pub struct Worked {
     pub argument: u64,
-    pub corrected: Corrected,
+    pub corrected: Option<Pair>,
 }
 
 // Works out the mains that a constituent needs, those that are not yet.
 pub fn work_mains<'a>(
-    found: Found,
+    found: Option<Defined>,
     cosines: &'a [u32; ENTRIES],
-    maincards: &'a [u16; MAIN_CARDS],
-    mainangles: &'a [i8; MAIN_ANGLES],
-    satelliteangles: &'a [i8; SATELLITE_ANGLES],
-    ratios: &'a [u32; SATELLITE_RATIOS],
-    shallowcards: &'a [u16; SHALLOW_CARDS],
+    table: &'a Table,
     given: Given,
     kept: &mut [i64; KEPT],
 )
-    requires table { IsTable cosines.now }
+    requires cosines { IsTable cosines.now }
     requires given { IsGiven given }
-    requires kept_by { KeptBy given maincards.now mainangles.now satelliteangles.now ratios.now kept.old }
-    ensures { Ready (argument_by given mainangles.now) (corrected_by given maincards.now satelliteangles.now ratios.now) shallowcards.now found kept.new }
+    requires kept_by { KeptBy given table.now kept.old }
+    ensures { Ready (argument_by given table.now) (corrected_by given table.now) table.now.shallowcards found kept.new }
 {
     match found {
-        Found::Main(row) => {
-            work_main(
-                cosines,
-                maincards,
-                mainangles,
-                satelliteangles,
-                ratios,
-                row,
-                given,
-                kept,
-            );
-        }
-        Found::Shallow(row) => {
-            work_parts(
-                cosines,
-                maincards,
-                mainangles,
-                satelliteangles,
-                ratios,
-                shallowcards,
-                row,
-                given,
-                kept,
-            );
-        }
-        Found::Nothing => {}
+        Some(Defined::Main(row)) => work_main(cosines, table, row, given, kept),
+        Some(Defined::Shallow(row)) => work_parts(cosines, table, row, given, kept),
+        None => {}
     }
 }
 
 // V and the pair of a constituent, from what is kept of the mains.
-pub fn from_mains<'a>(
-    found: Found,
-    kept: &'a [i64; KEPT],
-    shallowcards: &'a [u16; SHALLOW_CARDS],
-    coefficients: &'a [i8; COEFFICIENTS],
-) -> Worked
-    ensures { FromMains kept.now shallowcards.now coefficients.now found result }
+pub fn from_mains<'a>(found: Option<Defined>, kept: &'a [i64; KEPT], table: &'a Table) -> Worked
+    ensures { FromMains kept.now table.now.shallowcards table.now.coefficients found result }
 {
     match found {
-        Found::Main(row) => Worked {
+        Some(Defined::Main(row)) => Worked {
             argument: argument_at(kept, row),
             corrected: pair_at(kept, row),
         },
-        Found::Shallow(row) => Worked {
-            argument: shallow_argument(kept, shallowcards, coefficients, row),
-            corrected: shallow_pair(kept, shallowcards, coefficients, row),
+        Some(Defined::Shallow(row)) => Worked {
+            argument: shallow_argument(kept, table, row),
+            corrected: shallow_pair(kept, table, row),
         },
-        Found::Nothing => Worked {
+        None => Worked {
             argument: 0,
-            corrected: Corrected::Within(Pair { x: 0, y: 0 }),
+            corrected: Some(Pair { x: 0, y: 0 }),
         },
     }
 }

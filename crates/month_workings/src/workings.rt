@@ -20,8 +20,8 @@ use month_arguments::arguments::{argument_at, main_argument};
 use month_arguments::astronomy::Longitudes;
 use month_satellites::latitude::Factors;
 use month_satellites::satellites::{Nodal, Pair, index, main_sum};
-use table::entries::natural_at;
-use table::{MAIN_ANGLES, MAIN_CARDS, SATELLITE_ANGLES, SATELLITE_RATIOS, SHALLOW_CARDS};
+use table::entries::entry_at;
+use table::{MAIN_ANGLES, Table};
 
 // What every main is worked out from, besides its rows of the table: the latitude factors, the longitudes, and how many mains there are.
 #[derive(Clone, Copy)]
@@ -66,42 +66,32 @@ fn argument_of(angles: &[i8; MAIN_ANGLES], mains: usize, k: usize, l: Longitudes
 }
 
 // The sums of the main in row k, or (2^20, 0) past the last.
-fn sum_of<'a>(
-    cosines: &'a [u32; ENTRIES],
-    cards: &'a [u16; MAIN_CARDS],
-    angles: &'a [i8; SATELLITE_ANGLES],
-    ratios: &'a [u32; SATELLITE_RATIOS],
-    k: usize,
-    given: Given,
-) -> Pair
-    requires table { IsTable cosines.now }
+fn sum_of<'a>(cosines: &'a [u32; ENTRIES], table: &'a Table, k: usize, given: Given) -> Pair
+    requires cosines { IsTable cosines.now }
     requires given { IsGiven given }
-    ensures { checked (pair_of result) ≡ corrected_by given cards.now angles.now ratios.now k }
+    ensures { checked (pair_of result) ≡ corrected_by given table.now k }
 {
     if given.mains <= k {
         return Pair { x: 1_048_576, y: 0 };
     }
     let l = nodal_of(given.longitudes);
-    let first = natural_at(cards, 3, k, 1);
-    let count = natural_at(cards, 3, k, 2);
-    main_sum(cosines, angles, ratios, first, count, given.factors, l)
+    let first = *entry_at(&table.maincards, 3, k, 1, &0);
+    let count = *entry_at(&table.maincards, 3, k, 2, &0);
+    main_sum(cosines, table, first, count, given.factors, l)
 }
 
 // Works out the main in row k, if it is not yet.
 pub fn work_main<'a>(
     cosines: &'a [u32; ENTRIES],
-    cards: &'a [u16; MAIN_CARDS],
-    angles: &'a [i8; MAIN_ANGLES],
-    satelliteangles: &'a [i8; SATELLITE_ANGLES],
-    ratios: &'a [u32; SATELLITE_RATIOS],
+    table: &'a Table,
     k: usize,
     given: Given,
     kept: &mut [i64; KEPT],
 )
-    requires table { IsTable cosines.now }
+    requires cosines { IsTable cosines.now }
     requires given { IsGiven given }
-    requires kept_by { KeptBy given cards.now angles.now satelliteangles.now ratios.now kept.old }
-    ensures { WithMain (argument_by given angles.now) (corrected_by given cards.now satelliteangles.now ratios.now) k kept.old kept.new }
+    requires kept_by { KeptBy given table.now kept.old }
+    ensures { WithMain (argument_by given table.now) (corrected_by given table.now) k kept.old kept.new }
 {
     if MAINS <= k {
         return;
@@ -109,8 +99,8 @@ pub fn work_main<'a>(
     if argument_at(kept, k) < TURN {
         return;
     }
-    let p = sum_of(cosines, cards, satelliteangles, ratios, k, given);
-    let v = argument_of(angles, given.mains, k, given.longitudes) as i64;
+    let p = sum_of(cosines, table, k, given);
+    let v = argument_of(&table.mainangles, given.mains, k, given.longitudes) as i64;
     let x = p.x;
     let y = p.y;
     kept[3 * k] = v;
@@ -121,34 +111,19 @@ pub fn work_main<'a>(
 // Works out the mains of the parts of the shallow constituent in a row, those that are not yet.
 pub fn work_parts<'a>(
     cosines: &'a [u32; ENTRIES],
-    cards: &'a [u16; MAIN_CARDS],
-    angles: &'a [i8; MAIN_ANGLES],
-    satelliteangles: &'a [i8; SATELLITE_ANGLES],
-    ratios: &'a [u32; SATELLITE_RATIOS],
-    shallowcards: &'a [u16; SHALLOW_CARDS],
+    table: &'a Table,
     row: usize,
     given: Given,
     kept: &mut [i64; KEPT],
 )
-    requires table { IsTable cosines.now }
+    requires cosines { IsTable cosines.now }
     requires given { IsGiven given }
-    requires kept_by { KeptBy given cards.now angles.now satelliteangles.now ratios.now kept.old }
-    ensures { WithParts (argument_by given angles.now) (corrected_by given cards.now satelliteangles.now ratios.now) (naturals 6 shallowcards.now row) kept.new }
+    requires kept_by { KeptBy given table.now kept.old }
+    ensures { WithParts (argument_by given table.now) (corrected_by given table.now) (naturals 6 table.now.shallowcards row) kept.new }
 {
-    let count = index(natural_at(shallowcards, 6, row, 1));
-    let mut j = 0;
-    while j < count {
-        let main = index(natural_at(shallowcards, 6, row, 2 + j));
-        work_main(
-            cosines,
-            cards,
-            angles,
-            satelliteangles,
-            ratios,
-            main,
-            given,
-            kept,
-        );
-        j = j + 1;
+    let count = index(*entry_at(&table.shallowcards, 6, row, 1, &0));
+    for j in 0..count {
+        let main = index(*entry_at(&table.shallowcards, 6, row, 2 + j, &0));
+        work_main(cosines, table, main, given, kept);
     }
 }

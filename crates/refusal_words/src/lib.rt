@@ -10,10 +10,8 @@ fn with_zeros(words: &[u8]) -> [u8; 64]
     ensures { result ≡ zeros_behind words.now }
 {
     let mut text = [0; 64];
-    let mut k = 0;
-    while k < words.len() {
-        text[k] = words[k];
-        k += 1;
+    for (k, letter) in words.iter().enumerate() {
+        text[k] = *letter;
     }
     text
 }

@@ -1,11 +1,10 @@
 -- 01, "Turned down by the input" and "Turned down by the state": a call is accepted, or refused by a number and a place.
 -- Assumes nothing.
 use Prim.{Unit}
-use Rattle.std.specs.Prelude.{ℕ, Bool, true, false}
+use Rattle.std.specs.Prelude.{ℕ, Bool, true, false, Result, Ok, Err}
 use Rattle.refusals.specs.declared.Refusal.{Refusal}
 use Rattle.refusals.specs.declared.Refusal.TheVariants.{BadLine, Malformed, OutOfRange, BadName, Missing, TooMany, Ended, BadDate, BadMinutes, TooManyTurns, TooLarge, NoTable, NoStation, NoMonth, UnequalBuffers, BadStationNumber, BadHeight, ShortBuffer, BadStride}
-use Rattle.refusals.specs.declared.Answer.{Answer}
-use Rattle.refusals.specs.declared.Answer.TheVariants.{Accepted, Refused}
+use Rattle.refusals.specs.declared.Refused.{Refused}
 
 -- what a call or a check gives where it is accepted (`Unit`: nothing but that it is); "A refusal returns its number and a place: card line, or
 -- station record (also for 11), from 1; else 0."
@@ -36,9 +35,9 @@ number_of ShortBuffer = 34
 number_of BadStride = 35
 
 -- what an answer of the code says in 01's numbers
-abbrev pub outcome_of : Answer → Outcome Unit
-outcome_of Accepted = accepted tt
-outcome_of (Refused r place) = refused (number_of r) place
+abbrev pub outcome_of : {A : Type 0} → Result A Refused → Outcome A
+outcome_of (Ok a) = accepted a
+outcome_of (Err e) = refused (number_of e.refusal) e.place
 
 -- the first refusal that fits, in the order written: `refuse_if test number place (what is asked next)`
 abbrev pub refuse_if : {A : Type 0} → Bool → ℕ → ℕ → Outcome A → Outcome A

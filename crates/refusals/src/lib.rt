@@ -4,60 +4,55 @@
 ghost use Rattle.std.specs.Prelude.{◌≡◌};
 ghost use Rattle.refusals.specs.Outcome.{number_of};
 
-// The rows of 01's two tables of refusals, in their order, and those that 02's requests add.
-#[derive(Clone, Copy)]
+// The rows of 01's two tables of refusals, in their order, and those that 02's requests add, each with the number that it is given.
+#[derive(Clone, Copy, PartialEq, Eq)]
 pub enum Refusal {
-    BadLine,
-    Malformed,
-    OutOfRange,
-    BadName,
-    Missing,
-    TooMany,
-    Ended,
-    BadDate,
-    BadMinutes,
-    TooManyTurns,
-    TooLarge,
-    NoTable,
-    NoStation,
-    NoMonth,
-    UnequalBuffers,
-    BadStationNumber,
-    BadHeight,
-    ShortBuffer,
-    BadStride,
+    BadLine = 1,
+    Malformed = 2,
+    OutOfRange = 3,
+    BadName = 4,
+    Missing = 5,
+    TooMany = 6,
+    Ended = 7,
+    BadDate = 8,
+    BadMinutes = 9,
+    TooManyTurns = 10,
+    TooLarge = 11,
+    NoTable = 21,
+    NoStation = 22,
+    NoMonth = 23,
+    UnequalBuffers = 31,
+    BadStationNumber = 32,
+    BadHeight = 33,
+    ShortBuffer = 34,
+    BadStride = 35,
 }
 
-// What a call says: it is accepted, or refused, with the place that 01 gives the refusal.
+// A refusal, with the place that 01 gives it. (No PartialEq or Debug: they call std's code, which `has-the-clock` of claim_runs can't have.)
 #[derive(Clone, Copy)]
-pub enum Answer {
-    Accepted,
-    Refused(Refusal, usize),
+pub struct Refused {
+    pub refusal: Refusal,
+    pub place: usize,
 }
+
+impl Refusal {
+    // This refusal, at a place.
+    pub fn at(self, place: usize) -> Refused
+        ensures { result ≡ record { refusal = self; place = place } }
+    {
+        Refused {
+            refusal: self,
+            place,
+        }
+    }
+}
+
+// What a call says: it is accepted, or refused.
+pub type Answer = Result<(), Refused>;
 
 // The number that 01 gives a refusal.
 pub fn number_of(r: Refusal) -> u32
     ensures { result ≡ number_of r }
 {
-    match r {
-        Refusal::BadLine => 1,
-        Refusal::Malformed => 2,
-        Refusal::OutOfRange => 3,
-        Refusal::BadName => 4,
-        Refusal::Missing => 5,
-        Refusal::TooMany => 6,
-        Refusal::Ended => 7,
-        Refusal::BadDate => 8,
-        Refusal::BadMinutes => 9,
-        Refusal::TooManyTurns => 10,
-        Refusal::TooLarge => 11,
-        Refusal::NoTable => 21,
-        Refusal::NoStation => 22,
-        Refusal::NoMonth => 23,
-        Refusal::UnequalBuffers => 31,
-        Refusal::BadStationNumber => 32,
-        Refusal::BadHeight => 33,
-        Refusal::ShortBuffer => 34,
-        Refusal::BadStride => 35,
-    }
+    r as u32
 }

@@ -2,21 +2,18 @@
 -- Assumes nothing.
 use mathlib.Core.Path.{◌≡◌, refl, ap}
 use Prim.{Unit}
-use Prim.Native.Nat.{ℕ, zero, suc, ◌+◌, ◌-◌, ◌%◌, ◌≤◌, ◌<◌}
+use Prim.Native.Nat.{ℕ, suc, ◌+◌, ◌-◌, ◌%◌, ◌≤◌, ◌<◌}
 use mathlib.Core.List.{List}
-use mathlib.Core.Bool.{Bool, true, false, ◌||◌}
-use native.Mathlib.Nat.{not-suc-le-zero, mod-eq_of_lt}
-use native.Mathlib.Numerals.{sub-one, add-one}
+use mathlib.Core.Bool.{Bool, true, false}
+use native.Mathlib.Nat.{mod-eq_of_lt}
+use native.Mathlib.Numerals.{add-one}
 use native.Mathlib.Omega.{arith}
 use lib.ListN.{get_or}
-use lib.Dec.{eqb, leb, ltb}
+use lib.Dec.{leb, ltb}
 use borrow.Author.Tests.{ltb-false}
 use Rattle.limits.specs.Limits.{most_amplitude, most_phase}
-use Rattle.refusals.specs.Outcome.{Outcome, accepted, refused, refuse_if, ◌>>=◌, ◌>>◌, number_of, outcome_of}
+use Rattle.refusals.specs.Outcome.{Outcome, accepted, refuse_if, ◌>>◌}
 use Rattle.refusals.proofs.Laws.{not-both}
-use Rattle.refusals.specs.declared.Answer.{Answer}
-use Rattle.refusals.specs.declared.Answer.TheVariants.{Refused}
-use Rattle.refusals.specs.declared.Refusal.{Refusal}
 use Rattle.station.specs.declared.records.Record.{Record}
 use Rattle.station.specs.declared.records.Rows.{Rows}
 use Rattle.station.specs.declared.Station as code
@@ -24,19 +21,6 @@ use Rattle.station.specs.Station.{record_outcome, records_outcome}
 use Rattle.refusals.specs.Places.{is_among}
 use Rattle.station.specs.inner.Station.{places_before, station_upto, put_record}
 use Rattle.station.specs.Records.{record_at, records_from}
-
--- a place among the first k is the last of them, or among those before it
-pub repeated-more : (place : ℕ) (places : List ℕ) (k : ℕ) → 0 < k
-    → is_among place (places_before places k) ≡ (eqb place (get_or places (k - 1) 0) || is_among place (places_before places (k - 1)))
-unfolding is_among places_before
-repeated-more place places zero h = absurd (not-suc-le-zero h)
-repeated-more place places (suc k) h = rw (sub-one (suc k))
-
--- none stands among no places
-pub repeated-none : (place : ℕ) (places : List ℕ) (k : ℕ) → k ≤ 0 → is_among place (places_before places k) ≡ false
-unfolding is_among places_before
-repeated-none place places zero h = refl
-repeated-none place places (suc k) h = absurd (not-suc-le-zero h)
 
 -- ---- the loop over the records
 
@@ -79,11 +63,3 @@ upto-more empty rows k = ap (λ (m : ℕ). station_upto empty rows m) (add-one k
 -- what is kept of a number in range is that number
 pub narrow-is : (x : ℕ) → x ≤ most_amplitude → x % 65_536 ≡ x
 narrow-is x h = mod-eq_of_lt (omega arith)
-
--- a refusal ends the work
-pub stops : (a : Answer) (r : Refusal) (place : ℕ) (next : Unit → Outcome Unit) → a ≡ Refused r place → (outcome_of a >>= next) ≡ outcome_of a
-stops a r place next e = rw e
-
--- what is refused is not accepted
-pub not-accepted : {A : Type 0} (a : Answer) (r : Refusal) (place : ℕ) → a ≡ Refused r place → outcome_of a ≡ accepted tt → A
-not-accepted a r place e h = not-both {number = number_of r} {place = place} (rw e at h)

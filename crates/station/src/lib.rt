@@ -16,7 +16,7 @@ pub mod strides; // the stride lengths
 use crate::records::Rows;
 use crate::strides::Strides;
 use limits::{AMPLITUDE, LATITUDE, PHASE, RECORDS};
-use refusals::{Answer, Refusal};
+use refusals::{Answer, Refusal, Refused};
 
 // An accepted station: amplitudes in tenths of a millimetre, phase lags in hundredths of a degree.
 #[repr(C)]
@@ -28,13 +28,6 @@ pub struct Station {
     pub places: [u8; RECORDS],
     pub amplitudes: [u16; RECORDS],
     pub lags: [u16; RECORDS],
-}
-
-// What a station call says, and the station where it is accepted.
-#[derive(Clone, Copy)]
-pub struct Taken {
-    pub answer: Answer,
-    pub station: Station,
 }
 
 // A station with no records.
@@ -56,10 +49,8 @@ fn is_repeated(places: &[u8; RECORDS], k: usize, place: u8) -> bool
     requires { k ≤ most_records }
     ensures { result ≡ is_among place (places_before places.now k) }
 {
-    let mut left = k;
-    while 0 < left {
-        left -= 1;
-        if place == places[left] {
+    for earlier in &places[..k] {
+        if *earlier == place {
             return true;
         }
     }
@@ -74,24 +65,25 @@ pub fn amplitude_outside(amplitude: u32) -> bool
 }
 
 // Record k, from 0: its place is in the table and new, its amplitude and its phase lag are in range.
+#[tactic(auto, unfolding(crate::specs::Station::record_outcome))]
 fn record_answer(frequencies: usize, rows: Rows, k: usize) -> Answer
     requires { k < most_records }
     ensures { outcome_of result ≡ record_outcome frequencies (places_before rows.places k) (k + 1) (record_at rows k) }
 {
     let place = rows.places[k];
     if frequencies <= place as usize {
-        return Answer::Refused(Refusal::Missing, k + 1);
+        return Err(Refusal::Missing.at(k + 1));
     }
     if is_repeated(&rows.places, k, place) {
-        return Answer::Refused(Refusal::BadName, k + 1);
+        return Err(Refusal::BadName.at(k + 1));
     }
     if amplitude_outside(rows.amplitudes[k]) {
-        return Answer::Refused(Refusal::OutOfRange, k + 1);
+        return Err(Refusal::OutOfRange.at(k + 1));
     }
     if PHASE < rows.phases[k] {
-        return Answer::Refused(Refusal::OutOfRange, k + 1);
+        return Err(Refusal::OutOfRange.at(k + 1));
     }
-    Answer::Accepted
+    Ok(())
 }
 
 // The station with record k kept.
@@ -115,31 +107,26 @@ fn narrow(x: u32) -> u16
 }
 
 // The first n records: each is checked in its turn, and added to the station, which starts with none.
-fn take_records(frequencies: usize, empty: Station, n: usize, rows: Rows) -> Taken
+fn take_records(
+    frequencies: usize,
+    empty: Station,
+    n: usize,
+    rows: Rows,
+) -> Result<Station, Refused>
     requires { n ≤ most_records }
     ensures { RecordsPost frequencies empty n rows result }
 {
     let mut station = empty;
-    let mut k = 0;
-    while k < n {
-        let answer = record_answer(frequencies, rows, k);
-        match answer {
-            Answer::Accepted => {
-                let place = rows.places[k];
-                let amplitude = narrow(rows.amplitudes[k]);
-                let phase = narrow(rows.phases[k]);
-                station = with_record(station, k, place, amplitude, phase);
-                k += 1;
-            }
-            Answer::Refused(_, _) => {
-                return Taken { answer, station };
-            }
+    for k in 0..n {
+        // No `?`: it calls std's code, which `has-the-clock` of claim_runs can't have.
+        if let Err(refused) = record_answer(frequencies, rows, k) {
+            return Err(refused);
         }
+        let amplitude = narrow(rows.amplitudes[k]);
+        let phase = narrow(rows.phases[k]);
+        station = with_record(station, k, rows.places[k], amplitude, phase);
     }
-    Taken {
-        answer: Answer::Accepted,
-        station,
-    }
+    Ok(station)
 }
 
 // The least latitude, and the number of the first record too many.
@@ -154,33 +141,20 @@ pub fn take_station(
     strides: Strides,
     n: usize,
     rows: Rows,
-) -> Taken
+) -> Result<Station, Refused>
     ensures { StationPost frequencies (station_lent latitude strides (records_of rows n)) result }
 {
-    let station = no_station(latitude, strides);
     if latitude < SOUTHMOST {
-        return Taken {
-            answer: Answer::Refused(Refusal::OutOfRange, 0),
-            station,
-        };
+        return Err(Refusal::OutOfRange.at(0));
     }
     if LATITUDE < latitude {
-        return Taken {
-            answer: Answer::Refused(Refusal::OutOfRange, 0),
-            station,
-        };
+        return Err(Refusal::OutOfRange.at(0));
     }
     if strides::strides_outside(strides) {
-        return Taken {
-            answer: Answer::Refused(Refusal::BadStride, 0),
-            station,
-        };
+        return Err(Refusal::BadStride.at(0));
     }
     if RECORDS < n {
-        return Taken {
-            answer: Answer::Refused(Refusal::TooMany, FIRST_TOO_MANY),
-            station,
-        };
+        return Err(Refusal::TooMany.at(FIRST_TOO_MANY));
     }
-    take_records(frequencies, station, n, rows)
+    take_records(frequencies, no_station(latitude, strides), n, rows)
 }

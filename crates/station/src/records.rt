@@ -45,7 +45,7 @@ pub fn no_rows() -> Rows
     }
 }
 
-// Past 146 nothing is taken: a longer row is refused by its count.
+// Past 146 nothing is taken: a longer row is refused by its count. (No `min`: it calls std's code, which `has-the-clock` of claim_runs can't have.)
 pub fn at_most(n: usize) -> usize
     ensures { result ≡ min n most_records }
 {
@@ -56,13 +56,9 @@ pub fn at_most(n: usize) -> usize
 pub fn rows_of(rs: &[Record]) -> Rows
     ensures { result ≡ rows_of rs.now }
 {
-    let m = at_most(rs.len());
     let mut rows = no_rows();
-    let mut i: usize = 0;
-    while i < m {
-        let r = rs[i];
+    for (i, r) in rs[..at_most(rs.len())].iter().enumerate() {
         rows = put(rows, i, r.place, r.amplitude, r.phase);
-        i += 1;
     }
     rows
 }

@@ -1,7 +1,7 @@
 -- 001, section 3.3: the columns of the station file's two cards, as their format statements lay them out. Columns are counted from 0.
 -- Cards are read by these descriptions alone: the station number, the longitude, skipped columns and columns past the format are ignored.
 -- Assumes nothing.
-use Rattle.std.specs.Prelude.{ℕ}
+use Rattle.std.specs.Prelude.{ℕ, None}
 use Rattle.fields.specs.declared.Format.TheVariants.{Whole, Fixed}
 use Rattle.card.specs.declared.faults.What.TheVariants.{Degrees, Minutes, Amplitude, PhaseLag}
 use Rattle.card.specs.declared.formats.NumberField.{NumberField}
@@ -27,11 +27,11 @@ abbrev pub degrees_column : ℕ
 degrees_column = 36
 
 abbrev pub degrees_field : NumberField
-degrees_field = within 99 Degrees 0 degrees_column 2 Whole
+degrees_field = within 99 Degrees None degrees_column 2 Whole
 
 -- the latitude's minutes, I2: 0 to 59
 abbrev pub minutes_field : NumberField
-minutes_field = up_to 59 Minutes 0 39 2 Whole
+minutes_field = up_to 59 Minutes None 39 2 Whole
 
 -- The manual's latitudes are north. South is marked in skipped columns or in the degrees: the column before these, and the two behind the minutes
 -- ("42 and 43", counted from 1; "the longitude begins at 44").
@@ -54,8 +54,8 @@ most_carried = 4_294_967_295
 
 -- metres with four decimals are tenths of a millimetre
 abbrev pub amplitude_field : NumberField
-amplitude_field = up_to most_carried Amplitude 0 38 8 (Fixed 4)
+amplitude_field = up_to most_carried Amplitude None 38 8 (Fixed 4)
 
 -- degrees with two decimals are hundredths
 abbrev pub phase_field : NumberField
-phase_field = up_to most_carried PhaseLag 0 46 7 (Fixed 2)
+phase_field = up_to most_carried PhaseLag None 46 7 (Fixed 2)

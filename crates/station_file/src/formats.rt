@@ -21,7 +21,7 @@ pub fn degrees() -> NumberField
 {
     NumberField {
         what: What::Degrees,
-        which: 0,
+        which: None,
         from: DEGREES,
         width: 2,
         format: Format::Whole,
@@ -36,7 +36,7 @@ pub fn minutes() -> NumberField
 {
     NumberField {
         what: What::Minutes,
-        which: 0,
+        which: None,
         from: 39,
         width: 2,
         format: Format::Whole,
@@ -57,7 +57,7 @@ pub fn amplitude() -> NumberField
 {
     NumberField {
         what: What::Amplitude,
-        which: 0,
+        which: None,
         from: 38,
         width: 8,
         format: Format::Fixed(4),
@@ -72,7 +72,7 @@ pub fn phase_lag() -> NumberField
 {
     NumberField {
         what: What::PhaseLag,
-        which: 0,
+        which: None,
         from: 46,
         width: 7,
         format: Format::Fixed(2),

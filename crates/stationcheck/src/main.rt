@@ -107,7 +107,7 @@ fn size_field() -> NumberField
 {
     NumberField {
         what: What::File,
-        which: 0,
+        which: None,
         from: 0,
         width: 8,
         format: Format::Whole,

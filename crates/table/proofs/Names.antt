@@ -1,6 +1,6 @@
 -- The names of the table's frequencies are the names in its row of bytes. By the clauses of the definitions. Assumes nothing.
 use mathlib.Core.Path.{◌≡◌, refl}
-use Prim.Native.Nat.{ℕ, zero, suc, ◌+◌, ◌-◌, ◌*◌}
+use Prim.Native.Nat.{ℕ, zero, suc, ◌+◌, ◌*◌}
 use mathlib.Core.List.{map, List}
 use native.Mathlib.Omega.{arith}
 use native.Mathlib.Nat.{add-zero}

@@ -3,15 +3,14 @@ ghost use Rattle.std.specs.Prelude.{◌≡◌, ◌<◌, ◌≤◌, length, get_o
 ghost use Rattle.limits.specs.Limits.{places_in_a_byte};
 ghost use Rattle.table.specs.inner.Found.{place_in, FirstRows, found_by};
 
-use crate::entries::natural_at;
+use crate::entries::entry_at;
 use limits::PLACES;
 
-// The row of a main or of a shallow-water constituent, or neither.
+// The row of a main or of a shallow-water constituent.
 #[derive(Clone, Copy)]
-pub enum Found {
+pub enum Defined {
     Main(usize),
     Shallow(usize),
-    Nothing,
 }
 
 // For each place the first of so many rows that has it, or their number. (From the last row to the first, so that the first stays.)
@@ -20,10 +19,8 @@ pub fn first_rows(cards: &[u16], width: usize, rows: usize) -> [usize; PLACES]
     ensures { FirstRows (place_in width cards.now) rows result }
 {
     let mut first = [rows; PLACES];
-    let mut row = rows;
-    while 0 < row {
-        row -= 1;
-        let place = natural_at(cards, width, row, 0) as usize;
+    for row in (0..rows).rev() {
+        let place = *entry_at(cards, width, row, 0, &0) as usize;
         if place < PLACES {
             first[place] = row;
         }
@@ -38,17 +35,17 @@ pub fn find<'a>(
     shallowrows: &'a [usize; PLACES],
     shallows: usize,
     place: u8,
-) -> Found
+) -> Option<Defined>
     ensures value { result ≡ found_by (get_or mainrows.now place 0) mains (get_or shallowrows.now place 0) shallows }
     ensures place_lt_places_in_abyte { place < places_in_a_byte }
 {
     let main = mainrows[place as usize];
     if main < mains {
-        return Found::Main(main);
+        return Some(Defined::Main(main));
     }
     let shallow = shallowrows[place as usize];
     if shallow < shallows {
-        return Found::Shallow(shallow);
+        return Some(Defined::Shallow(shallow));
     }
-    Found::Nothing
+    None
 }

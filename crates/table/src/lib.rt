@@ -1,7 +1,7 @@
 // The table that a card file gives, in flat arrays of rows, and what stands at a place of it. Types are so narrow that no sum over the table can overflow.
 #![tactic(auto)]
 
-ghost use Rattle.std.specs.Prelude.{◌≡◌, ◌+◌, ◌≤◌, length, get_or, pos};
+ghost use Rattle.std.specs.Prelude.{◌≡◌, ◌+◌, ◌≤◌, length, get_or};
 ghost use Rattle.std.proofs.lemmas.List.Edits.{sets};
 ghost use Rattle.table.specs.Table.{no_cards};
 ghost use Rattle.table.specs.inner.View.{table_of};
@@ -67,43 +67,21 @@ pub fn no_cards() -> Table
     }
 }
 
-// Number i, or 0 past the end.
-pub fn at_u16(xs: &[u16], i: usize) -> u16
-    ensures { result ≡ get_or xs.now i 0 }
+// Number i, or `missing` past the end.
+pub fn at<'a, T>(xs: &'a [T], i: usize, missing: &'a T) -> &'a T
+    ensures { result.now ≡ get_or xs.now i missing.now }
 {
-    if i < xs.len() { xs[i] } else { 0 }
-}
-
-// Number i, or 0 past the end.
-pub fn at_u32(xs: &[u32], i: usize) -> u32
-    ensures { result ≡ get_or xs.now i 0 }
-{
-    if i < xs.len() { xs[i] } else { 0 }
-}
-
-// Number i, or 0 past the end.
-pub fn at_u64(xs: &[u64], i: usize) -> u64
-    ensures { result ≡ get_or xs.now i 0 }
-{
-    if i < xs.len() { xs[i] } else { 0 }
-}
-
-// Number i, or 0 past the end.
-pub fn at_i8(xs: &[i8], i: usize) -> i8
-    ensures { result ≡ get_or xs.now i (pos 0) }
-{
-    if i < xs.len() { xs[i] } else { 0 }
+    if i < xs.len() { &xs[i] } else { missing }
 }
 
 // Writes a row over the numbers from number `at` on.
+// (Three of them: one function over a `T: Copy` calls std's code, which claim_runs' `has-the-clock` has no table of.)
 pub fn put_u16(xs: &mut [u16], at: usize, row: &[u16])
     requires { at + length row.now ≤ length xs.old }
     ensures { xs.new ≡ sets xs.old at row.now }
 {
-    let mut j = 0;
-    while j < row.len() {
-        xs[at + j] = row[j];
-        j = j + 1;
+    for (j, x) in row.iter().enumerate() {
+        xs[at + j] = *x;
     }
 }
 
@@ -112,10 +90,8 @@ pub fn put_u32(xs: &mut [u32], at: usize, row: &[u32])
     requires { at + length row.now ≤ length xs.old }
     ensures { xs.new ≡ sets xs.old at row.now }
 {
-    let mut j = 0;
-    while j < row.len() {
-        xs[at + j] = row[j];
-        j = j + 1;
+    for (j, x) in row.iter().enumerate() {
+        xs[at + j] = *x;
     }
 }
 
@@ -124,9 +100,7 @@ pub fn put_i8(xs: &mut [i8], at: usize, row: &[i8])
     requires { at + length row.now ≤ length xs.old }
     ensures { xs.new ≡ sets xs.old at row.now }
 {
-    let mut j = 0;
-    while j < row.len() {
-        xs[at + j] = row[j];
-        j = j + 1;
+    for (j, x) in row.iter().enumerate() {
+        xs[at + j] = *x;
     }
 }

@@ -1,9 +1,7 @@
 -- 01, "Heights and turns", and 02, No. 6, "Strides chosen at the berth": the stride of a station's own tides. "By the amplitudes of K1, O1, M2, S2 (names with three blanks after; absent is 0)".
 -- Assumes nothing.
-use Rattle.std.specs.Prelude.{ℕ, cond, ◌≡◌, List, [], ◌∷◌, map, eqb}
+use Rattle.std.specs.Prelude.{ℕ, cond, ◌≡◌, List, [], ◌∷◌, map, eqb, Option, Some, None}
 use Rattle.columns.specs.Names.{place_of}
-use Rattle.columns.specs.declared.names.Found.{Found}
-use Rattle.columns.specs.declared.names.Found.TheVariants.{At, Nothing}
 use Rattle.table.specs.Table.{Table, Frequency}
 use Rattle.station.specs.declared.records.Record.{Record}
 use Rattle.station.specs.Station.{Station}
@@ -15,9 +13,9 @@ unfoldable pub amplitude_at : List Record → ℕ → ℕ
 amplitude_at [] place = 0
 amplitude_at (r ∷ rs) place = cond (eqb r.place place) r.amplitude (amplitude_at rs place)
 
-abbrev pub amplitude_found : List Record → Found → ℕ
-amplitude_found records (At place) = amplitude_at records place
-amplitude_found records Nothing = 0
+abbrev pub amplitude_found : List Record → Option ℕ → ℕ
+amplitude_found records (Some place) = amplitude_at records place
+amplitude_found records None = 0
 
 -- the amplitude of the constituent with a name
 unfoldable pub amplitude_of : Table → Station → List ℕ → ℕ

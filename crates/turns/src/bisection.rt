@@ -6,9 +6,7 @@ ghost use Rattle.turns.specs.inner.Bisection.{BracketPre, TurnedPost};
 
 use crate::sense::differs;
 use crate::slopes::slope;
-use cosine::ENTRIES;
-use limits::RECORDS;
-use month_prepared::months::Months;
+use heights::months::LentMonths;
 
 // A turn's minute; the later of the two ends that hold the change, and the slope there.
 #[derive(Clone, Copy)]
@@ -49,19 +47,10 @@ fn turn_between(minute: u64, early: i64, late: i64) -> Turned
 }
 
 // Halves a bracket until its ends are one minute apart, and gives the turn between them.
-pub fn bisect<'a>(
-    table: &'a [u32; ENTRIES],
-    arguments: &'a [u64],
-    lags: &'a [u16; RECORDS],
-    frequencies: &'a [u64; RECORDS],
-    ps: &'a [i32],
-    qs: &'a [i32],
-    months: Months,
-    bracket: Bracket,
-) -> Turned
-    requires rows { Rows table.now months arguments.now frequencies.now ps.now qs.now }
-    requires bracket_pre { BracketPre (slopes_in arguments.now lags.now frequencies.now ps.now qs.now months) (last_of months) bracket }
-    ensures { TurnedPost (slopes_in arguments.now lags.now frequencies.now ps.now qs.now months) bracket.start bracket.length result }
+pub fn bisect(lent: LentMonths, bracket: Bracket) -> Turned
+    requires rows { Rows lent }
+    requires bracket_pre { BracketPre (slopes_in lent) (last_of lent.months) bracket }
+    ensures { TurnedPost (slopes_in lent.entry) bracket.start bracket.length result }
 {
     let start = bracket.start;
     let length = bracket.length;
@@ -72,7 +61,7 @@ pub fn bisect<'a>(
     }
     let half = length / 2;
     let cut = start + half;
-    let middle = slope(table, arguments, lags, frequencies, ps, qs, months, cut);
+    let middle = slope(lent, cut);
     if differs(early, middle) {
         let first = Bracket {
             start: start,
@@ -80,7 +69,7 @@ pub fn bisect<'a>(
             early: early,
             late: middle,
         };
-        return bisect(table, arguments, lags, frequencies, ps, qs, months, first);
+        return bisect(lent, first);
     }
     let second = Bracket {
         start: cut,
@@ -88,5 +77,5 @@ pub fn bisect<'a>(
         early: middle,
         late: late,
     };
-    bisect(table, arguments, lags, frequencies, ps, qs, months, second)
+    bisect(lent, second)
 }

@@ -17,130 +17,68 @@ mod search; // strides and turns
 mod tides; // the kind of tides
 pub mod strides; // a station's stride
 
-use crate::search::Summary;
-use cosine::ENTRIES;
-use limits::{MINUTES, RECORDS};
-use month_prepared::months::Months;
-pub use search::Reach;
+use heights::months::LentMonths;
+use limits::MINUTES;
+use refusals::{Refusal, Refused};
+pub use search::{Reach, Summary};
 
 // How many turns are kept while they are counted: as many as a month has at a stride of 1, a turn in each minute. (A year of two high and two
 // low waters a day has 1,411; one with more than these is searched a second time.)
 const KEPT: usize = MINUTES;
 
-// What a search returns: what it found, or that there are more turns than a lent buffer holds.
-#[derive(Clone, Copy)]
-pub enum Searched {
-    Found(Summary),
-    TooMany,
-}
+// More turns than a lent buffer holds.
+const TOO_MANY: Refused = Refused {
+    refusal: Refusal::TooManyTurns,
+    place: 0,
+};
 
 // Puts the kept minutes at the front of the lent places.
 fn put_minutes(kept: &[u32], minutes: &mut [u32])
     requires { length kept.now ≤ length minutes.old }
     ensures { minutes.new ≡ from_front kept.now minutes.old }
 {
-    let mut i: usize = 0;
-    while i < kept.len() {
-        minutes[i] = kept[i];
-        i = i + 1;
+    for (i, minute) in kept.iter().enumerate() {
+        minutes[i] = *minute;
     }
 }
 
 // Puts the heights at the minutes at the front of the lent places.
-fn put_heights<'a>(
-    table: &'a [u32; ENTRIES],
-    arguments: &'a [u64],
-    lags: &'a [u16; RECORDS],
-    frequencies: &'a [u64; RECORDS],
-    ps: &'a [i32],
-    qs: &'a [i32],
-    months: Months,
-    minutes: &'a [u32],
-    heights: &mut [i64],
-)
-    requires rows { Rows table.now months arguments.now frequencies.now ps.now qs.now }
-    requires upto { Upto (last_of months) minutes.now × (length minutes.now ≤ length heights.old) }
-    ensures { heights.new ≡ from_front (map (heights_in arguments.now lags.now frequencies.now ps.now qs.now months) minutes.now) heights.old }
+fn put_heights(lent: LentMonths, minutes: &[u32], heights: &mut [i64])
+    requires rows { Rows lent }
+    requires upto { Upto (last_of lent.months) minutes.now × (length minutes.now ≤ length heights.old) }
+    ensures { heights.new ≡ from_front (map (heights_in lent.entry) minutes.now) heights.old }
 {
-    let mut i: usize = 0;
-    while i < minutes.len() {
-        let minute = minutes[i] as u64;
-        heights[i] = heights::months::height(
-            table,
-            arguments,
-            lags,
-            frequencies,
-            ps,
-            qs,
-            months,
-            minute,
-        );
-        i = i + 1;
+    for (i, minute) in minutes.iter().enumerate() {
+        heights[i] = heights::months::height(lent, *minute as u64);
     }
 }
 
 // Searches the months for turns from the first minute to the last: returns how many and whether the first is high, and writes their
 // minutes and heights from the front of the lent buffers; refuses, and writes nothing, where there are more than either holds.
-pub fn turns<'a>(
-    table: &'a [u32; ENTRIES],
-    arguments: &'a [u64],
-    lags: &'a [u16; RECORDS],
-    frequencies: &'a [u64; RECORDS],
-    ps: &'a [i32],
-    qs: &'a [i32],
-    months: Months,
+pub fn turns(
+    lent: LentMonths,
     reach: Reach,
     minutes: &mut [u32],
     heights: &mut [i64],
-) -> Searched
-    requires rows { Rows table.now months arguments.now frequencies.now ps.now qs.now }
-    requires reaches { Reaches (last_of months) reach }
-    ensures { given_of result minutes.new heights.new ≡ given (heights_in arguments.now lags.now frequencies.now ps.now qs.now months) (turns_of (slopes_in arguments.now lags.now frequencies.now ps.now qs.now months) reach.stride reach.first reach.last) minutes.old heights.old }
+) -> Result<Summary, Refused>
+    requires rows { Rows lent }
+    requires reaches { Reaches (last_of lent.months) reach }
+    ensures { given_of result minutes.new heights.new ≡ given (heights_in lent.entry) (turns_of (slopes_in lent.entry) reach.stride reach.first reach.last) minutes.old heights.old }
 {
     let mut kept = [0u32; KEPT];
-    let found = search::find_turns(
-        table,
-        arguments,
-        lags,
-        frequencies,
-        ps,
-        qs,
-        months,
-        reach,
-        &mut kept,
-    );
+    let found = search::find_turns(lent, reach, &mut kept);
     let many = found.count;
     if minutes.len() < many {
-        return Searched::TooMany;
+        return Err(TOO_MANY);
     }
     if heights.len() < many {
-        return Searched::TooMany;
+        return Err(TOO_MANY);
     }
     if many <= KEPT {
         put_minutes(&kept[..many], minutes);
     } else {
-        search::find_turns(
-            table,
-            arguments,
-            lags,
-            frequencies,
-            ps,
-            qs,
-            months,
-            reach,
-            minutes,
-        );
+        search::find_turns(lent, reach, minutes);
     }
-    put_heights(
-        table,
-        arguments,
-        lags,
-        frequencies,
-        ps,
-        qs,
-        months,
-        &minutes[..many],
-        heights,
-    );
-    Searched::Found(found)
+    put_heights(lent, &minutes[..many], heights);
+    Ok(found)
 }

@@ -1,5 +1,5 @@
 // The search for turns: strides in months that follow one another, and the turn in each in which the slope changes sense.
-ghost use Rattle.std.specs.Prelude.{◌≡◌, ◌≤◌};
+ghost use Rattle.std.specs.Prelude.{◌≡◌, ◌≤◌, false, MatchOption};
 ghost use Rattle.month_prepared.specs.inner.Rows.{last_of};
 ghost use Rattle.turns.specs.inner.Lists.{Rows, slopes_in};
 ghost use Rattle.turns.specs.Search.{turns_of};
@@ -8,9 +8,7 @@ ghost use Rattle.turns.specs.inner.Search.{Reaches, NextPost, FoundPost};
 use crate::bisection::{Bracket, bisect};
 use crate::sense::{differs, rises};
 use crate::slopes::slope;
-use cosine::ENTRIES;
-use limits::RECORDS;
-use month_prepared::months::Months;
+use heights::months::LentMonths;
 
 // How many turns were found, and whether the first is high.
 #[derive(Clone, Copy)]
@@ -30,38 +28,27 @@ pub struct Reach {
 // A turn, whether it is high, the minute from which the search resumes and the slope there.
 #[derive(Clone, Copy)]
 struct Next {
-    found: bool,
     turn: u64,
     high: bool,
     later: u64,
     slope: i64,
 }
 
-// Strides from a minute until the ends' slopes differ in sense, and finds the turn between them.
-fn next_turn<'a>(
-    table: &'a [u32; ENTRIES],
-    arguments: &'a [u64],
-    lags: &'a [u16; RECORDS],
-    frequencies: &'a [u64; RECORDS],
-    ps: &'a [i32],
-    qs: &'a [i32],
-    months: Months,
-    reach: Reach,
-    minute: u64,
-    here: i64,
-) -> Next
-    requires rows { Rows table.now months arguments.now frequencies.now ps.now qs.now }
-    requires reaches { Reaches (last_of months) reach × (minute ≤ reach.last) }
-    requires here_value { here ≡ slopes_in arguments.now lags.now frequencies.now ps.now qs.now months minute }
-    ensures { NextPost (slopes_in arguments.now lags.now frequencies.now ps.now qs.now months) reach.stride reach.last minute result }
+// Strides from a minute until the ends' slopes differ in sense, and finds the turn between them, or none.
+fn next_turn(lent: LentMonths, reach: Reach, minute: u64, here: i64) -> Option<Next>
+    requires rows { Rows lent }
+    requires reaches { Reaches (last_of lent.months) reach × (minute ≤ reach.last) }
+    requires here_value { here ≡ slopes_in lent minute }
+    ensures { NextPost (slopes_in lent.entry) reach.stride reach.last minute result }
 {
     let stride = reach.stride;
     let last = reach.last;
     let mut from = minute;
     let mut behind = here;
+    // it goes on by a stride, from a minute that a turn gave
     while from + stride <= last {
         let to = from + stride;
-        let ahead = slope(table, arguments, lags, frequencies, ps, qs, months, to);
+        let ahead = slope(lent, to);
         if differs(behind, ahead) {
             let bracket = Bracket {
                 start: from,
@@ -69,79 +56,45 @@ fn next_turn<'a>(
                 early: behind,
                 late: ahead,
             };
-            let t = bisect(table, arguments, lags, frequencies, ps, qs, months, bracket);
-            return Next {
-                found: true,
+            let t = bisect(lent, bracket);
+            return Some(Next {
                 turn: t.turn,
                 high: rises(behind),
                 later: t.later,
                 slope: t.slope,
-            };
+            });
         }
         from = to;
         behind = ahead;
     }
-    Next {
-        found: false,
-        turn: last,
-        high: false,
-        later: from,
-        slope: behind,
+    None
+}
+
+// Whether a turn is high, or false where there is none.
+fn is_high(turn: Option<Next>) -> bool
+    ensures { MatchOption turn (result ≡ false) (λ n. result ≡ n.high) }
+{
+    match turn {
+        Some(n) => n.high,
+        None => false,
     }
 }
 
 // Finds every turn, counts them all, and keeps the minutes from the front of the lent places, as many as these hold.
-pub fn find_turns<'a>(
-    table: &'a [u32; ENTRIES],
-    arguments: &'a [u64],
-    lags: &'a [u16; RECORDS],
-    frequencies: &'a [u64; RECORDS],
-    ps: &'a [i32],
-    qs: &'a [i32],
-    months: Months,
-    reach: Reach,
-    kept: &mut [u32],
-) -> Summary
-    requires rows { Rows table.now months arguments.now frequencies.now ps.now qs.now }
-    requires reaches { Reaches (last_of months) reach }
-    ensures { FoundPost (turns_of (slopes_in arguments.now lags.now frequencies.now ps.now qs.now months) reach.stride reach.first reach.last) kept.old kept.new result }
+pub fn find_turns(lent: LentMonths, reach: Reach, kept: &mut [u32]) -> Summary
+    requires rows { Rows lent }
+    requires reaches { Reaches (last_of lent.months) reach }
+    ensures { FoundPost (turns_of (slopes_in lent.entry) reach.stride reach.first reach.last) kept.old kept.new result }
 {
-    let first = reach.first;
-    let here = slope(table, arguments, lags, frequencies, ps, qs, months, first);
-    let mut next = next_turn(
-        table,
-        arguments,
-        lags,
-        frequencies,
-        ps,
-        qs,
-        months,
-        reach,
-        first,
-        here,
-    );
-    let high = next.high;
+    let mut next = next_turn(lent, reach, reach.first, slope(lent, reach.first));
+    let high = is_high(next);
     let mut found: usize = 0;
-    while next.found {
+    while let Some(n) = next {
         if found < kept.len() {
-            kept[found] = next.turn as u32;
+            kept[found] = n.turn as u32;
         }
         found = found + 1;
-        next = next_turn(
-            table,
-            arguments,
-            lags,
-            frequencies,
-            ps,
-            qs,
-            months,
-            reach,
-            next.later,
-            next.slope,
-        );
+        next = next_turn(lent, reach, n.later, n.slope);
     }
-    Summary {
-        count: found,
-        high: high,
-    }
+    Summary { count: found, high }
 }

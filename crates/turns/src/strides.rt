@@ -9,7 +9,6 @@ ghost use Rattle.turns.specs.Strides.{amplitude_at, amplitude_of, station_stride
 
 use crate::tides::stride;
 use columns::names;
-use columns::names::Found;
 use station::Station;
 use table::Table;
 
@@ -18,12 +17,10 @@ fn amplitude_at(station: Station, place: usize) -> u16
     ensures { result ≡ amplitude_at (station_of station).records place }
 {
     let count = month_prepared::held(station.count);
-    let mut k = 0;
-    while k < count {
+    for k in 0..count {
         if station.places[k] as usize == place {
             return station.amplitudes[k];
         }
-        k += 1;
     }
     0
 }
@@ -34,8 +31,8 @@ fn amplitude_of(table: Table, station: Station, name: &[u8]) -> u16
 {
     let found = names::find_name(name, &table.names, table.frequencies);
     match found {
-        Found::At(place) => amplitude_at(station, place),
-        Found::Nothing => 0,
+        Some(place) => amplitude_at(station, place),
+        None => 0,
     }
 }
 

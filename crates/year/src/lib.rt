@@ -10,8 +10,9 @@ ghost use Rattle.year.specs.inner.Rows.{YearMonths, RowInto, TwelveRows, Prepare
 
 use cosine::ENTRIES;
 use limits::RECORDS;
-use month::Preparation;
+use month_prepared::Month;
 use month_prepared::months::{MONTHS, Months};
+use refusals::Answer;
 use station::Station;
 use table::Table;
 
@@ -24,10 +25,8 @@ pub fn months_of(year: u32, count: usize) -> Months
     ensures { YearMonths year count result }
 {
     let mut lasts = [0u64; MONTHS];
-    let mut m: usize = 0;
-    while m < MONTHS {
-        lasts[m] = calendar::month_minutes(year, m as u32 + 1) as u64;
-        m = m + 1;
+    for (m, last) in lasts.iter_mut().enumerate() {
+        *last = calendar::month_minutes(year, m as u32 + 1) as u64;
     }
     Months {
         count,
@@ -36,29 +35,24 @@ pub fn months_of(year: u32, count: usize) -> Months
     }
 }
 
-// Puts a month's arguments into row m.
-fn put_arguments(row: &[u64; RECORDS], m: usize, rows: &mut [u64; ROWS])
-    requires { RowInto row.now m rows.old }
-    ensures { rows.new ≡ paste rows.old (m * most_records) row.now most_records }
+// Puts a month's arguments and weights into row m.
+fn put_month(
+    month: &Month,
+    m: usize,
+    arguments: &mut [u64; ROWS],
+    ps: &mut [i32; ROWS],
+    qs: &mut [i32; ROWS],
+)
+    requires { RowInto month.now.arguments m arguments.old × RowInto month.now.ps m ps.old × RowInto month.now.qs m qs.old }
+    ensures arguments { arguments.new ≡ paste arguments.old (m * most_records) month.now.arguments most_records }
+    ensures cosines { ps.new ≡ paste ps.old (m * most_records) month.now.ps most_records }
+    ensures sines { qs.new ≡ paste qs.old (m * most_records) month.now.qs most_records }
 {
     let from = m * RECORDS;
-    let mut k: usize = 0;
-    while k < RECORDS {
-        rows[from + k] = row[k];
-        k = k + 1;
-    }
-}
-
-// Puts a month's weights P, or its weights Q, into row m.
-fn put_weights(row: &[i32; RECORDS], m: usize, rows: &mut [i32; ROWS])
-    requires { RowInto row.now m rows.old }
-    ensures { rows.new ≡ paste rows.old (m * most_records) row.now most_records }
-{
-    let from = m * RECORDS;
-    let mut k: usize = 0;
-    while k < RECORDS {
-        rows[from + k] = row[k];
-        k = k + 1;
+    for k in 0..RECORDS {
+        arguments[from + k] = month.arguments[k];
+        ps[from + k] = month.ps[k];
+        qs[from + k] = month.qs[k];
     }
 }
 
@@ -73,27 +67,18 @@ pub fn prepare(
     arguments: &mut [u64; ROWS],
     ps: &mut [i32; ROWS],
     qs: &mut [i32; ROWS],
-) -> Preparation
+) -> Answer
     requires { IsTable cosines.now × ((year_in_range year ≡ true) × TwelveRows arguments.old ps.old qs.old) }
     ensures { PreparedPost table station year frequencies.new arguments.new ps.new qs.new result }
 {
-    let mut m: usize = 0;
-    while m < MONTHS {
-        let prepared = month::prepare(cosines, table, station, year, m as u32 + 1);
-        let answer = prepared.answer;
-        match answer {
-            Preparation::TooLarge(place) => {
-                return Preparation::TooLarge(place);
-            }
-            Preparation::Ready => {
-                let month = prepared.month;
+    for m in 0..MONTHS {
+        match month::prepare(cosines, table, station, year, m as u32 + 1) {
+            Ok(month) => {
                 *frequencies = month.frequencies;
-                put_arguments(&month.arguments, m, arguments);
-                put_weights(&month.ps, m, ps);
-                put_weights(&month.qs, m, qs);
+                put_month(&month, m, arguments, ps, qs);
             }
+            Err(refused) => return Err(refused),
         }
-        m = m + 1;
     }
-    Preparation::Ready
+    Ok(())
 }

@@ -1,6 +1,5 @@
 -- `calendar::day_count` meets its contract: the difference of two day numbers is the count's closed form (Days), and fits 64 bits.
 use mathlib.Core.Path.{◌∙◌}
-use borrow.Author.Rules.{rules}
 use mir.Syntax.{w64}
 use mir.ValLaws.{to_z-of_z}
 use Rattle.calendar.proofs.Differences.{difference-fits}

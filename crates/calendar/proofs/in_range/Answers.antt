@@ -1,5 +1,4 @@
 -- `calendar::in_range` meets its contract: the two ranges, the month's asked only where the year's holds.
-use borrow.Author.Rules.{rules}
 use Rattle.calendar.specs.Calendar.{in_range}
 use Rattle.calendar.proofs.in_range.Goals as goal
 

@@ -1,7 +1,6 @@
 -- `calendar::month_days` meets its contract: 29 in a long February; else the table's entry, and none outside the table.
 use mathlib.Core.Path.{◌≡◌, sym}
 use native.Mathlib.Omega.{arith}
-use borrow.Author.Rules.{rules}
 use Rattle.calendar.specs.Calendar.{month_days, month_lengths}
 use Rattle.calendar.proofs.Months.{no-month, length_at}
 use Rattle.calendar.proofs.month_days.Goals as goal

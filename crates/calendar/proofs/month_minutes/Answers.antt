@@ -1,6 +1,5 @@
 -- `calendar::month_minutes` meets its contract: days times 1,440, which fits since no month is over 31 days.
 use native.Mathlib.Omega.{arith}
-use borrow.Author.Rules.{rules}
 use Rattle.calendar.specs.Calendar.{month_minutes}
 use Rattle.calendar.proofs.Months.{month-short}
 use Rattle.calendar.proofs.month_minutes.Goals as goal

@@ -1,8 +1,5 @@
 -- `calendar::year_minutes` meets its contract: the days before a thirteenth month are the year's. Assumes nothing.
 use borrow.Author.Rules.{rules}
-use native.Mathlib.Omega.{arith}
-use mathlib.Core.Path.{ap}
-use Prim.Native.Nat.{ℕ, ◌*◌}
 use Rattle.calendar.specs.Calendar.{year_minutes}
 use Rattle.calendar.proofs.year_minutes.Goals as goal
 

@@ -2,10 +2,8 @@
 use Prim.{Unit}
 use Prim.Native.Nat.{ℕ}
 use mathlib.Core.Path.{◌≡◌, refl, sym}
-use mathlib.Core.List.{List}
 use mathlib.Core.Bool.{Bool, true, false, not}
 use lib.Dec.{ltb}
-use lib.IntN.{ℤ}
 use Rattle.refusals.specs.Outcome.{Outcome, accepted, refused, refuse_if, ◌>>◌, answered}
 use Rattle.refusals.proofs.Laws.{not-both}
 use Rattle.calendar.specs.Calendar.{in_range, year_in_range}

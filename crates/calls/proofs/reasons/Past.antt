@@ -10,11 +10,12 @@ use Rattle.limits.specs.Limits.{most_step}
 use Rattle.calls.specs.Asked.{step_outside, last_minute}
 use Rattle.calls.specs.Reasons.{series_reason}
 use Rattle.calls.specs.declared.reasons.Reason.{Reason}
-use Rattle.calls.specs.declared.reasons.Reason.TheVariants.{Within, Start, Step, End}
+use Rattle.calls.specs.declared.reasons.Reason.TheVariants.{Start, Step, End}
+use Rattle.std.specs.Prelude.{Option, Some, None}
 
 -- a start in the month and a step in range leave the last minute to be asked
 pub in-range : (last start step places : ℕ) → start ≤ last → 1 ≤ step → step ≤ most_step
-    → series_reason last start step places ≡ cond (ltb last (last_minute start step places)) End Within
+    → series_reason last start step places ≡ cond (ltb last (last_minute start step places)) (Some End) None
 unfolding series_reason
 in-range last start step places h k l = simp (le-ltb last start h, le-ltb step 1 k, le-ltb most_step step l)
 
@@ -46,19 +47,17 @@ none-past last start step places h e =
     sym (le-ltb last (last_minute start step places) l)
 
 -- whether a question turns a series down
-abbrev pub outside : Reason → Bool
-outside Within = false
-outside Start = true
-outside Step = true
-outside End = true
+abbrev pub outside : Option Reason → Bool
+outside None = false
+outside (Some reason) = true
 
 -- one of the three does where it is outside
-pub outside-is : (last start step places : ℕ) {told : Reason} → told ≡ series_reason last start step places
+pub outside-is : (last start step places : ℕ) {told : Option Reason} → told ≡ series_reason last start step places
     → outside told ≡ (ltb last start || step_outside step || ltb last (last_minute start step places))
 unfolding series_reason
 outside-is last start step places e = ap outside e ∙ three (ltb last start) (step_outside step) (ltb last (last_minute start step places))
   where
-    three : (a b c : Bool) → outside (cond a Start (cond b Step (cond c End Within))) ≡ (a || b || c)
+    three : (a b c : Bool) → outside (cond a (Some Start) (cond b (Some Step) (cond c (Some End) None))) ≡ (a || b || c)
     three true b c = refl
     three false true c = refl
     three false false true = refl

@@ -8,7 +8,7 @@ use lib.Dec.{eqb}
 use lib.ListN.{get_or}
 use native.Mathlib.Omega.{arith}
 use Rattle.columns.specs.Names.{same, names_from, place_from, place_of}
-use Rattle.columns.specs.declared.names.Found.TheVariants.{At}
+use Rattle.std.specs.Prelude.{Some}
 use Rattle.table.specs.inner.View.{listed}
 use Rattle.table.proofs.Rows.{listed_next, listed-end}
 use Rattle.refusals.specs.Checked.{good, bad}
@@ -16,17 +16,17 @@ use Rattle.refusals.specs.Places.{is_among}
 use Rattle.card.specs.Places.{not_main, main_at}
 
 -- names from place k on are found at place k or above, and below their end
-place-before : (name names : List ℕ) (k n place : ℕ) → place_from name (names_from names k n) k ≡ At place → place < k + n
+place-before : (name names : List ℕ) (k n place : ℕ) → place_from name (names_from names k n) k ≡ Some place → place < k + n
 unfolding place_from names_from
 place-before name names k zero place e = let z : ◌≡◌ {A = ℕ} 0 1 = cc in absurd (omega arith)
 place-before name names k (suc n) place e = go (same name _) e (λ h. place-before name names (k + 1) n place h)
   where
-    go : (t : Bool) → cond t (At k) (place_from name (names_from names (k + 1) n) (k + 1)) ≡ At place
-        → (place_from name (names_from names (k + 1) n) (k + 1) ≡ At place → place < k + 1 + n) → place < k + suc n
+    go : (t : Bool) → cond t (Some k) (place_from name (names_from names (k + 1) n) (k + 1)) ≡ Some place
+        → (place_from name (names_from names (k + 1) n) (k + 1) ≡ Some place → place < k + 1 + n) → place < k + suc n
     go true q later = let p : k ≡ place = cc in omega arith
     go false q later = omega (arith, later q)
 
-pub place-within : (name names : List ℕ) (n place : ℕ) → place_of name (names_from names 0 n) ≡ At place → place < n
+pub place-within : (name names : List ℕ) (n place : ℕ) → place_of name (names_from names 0 n) ≡ Some place → place < n
 place-within name names n place e = omega (arith, place-before name names 0 n place e)
 
 -- the rows of cards from row k on: one row on, or none left

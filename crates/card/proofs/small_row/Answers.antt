@@ -3,13 +3,12 @@ use borrow.Author.Rules.{rules}
 use native.Mathlib.Omega.{arith}
 use native.Mathlib.Nat.{sub-zero}
 use mathlib.Core.Path.{◌≡◌, refl, ap}
-use Prim.Native.Nat.{ℕ, ◌-◌, ◌≤◌, ◌<◌}
+use Prim.Native.Nat.{ℕ, ◌<◌}
 use lib.ListN.{length, take}
 use mir.Syntax.{w8}
 use mir.Val.{SFits}
 use mir.ValLaws.{to_z-of_z}
 use Rattle.card.specs.Formats.{row_field}
-use Rattle.card.specs.Card.{numbers_from, numbers}
 use Rattle.card.proofs.Ranges.{numbers_more, numbers-none, take-stored, row_small}
 use Rattle.card.proofs.small_row.Goals as goal
 
@@ -27,15 +26,15 @@ small_field-requires c =
 
 pub loop-k-preserved : goal.loop-k-preserved
 loop-k-preserved c =
-    let f : SFits w8 c.in-Value.v = search rules in
+    let f : SFits w8 c.in-Ok.value = search rules in
     let h : c.loop-k.k < length c.loop-k.values = omega arith in
-    (omega arith, search rules, rw (to_z-of_z w8 c.in-Value.v f, take-stored c.loop-k.values c.loop-k.k c.in-Value.v h) (rw (numbers_more c.args.line.now (row_field c.args.row) (take c.loop-k.k c.loop-k.values) c.loop-k.k c.args.count c.loop-k-test.true, ← c.row_field.ensures, ← c.small_field.ensures, c.in-Value.is) at c.loop-k.invariant.2))
+    (omega arith, search rules, rw (to_z-of_z w8 c.in-Ok.value f, take-stored c.loop-k.values c.loop-k.k c.in-Ok.value h) (rw (numbers_more c.args.line.now (row_field c.args.row) (take c.loop-k.k c.loop-k.values) c.loop-k.k c.args.count c.loop-k-test.true, ← c.row_field.ensures, ← c.small_field.ensures, c.in-Ok.is) at c.loop-k.invariant.2))
 
-pub returns-in-Bad : goal.returns-in-Bad
-returns-in-Bad c =
+pub returns-in-Err : goal.returns-in-Err
+returns-in-Err c =
     record {
-      values_value = rw (numbers_more c.args.line.now (row_field c.args.row) (take c.loop-k.k c.loop-k.values) c.loop-k.k c.args.count c.loop-k-test.true, ← c.row_field.ensures, ← c.small_field.ensures, c.in-Bad.is) at c.loop-k.invariant.2;
-      values_len = c.loop-k.invariant.1;
+      values_value = rw (numbers_more c.args.line.now (row_field c.args.row) (take c.loop-k.k c.loop-k.values) c.loop-k.k c.args.count c.loop-k-test.true, ← c.row_field.ensures, ← c.small_field.ensures, c.in-Err.is) at c.loop-k.invariant.2;
+      values_len = tt;
     }
 
 pub returns : goal.returns

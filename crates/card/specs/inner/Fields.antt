@@ -1,5 +1,5 @@
 -- Only inner contracts cite this: the fields that fit the types that the table keeps.
-use Rattle.std.specs.Prelude.{ℕ, ◌<◌, ◌≡◌, true, pos, neg_ℤ}
+use Rattle.std.specs.Prelude.{◌<◌, ◌≡◌, true, pos, neg_ℤ}
 use Rattle.std.specs.Int.Signed.{le_z}
 use Rattle.limits.specs.Limits.{satellites_a_card}
 use Rattle.card.specs.declared.formats.NumberField.{NumberField}

@@ -21,11 +21,11 @@ use Rattle.card.specs.declared.faults.What.TheVariants.{File}
 use Rattle.card.specs.declared.faults.Trouble.TheVariants.{EndedInMains}
 use Rattle.card.specs.Faults.{only}
 use Rattle.card.specs.Card.{given, refused, onward, onward_or_end}
-use Rattle.card.specs.inner.Answers.{check_gives}
-use Rattle.card.specs.declared.Check.{Check}
+use Rattle.std.specs.Prelude.{Option, Result}
+use Rattle.card.specs.declared.faults.Fault.{Fault}
+use Rattle.card.specs.inner.Answers.{card_gives}
 use Rattle.card.specs.inner.Places.{places_in}
 use Rattle.card_mains.specs.Mains.{next_main, main_places, satellites_in}
-use Rattle.card_mains.specs.declared.mains.MainStep.{MainStep}
 use Rattle.card_constituents.specs.inner.Rows.{satellite_count, satellites_end, Stored, mains_in, Counted, step_gives, MainStored, MainsKept, mains_over, SatellitesStored}
 use Rattle.card_constituents.specs.Constituents.{mains_from, satellites_from}
 
@@ -85,7 +85,7 @@ module _ (names : List (List ℕ)) (file : List ℕ) (at n : ℕ) (mains : List 
 -- the line at byte `at` was read, and the next starts at byte `next`
 module _ (names : List (List ℕ)) (file : List ℕ) (at next n : ℕ) (line : List ℕ) (h : at < length file) (first : line ≡ first_line (drop at file)) (rest : drop next file ≡ rest_lines (drop at file)) (m : ℕ) where
   -- a constituent card
-  pub mains-step : (s : ℕ) (cards before : List ℕ) (angles anglesbefore sat : List ℤ) (ratios : List ℕ) (step : MainStep)
+  pub mains-step : (s : ℕ) (cards before : List ℕ) (angles anglesbefore sat : List ℤ) (ratios : List ℕ) (step : Result (Option ℕ) Fault)
       → MainStored step cards angles m (next_main names (places_in 3 before m) s line) → MainsKept cards angles before anglesbefore m → Counted before anglesbefore sat ratios m s
       → mains_from names (lines_of (drop at file)) n (mains_in before anglesbefore sat ratios m)
       ≡ onward_or_end (step_gives step (main_of cards angles sat ratios m)) n (given (mains_in cards angles sat ratios m) (lines_of (drop next file)) (n + 1))
@@ -97,10 +97,10 @@ module _ (names : List (List ℕ)) (file : List ℕ) (at next n : ℕ) (line : L
       rw (lines-here file at next line h first rest, places_of before anglesbefore sat ratios 0 m, counted, stored sat ratios, kept sat ratios)
 
   -- a satellite card
-  pub satellites-step : (cards before : List ℕ) (angles sat satbefore : List ℤ) (ratios ratiosbefore : List ℕ) (check : Check) (count : ℕ)
+  pub satellites-step : (cards before : List ℕ) (angles sat satbefore : List ℤ) (ratios ratiosbefore : List ℕ) (check : Result Unit Fault) (count : ℕ)
       → SatellitesStored check (mains_over cards sat ratios) (mains_over before satbefore ratiosbefore) m count line
       → satellites_from names (lines_of (drop at file)) n (mains_in before angles satbefore ratiosbefore m) (main_of before angles satbefore ratiosbefore m) count
-      ≡ onward (check_gives check (main_of cards angles sat ratios m)) n
+      ≡ onward (card_gives (λ _. main_of cards angles sat ratios m) check) n
       (λ more. cond (leb count satellites_a_card)
       (mains_from names (lines_of (drop next file)) (n + 1) (mains_in before angles satbefore ratiosbefore m ++ (more ∷ [])))
       (satellites_from names (lines_of (drop next file)) (n + 1) (mains_in cards angles sat ratios m) more (count - satellites_a_card)))

@@ -15,9 +15,11 @@ use Rattle.card_mains.specs.inner.Satellites.{AsBefore}
 use Rattle.card.specs.Card.{Next, gives}
 use Rattle.card.specs.inner.Places.{places_in}
 use Rattle.card_mains.specs.Mains.{MainCard, next_main}
-use Rattle.card_mains.specs.inner.Mains.{main_gives, main_step_gives}
+use Rattle.std.specs.Prelude.{Option, Some, Result, Ok}
+use Rattle.card.specs.declared.faults.Fault.{Fault}
+use Rattle.card.specs.inner.Lines.{next_gives}
+use Rattle.card_mains.specs.inner.Mains.{main_read}
 use Rattle.card_mains.specs.declared.mains.MainRead.{MainRead}
-use Rattle.card_mains.specs.declared.mains.MainStep.TheVariants.{Gives}
 use Rattle.card_mains.proofs.mains.Room.{main-room}
 use Rattle.card_constituents.specs.Satellites.{with_more}
 use Rattle.card_constituents.specs.inner.Rows.{MainRoom, satellite_count, satellites_end, Stored, mains_in, MainStored, MainsKept, Begun}
@@ -77,10 +79,10 @@ module _ (cards : List ℕ) (angles : List ℤ) (m place first : ℕ) (doodson :
   mains-begun sat ratios = listed-one-more (main_of begun-cards begun-angles sat ratios) 0 m ∙ rw (zero-add m, main-begun sat ratios, mains-kept-begun sat ratios)
 
 -- a card that gives a main had room for it and for its satellites
-pub step_room : (names : List (List ℕ)) (cards : List ℕ) (m s : ℕ) (line : List ℕ) (r : MainRead) (count : ℕ)
-    → main_gives r ≡ next_main names (places_in 3 cards m) s line → r.step ≡ Gives count → (m < most_mains) × (s + count ≤ most_satellites)
-step_room names cards m s line r count e g =
-    let h = main-room names (places_in 3 cards m) s line _ (sym e ∙ ap (λ st. main_step_gives st r.place r.doodson r.phase) g) in
+pub step_room : (names : List (List ℕ)) (cards : List ℕ) (m s : ℕ) (line : List ℕ) (r : Result (Option MainRead) Fault) (main : MainRead)
+    → next_gives main_read r ≡ next_main names (places_in 3 cards m) s line → r ≡ Ok (Some main) → (m < most_mains) × (s + main.count ≤ most_satellites)
+step_room names cards m s line r main e g =
+    let h = main-room names (places_in 3 cards m) s line (main_read main) (sym e ∙ ap (next_gives main_read) g) in
     (omega (arith, h.0, listed-length (λ k. get_or cards (3 * k) 0) 0 m), h.1)
 
 -- the rows with main m begun are those of the mains before, and of what the card gives
@@ -88,7 +90,7 @@ pub stored-begun : (cards cards' : List ℕ) (angles angles' : List ℤ) (m s pl
     → (m < most_mains) × (s + count ≤ most_satellites) → Stored cards m s → MainRoom cards angles
     → cards' ≡ sets cards (3 * m) (place ∷ s ∷ 0 ∷ []) → angles' ≡ set (sets angles (7 * m) doodson) (7 * m + 6) phase
     → gives (record { main = record { place = place; doodson = doodson; phase = phase; satellites = [] }; count = count }) ≡ card
-    → MainStored (Gives count) cards' angles' m card × (MainsKept cards' angles' cards angles m × (Begun (Gives count) cards' m s × MainRoom cards' angles'))
+    → MainStored (Ok (Some count)) cards' angles' m card × (MainsKept cards' angles' cards angles m × (Begun (Ok (Some count)) cards' m s × MainRoom cards' angles'))
 stored-begun cards cards' angles angles' m s place count doodson phase card six room stored rooms ec ea e =
     let h : 3 * m + 3 ≤ length cards = omega (arith, room.0, rooms.0) in
     let g : 7 * m + 7 ≤ length angles = omega (arith, room.0, rooms.1) in

@@ -7,8 +7,8 @@ use native.Mathlib.Omega.{arith}
 use lib.ListN.{length, get_or}
 use lib.IntN.{ℤ, nat_abs}
 use Rattle.columns.specs.Columns.{columns}
-use Rattle.fields.specs.declared.Field.{Field}
-use Rattle.fields.specs.declared.Field.TheVariants.{Value, Malformed, OutOfRange}
+use Rattle.std.specs.Prelude.{Option, Some, None, Result, Ok, Err}
+use Rattle.fields.specs.declared.FieldError.{FieldError}
 use Rattle.table.specs.Table.{Frequency, Table}
 use Rattle.columns.specs.Lines.{lines_of}
 use Rattle.card.specs.Formats.{frequency_name, frequency_field, longitude_field, increase_field}
@@ -17,15 +17,13 @@ use Rattle.refusals.specs.Checked.{good, bad, ◌>>=◌}
 use Rattle.card.specs.declared.faults.Trouble.TheVariants.{TooManyFrequencies}
 use Rattle.card.specs.Card.{Card, field_on, number, new_name, field_gives, Next, ends, gives, fails, Opening, blank_ends, read_fields, fails_first, opening, opened, Reading, given, refused, onward_or_end}
 use Rattle.card_frequencies.specs.Frequencies.{names_of, frequency_card, next_frequency, frequencies_from}
-use Rattle.columns.specs.declared.names.Found.{Found}
-use Rattle.columns.specs.declared.names.Found.TheVariants.{At, Nothing}
 use Rattle.card_file.specs.Cards.{followed, first_undefined, unless_undefined, read_cards, outcome_in, cards_outcome}
 use Rattle.refusals.specs.Outcome.{accepted}
 use Rattle.card_frequencies.specs.Longitudes.{five_from}
 use Rattle.card_mains.specs.Mains.{main_places}
 use Rattle.card_constituents.specs.Constituents.{mains_from}
 use Rattle.card_shallows.specs.Shallows.{shallow_places, shallows_from}
-use Rattle.card.proofs.Ranges.{natural-is}
+use Rattle.fields.proofs.Ranges.{natural-is}
 
 -- every entry of a list is at most `most`
 abbrev Low : ℕ → List Frequency → Type 0
@@ -42,10 +40,9 @@ read_low : (line : List ℕ) (v : ℤ) → number line frequency_field ≡ good 
 unfolding number
 read_low line v e = by (field_on line frequency_field) refl e
   where
-    by : (x : Field) → field_on line frequency_field ≡ x → field_gives frequency_field x ≡ good v → nat_abs v ≤ most_frequency
-    by (Value w) r q = let w-is : w ≡ v = cc in (natural-is frequency_field.low frequency_field.high v _ refl (rw w-is at (sym r))).1
-    by Malformed r q = let z : ◌≡◌ {A = ℕ} 0 1 = cc in absurd (omega arith)
-    by OutOfRange r q = let z : ◌≡◌ {A = ℕ} 0 1 = cc in absurd (omega arith)
+    by : (x : Result ℤ FieldError) → field_on line frequency_field ≡ x → field_gives frequency_field x ≡ good v → nat_abs v ≤ most_frequency
+    by (Ok w) r q = let w-is : w ≡ v = cc in (natural-is frequency_field.low frequency_field.high v _ refl (rw w-is at (sym r))).1
+    by (Err error) r q = let z : ◌≡◌ {A = ℕ} 0 1 = cc in absurd (omega arith)
 
 -- a frequency card's number
 card-low : (names : List (List ℕ)) (line : List ℕ) (f : Frequency) → frequency_card names line ≡ good f → f.frequency ≤ most_frequency
@@ -91,9 +88,9 @@ followed-through : {A : Type 0} (P : Table → Type 0) (r : Reading A) (next : A
 followed-through P (given a lines n) next t rest m h e = h a lines n refl e
 followed-through P (refused fault n) next t rest m h e = let z : ◌≡◌ {A = ℕ} 0 1 = cc in absurd (omega arith)
 
-defined-is : (found : Found) (lines : List (List ℕ)) (n : ℕ) (whole t : Table) (rest : List (List ℕ)) (m : ℕ) → unless_undefined found (given whole lines n) ≡ given t rest m → whole ≡ t
-defined-is Nothing lines n whole t rest m e = cc
-defined-is (At k) lines n whole t rest m e = let z : ◌≡◌ {A = ℕ} 0 1 = cc in absurd (omega arith)
+defined-is : (found : Option ℕ) (lines : List (List ℕ)) (n : ℕ) (whole t : Table) (rest : List (List ℕ)) (m : ℕ) → unless_undefined found (given whole lines n) ≡ given t rest m → whole ≡ t
+defined-is None lines n whole t rest m e = cc
+defined-is (Some k) lines n whole t rest m e = let z : ◌≡◌ {A = ℕ} 0 1 = cc in absurd (omega arith)
 
 abbrev LowIn : Table → Type 0
 LowIn t = Low most_frequency t.frequencies

@@ -5,7 +5,7 @@ use Prim.Native.Nat.{ℕ, suc, ◌+◌, ◌-◌, ◌*◌, ◌≤◌, ◌<◌}
 use mathlib.Core.List.{List, [], ◌∷◌, ◌++◌}
 use native.Mathlib.Omega.{arith}
 use native.Mathlib.Nat.{zero-add}
-use lib.IntN.{nat_abs}
+use lib.IntN.{pos, nat_abs}
 use lib.ListN.{length, get_or, set, drop}
 use lib.Seq.{sets, get_or-set_same, get_or-set_other}
 use Rattle.columns.specs.Columns.{padded, columns}
@@ -14,9 +14,8 @@ use Rattle.columns.specs.Names.{names_from}
 use Rattle.table.specs.Table.{Frequency}
 use Rattle.table.specs.inner.View.{listed, frequency_of}
 use Rattle.table.proofs.Rows.{listed_same, listed-one-more, row_put, row_kept}
-use Rattle.card.specs.declared.Natural.{Natural}
-use Rattle.card.specs.declared.Natural.TheVariants as natural
-use Rattle.card_frequencies.specs.declared.frequencies.FrequencyStep.{FrequencyStep}
+use Rattle.std.specs.Prelude.{Option, Result, Ok, Err}
+use Rattle.card.specs.declared.faults.Fault.{Fault}
 use Rattle.card.specs.Formats.{frequency_name}
 use Rattle.refusals.specs.Checked.{good, ◌>>=◌}
 use Rattle.limits.specs.Limits.{most_frequencies}
@@ -25,8 +24,9 @@ use Rattle.card.specs.Card.{gives, given, ended, onward_or_end}
 use Rattle.card_frequencies.specs.Frequencies.{frequency_card, next_frequency, frequencies_from}
 use Rattle.columns.proofs.names.Names.{names-count}
 use Rattle.card.proofs.lines.Walk.{lines-here, lines_end}
-use Rattle.card.specs.inner.Answers.{natural_gives}
-use Rattle.card_frequencies.specs.inner.Answers.{frequency_read, frequency_gives}
+use Rattle.card.specs.inner.Answers.{card_gives}
+use Rattle.card.specs.inner.Lines.{next_gives}
+use Rattle.card_frequencies.specs.inner.Answers.{frequency_on}
 use Rattle.card.proofs.lines.Openings.{had-room}
 use Rattle.table.proofs.Names.{names-of}
 
@@ -35,9 +35,9 @@ unfolding next_frequency
 frequency-room names line n f e = rw (names-count names 0 n) at (had-room most_frequencies TooManyFrequencies (length (names_from names 0 n)) line (frequency_card (names_from names 0 n) line) f e)
 
 -- the frequency is the number in its field
-pub frequency-read : (line : List ℕ) (r : Natural) → frequency_read line r ≡ (natural_gives r >>= λ f. good (record { name = columns line frequency_name 5; frequency = nat_abs f }))
-frequency-read line (natural.Value v) = refl
-frequency-read line (natural.Bad r) = refl
+pub frequency-read : (line : List ℕ) (r : Result ℕ Fault) → card_gives (frequency_on line) r ≡ (card_gives pos r >>= λ f. good (record { name = columns line frequency_name 5; frequency = nat_abs f }))
+frequency-read line (Ok v) = refl
+frequency-read line (Err fault) = refl
 
 -- columns stored one by one
 pub store-more : (names line : List ℕ) (a from j w : ℕ) → j < w
@@ -69,10 +69,10 @@ frequency-put names speeds name v n wide fits room =
 
 -- the frequencies from byte `at` on, as the code reads the line there and steps to the next; or none left
 module _ (file : List ℕ) (at n : ℕ) (names speeds : List ℕ) (count : ℕ) where
-  pub frequencies-step : (next : ℕ) (line : List ℕ) (r : FrequencyStep) → at < length file → line ≡ first_line (drop at file) → drop next file ≡ rest_lines (drop at file)
-      → frequency_gives line r ≡ next_frequency (names_from names 0 count) line
+  pub frequencies-step : (next : ℕ) (line : List ℕ) (r : Result (Option ℕ) Fault) → at < length file → line ≡ first_line (drop at file) → drop next file ≡ rest_lines (drop at file)
+      → next_gives (frequency_on line) r ≡ next_frequency (names_from names 0 count) line
       → frequencies_from (lines_of (drop at file)) n (listed (frequency_of names speeds) 0 count)
-      ≡ onward_or_end (frequency_gives line r) n (given (listed (frequency_of names speeds) 0 count) (lines_of (drop next file)) (n + 1))
+      ≡ onward_or_end (next_gives (frequency_on line) r) n (given (listed (frequency_of names speeds) 0 count) (lines_of (drop next file)) (n + 1))
       (λ f. frequencies_from (lines_of (drop next file)) (n + 1) (listed (frequency_of names speeds) 0 count ++ (f ∷ [])))
   unfolding frequencies_from
   frequencies-step next line r h first rest card =

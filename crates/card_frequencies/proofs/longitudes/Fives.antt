@@ -1,7 +1,7 @@
 -- Laws of a card of five numbers: where it stands in the file, and its numbers read as signed and back.
 -- By the clauses of the definitions, and the laws of lines. Assumes nothing.
 use mathlib.Core.Path.{◌≡◌, refl, ◌∙◌}
-use Prim.Native.Nat.{ℕ, ◌+◌, ◌-◌, ◌≤◌, ◌<◌}
+use Prim.Native.Nat.{ℕ, ◌+◌, ◌≤◌, ◌<◌}
 use mathlib.Core.List.{List, map, map-map, map-id}
 use lib.ListN.{length}
 use lib.IntN.{pos, nat_abs}

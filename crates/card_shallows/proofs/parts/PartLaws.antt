@@ -19,9 +19,11 @@ use Rattle.card.specs.Card.{Card, number}
 use Rattle.card_shallows.specs.Coefficients.{coefficient, coefficient_in}
 use Rattle.card_shallows.specs.Parts.{parts_on}
 use Rattle.card.specs.Places.{main_named}
+use Rattle.std.specs.Prelude.{Result, Ok}
+use Rattle.card.specs.declared.faults.Fault.{Fault}
+use Rattle.card.specs.inner.Answers.{card_gives}
 use Rattle.card_shallows.specs.declared.parts.PartRead.{PartRead}
-use Rattle.card_shallows.specs.declared.parts.PartRead.TheVariants.{Gives}
-use Rattle.card_shallows.specs.inner.Answers.{part_gives}
+use Rattle.card_shallows.specs.inner.Answers.{part_in}
 use Rattle.card_shallows.proofs.coefficients.Coefficients.{coefficient-sizes}
 use Rattle.card_shallows.specs.Parts as shallows
 
@@ -70,8 +72,8 @@ module _ (names : List (List ℕ)) (mains : List ℕ) (line : List ℕ) where
       from (bad r) q = let z : ◌≡◌ {A = ℕ} 0 1 = cc in absurd (omega arith)
 
   -- and so does one that the code has read
-  pub read-sizes : (sizes j : ℕ) (r : PartRead) (c : ℤ) (m : ℕ) → r ≡ Gives c m → part_gives r ≡ shallows.part names mains sizes line j → sizes + nat_abs c ≤ most_sizes
-  read-sizes sizes j r c m told is = part-sizes sizes j (record { coefficient = c; main = m }) (rw told at is)
+  pub read-sizes : (sizes j : ℕ) (r : Result PartRead Fault) (p : PartRead) → r ≡ Ok p → card_gives part_in r ≡ shallows.part names mains sizes line j → sizes + nat_abs p.coefficient ≤ most_sizes
+  read-sizes sizes j r p told is = part-sizes sizes j (part_in p) (rw told at is)
 
 -- a part stored in the rows is the last of them
 pub part-put : (card : List ℕ) (coefficients : List ℤ) (c : ℤ) (m j : ℕ) → 2 + j < length card → j < length coefficients

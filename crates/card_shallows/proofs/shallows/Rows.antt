@@ -19,10 +19,11 @@ use Rattle.card_shallows.specs.Shallows.{shallow_places, shallows_from}
 use Rattle.card.specs.inner.Places.{places_in}
 use Rattle.card.proofs.lines.Walk.{lines-here, lines_end}
 use Rattle.card.proofs.lines.Openings.{had-room}
-use Rattle.card_shallows.specs.inner.Answers.{in_rows, step_gives, shallow_gives}
-use Rattle.card_shallows.specs.declared.parts.ShallowStep.{ShallowStep}
-use Rattle.card_shallows.specs.declared.parts.ShallowStep.TheVariants.{Gives}
-use Rattle.card_shallows.specs.declared.parts.ShallowRead.{ShallowRead}
+use Rattle.std.specs.Prelude.{Option, Some, Result, Ok}
+use Rattle.card.specs.declared.faults.Fault.{Fault}
+use Rattle.card.specs.inner.Lines.{next_gives}
+use Rattle.card_shallows.specs.inner.Answers.{in_rows, in_row}
+use Rattle.card_shallows.specs.declared.parts.ShallowRow.{ShallowRow}
 
 -- a row begins with its place
 pub places_of : (cards : List ℕ) (coefficients : List ℤ) (k n : ℕ) → shallow_places (listed (shallow_of cards coefficients) k n) ≡ listed (λ i. get_or cards (6 * i) 0) k n
@@ -32,11 +33,12 @@ places_of cards coefficients k (suc n) =
     rw (row_at 0 6 cards k 0 (omega arith), add-zero (6 * k), places_of cards coefficients (suc k) n)
 
 -- a card that gives a constituent had room
-pub shallow-room : (names : List (List ℕ)) (mains : List ℕ) (cards line : List ℕ) (n : ℕ) (r : ShallowRead) → r.step ≡ Gives → shallow_gives r ≡ next_shallow names mains (places_in 6 cards n) line → n < most_shallows
+pub shallow-room : (names : List (List ℕ)) (mains : List ℕ) (cards line : List ℕ) (n : ℕ) (r : Result (Option ShallowRow) Fault) (row : ShallowRow) → r ≡ Ok (Some row)
+    → next_gives in_row r ≡ next_shallow names mains (places_in 6 cards n) line → n < most_shallows
 unfolding next_shallow
-shallow-room names mains cards line n r told card =
-    let e = sym card ∙ ap (λ (s : ShallowStep). step_gives s (in_rows r.card r.coefficients)) told in
-    rw (listed-length (λ i. get_or cards (6 * i) 0) 0 n) at (had-room most_shallows TooManyShallows (length (places_in 6 cards n)) line (shallow_card names mains (places_in 6 cards n) line) _ e)
+shallow-room names mains cards line n r row told card =
+    let e = sym card ∙ ap (next_gives in_row) told in
+    rw (listed-length (λ i. get_or cards (6 * i) 0) 0 n) at (had-room most_shallows TooManyShallows (length (places_in 6 cards n)) line (shallow_card names mains (places_in 6 cards n) line) (in_row row) e)
 
 -- a constituent stored in the next rows
 pub shallow-put : (cards : List ℕ) (coefficients : List ℤ) (card : List ℕ) (row : List ℤ) (n : ℕ) → length card ≡ 6 → length row ≡ 4 → 6 * n + 6 ≤ length cards → 4 * n + 4 ≤ length coefficients
@@ -54,10 +56,10 @@ shallow-put cards coefficients card row n wide wide' fits fits' =
 
 -- the cards from byte `at` on, as the code reads the line there and steps to the next; or none left
 module _ (names : List (List ℕ)) (mains : List ℕ) (file : List ℕ) (at n : ℕ) (cards : List ℕ) (coefficients : List ℤ) (count : ℕ) where
-  pub shallows-step : (next : ℕ) (line : List ℕ) (r : ShallowRead) → at < length file → line ≡ first_line (drop at file) → drop next file ≡ rest_lines (drop at file)
-      → shallow_gives r ≡ next_shallow names mains (places_in 6 cards count) line
+  pub shallows-step : (next : ℕ) (line : List ℕ) (r : Result (Option ShallowRow) Fault) → at < length file → line ≡ first_line (drop at file) → drop next file ≡ rest_lines (drop at file)
+      → next_gives in_row r ≡ next_shallow names mains (places_in 6 cards count) line
       → shallows_from names mains (lines_of (drop at file)) n (listed (shallow_of cards coefficients) 0 count)
-      ≡ onward_or_end (shallow_gives r) n (given (listed (shallow_of cards coefficients) 0 count) (lines_of (drop next file)) (n + 1))
+      ≡ onward_or_end (next_gives in_row r) n (given (listed (shallow_of cards coefficients) 0 count) (lines_of (drop next file)) (n + 1))
       (λ s. shallows_from names mains (lines_of (drop next file)) (n + 1) (listed (shallow_of cards coefficients) 0 count ++ (s ∷ [])))
   unfolding shallows_from
   shallows-step next line r h first rest card =

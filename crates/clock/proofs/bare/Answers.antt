@@ -2,7 +2,6 @@
 use mathlib.Core.Path.{refl, ap, ◌∙◌}
 use Rattle.station.specs.declared.Station.{Station}
 use Rattle.clock.specs.View.{view}
-use borrow.Author.Rules.{rules}
 use Rattle.clock.proofs.bare.Goals as goal
 
 pub returns : goal.returns

@@ -1,12 +1,37 @@
--- `clock::height_lent` meets its contract: the height from the parts that the clock keeps. Assumes nothing.
+-- `clock::height_lent` meets its contract: refused by what is asked first, or the month's height (`Posed` in calls). Assumes nothing.
 use borrow.Author.Rules.{rules}
-use Rattle.clock.proofs.Lent.{parts-made, from_parts}
+use native.Mathlib.Omega.{arith}
+use Prim.Native.Nat.{◌≤◌}
+use mathlib.Core.Path.{sym}
+use mir.Syntax.{w64}
+use mir.Val.{SFits}
+use mir.ValLaws.{to_z-of_z}
+use Rattle.limits.specs.Limits.{most_minutes}
+use Rattle.table.specs.inner.View.{table_of}
+use Rattle.station.specs.inner.Station.{station_of}
+use Rattle.calls.proofs.asked.Passed.{height-within}
+use Rattle.calls.proofs.Posed.{height-refused, height-given}
+use Rattle.clock.specs.View.{view, month_in}
 use Rattle.clock.proofs.height_lent.Goals as goal
 
-pub height_from-requires : goal.height_from-requires
-height_from-requires c =
-    parts-made _ c.requires
+pub height-requires : goal.height-requires
+height-requires c =
+    let k = c.args.lent.now in
+    let w = height-within k.tabled k.stationed k.dated k.last c.args.minute (sym (rw c.there.ensures at c.in_default.ensures)) in
+    let sound = c.requires w.0 in
+    let within : c.args.minute ≤ most_minutes = omega (arith, w.1, sound.last) in
+    record { lent = c.lent.ensures.lent sound; minute_bound = within }
+
+pub returns-in-Err : goal.returns-in-Err
+unfolding view
+returns-in-Err c =
+    let k = c.args.lent.now in
+    record { returns = height-refused k.tabled (table_of k.table) k.stationed (station_of k.station) k.dated (month_in k) c.args.minute _ _ (sym (rw c.there.ensures at c.in-Err.ensures)) }
 
 pub returns : goal.returns
+unfolding view
 returns c =
-    from_parts _ _ _ c.height_from.ensures
+    let k = c.args.lent.now in
+    let fits : SFits w64 c.height.result = search rules in
+    rw (to_z-of_z w64 c.height.result fits, c.height.ensures.value, c.lent.ensures.constituents)
+    (record { returns = height-given k.tabled (table_of k.table) k.stationed (station_of k.station) k.dated (month_in k) c.args.minute (sym (rw c.there.ensures at c.in_default.ensures)) })

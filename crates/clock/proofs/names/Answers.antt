@@ -1,5 +1,4 @@
 -- `clock::names` meets its contract: by whether a table is there. Assumes nothing.
-use borrow.Author.Rules.{rules}
 use Rattle.columns.specs.Names.{names_from}
 use Rattle.clock.specs.View.{view}
 use Rattle.clock.proofs.names.Goals as goal

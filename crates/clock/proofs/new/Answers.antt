@@ -1,7 +1,6 @@
 -- `clock::new` meets its contract: a bare clock without a table. Assumes nothing.
-use mathlib.Core.Bool.{true, false, true≢false}
-use mathlib.Core.Path.{◌≡◌, sym, ◌∙◌}
-use borrow.Author.Rules.{rules}
+use mathlib.Core.Bool.{true≢false}
+use mathlib.Core.Path.{sym, ◌∙◌}
 use Rattle.clock.proofs.new.Goals as goal
 
 pub returns : goal.returns

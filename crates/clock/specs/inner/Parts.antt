@@ -1,16 +1,15 @@
 -- Only inner contracts cite this: what the steps of the calls make of the code's struct.
 -- Assumes nothing.
-use Rattle.std.specs.Prelude.{ℕ, min, true, false}
+use Rattle.std.specs.Prelude.{ℕ, min, true, false, Ok}
 use Rattle.limits.specs.Limits.{most_records}
 use Rattle.station.specs.declared.Station.{Station}
 use Rattle.month_prepared.specs.declared.Month.{Month}
-use Rattle.refusals.specs.declared.Answer.TheVariants.{Accepted}
 use Rattle.clock.specs.declared.Clock.{Clock}
 use Rattle.clock.specs.declared.After.{After}
 
 -- what an accepted call leaves
 abbrev pub accepts : Clock → After
-accepts c = record { answer = Accepted; clock = c }
+accepts c = record { answer = Ok tt; clock = c }
 
 abbrev pub with_station : Clock → Station → Clock
 with_station c s =

@@ -1,5 +1,4 @@
 -- `columns::all_among` meets its contract. Every column is of the kind when the run of the kind reaches the end: `every-run`. Assumes nothing.
-use borrow.Author.Rules.{rules}
 use Rattle.columns.specs.Bytes.{among}
 use Rattle.columns.proofs.Columns.{every-run}
 use Rattle.columns.proofs.all_among.Goals as goal

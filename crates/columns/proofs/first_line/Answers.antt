@@ -1,5 +1,4 @@
 -- `columns::first_line` meets its contract. The part as long as the run of bytes that are not LF is that run: `leading-is`. Assumes nothing.
-use borrow.Author.Rules.{rules}
 use mathlib.Core.Path.{sym, ◌∙◌}
 use Rattle.columns.specs.Lines.{in_line}
 use Rattle.columns.proofs.Bytes.{leading-is}

@@ -1,5 +1,4 @@
 -- `columns::is_blank` meets its contract. A line with as many columns as it has bytes is itself: `padded-all`. Assumes nothing.
-use borrow.Author.Rules.{rules}
 use lib.ListN.{length}
 use native.Mathlib.Nat.{sub-zero}
 use Rattle.columns.proofs.Columns.{padded-all}

@@ -1,6 +1,5 @@
 -- `columns::line_good` meets its contract. Both tests as the definition has them; a line with as many columns as it has bytes is itself: `padded-all`. Assumes nothing.
 use native.Mathlib.Omega.{arith}
-use borrow.Author.Rules.{rules}
 use Prim.Native.Nat.{◌≤◌, ◌<◌}
 use lib.ListN.{length}
 use native.Mathlib.Nat.{sub-zero}

@@ -7,7 +7,7 @@ use mathlib.Core.Bool.{true, cond, ◌&&◌}
 use lib.ListN.{length, get_or}
 use lib.Dec.{eqb}
 use native.Mathlib.Omega.{arith}
-use Rattle.columns.specs.declared.names.Found.TheVariants.{At, Nothing}
+use Rattle.std.specs.Prelude.{Some, None}
 use Rattle.columns.specs.Columns.{padded}
 use Rattle.columns.specs.Names.{same, name_at, names_from, place_from}
 
@@ -22,11 +22,11 @@ unfolding same padded
 same_none f g s t j e h = let m : e - j ≡ 0 = omega arith in rw m
 
 pub place-more : (name names : List ℕ) (k n : ℕ) → k < n
-    → place_from name (names_from names k (n - k)) k ≡ cond (same name (name_at names k)) (At k) (place_from name (names_from names (k + 1) (n - (k + 1))) (k + 1))
+    → place_from name (names_from names k (n - k)) k ≡ cond (same name (name_at names k)) (Some k) (place_from name (names_from names (k + 1) (n - (k + 1))) (k + 1))
 unfolding place_from names_from
 place-more name names k n h = let e : n - k ≡ suc (n - (k + 1)) = omega arith in rw e
 
-pub place_none : (name names : List ℕ) (k n : ℕ) → n ≤ k → place_from name (names_from names k (n - k)) k ≡ Nothing
+pub place_none : (name names : List ℕ) (k n : ℕ) → n ≤ k → place_from name (names_from names k (n - k)) k ≡ None
 unfolding place_from names_from
 place_none name names k n h = let e : n - k ≡ 0 = omega arith in rw e
 

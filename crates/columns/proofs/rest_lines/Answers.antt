@@ -1,6 +1,5 @@
 -- `columns::rest_lines` meets its contract. The file behind its first line and an LF; empty where the line lacks its LF. Assumes nothing.
 use native.Mathlib.Omega.{arith}
-use borrow.Author.Rules.{rules}
 use mathlib.Core.Path.{sym}
 use Prim.Native.Nat.{◌≤◌, ◌-◌, ◌+◌}
 use lib.ListN.{length, drop, length-drop, drop_of_length-le}

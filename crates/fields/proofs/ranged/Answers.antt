@@ -1,6 +1,5 @@
 -- `fields::ranged` meets its contract. A size from the cap on is outside the range, a smaller one is made a signed number: laws of `Ranges`. Assumes nothing.
 use native.Mathlib.Omega.{arith}
-use borrow.Author.Rules.{rules}
 use mathlib.Core.Path.{◌≡◌, sym}
 use Prim.Native.Nat.{suc, ◌-◌, ◌<◌}
 use lib.IntN.{negsuc, ◌-ℤ◌}
@@ -30,9 +29,9 @@ returns-then-negative c =
     let r = rw (to_z-of_z w64 (negsuc 0 -ℤ to_z w64 m) (minus-fits m h), minus_is m h) at c.within-then-negative.ensures in
     rw (c.if-negative.true, e) (simp (to_z-of_z w64 c.args.low c.ranges.low, to_z-of_z w64 c.args.high c.ranges.high) at r)
 
-pub returns-then-size-gt9223372036854775807 : goal.returns-then-size-gt9223372036854775807
-returns-then-size-gt9223372036854775807 c =
-    rw c.if-negative.false (sym (out-above c.args.low c.args.high c.ranges.low c.ranges.high c.args.size c.if-size-gt9223372036854775807.true))
+pub returns-then-size : goal.returns-then-size
+returns-then-size c =
+    rw c.if-negative.false (sym (out-above c.args.low c.args.high c.ranges.low c.ranges.high c.args.size c.if-size.true))
 
 pub returns : goal.returns
 returns c =

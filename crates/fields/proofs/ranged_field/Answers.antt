@@ -1,5 +1,4 @@
 -- `fields::ranged_field` meets its contract. What is kept of a field has its answer: `written-gives`. Assumes nothing.
-use borrow.Author.Rules.{rules}
 use mathlib.Core.Path.{◌∙◌}
 use mir.Syntax.{w64}
 use mir.ValLaws.{to_z-of_z}
@@ -8,13 +7,13 @@ use Rattle.fields.specs.Number.{ranged}
 use Rattle.fields.proofs.Ranges.{written-gives}
 use Rattle.fields.proofs.ranged_field.Goals as goal
 
-pub returns-in-Of : goal.returns-in-Of
-returns-in-Of c =
+pub returns-in-Some : goal.returns-in-Some
+returns-in-Some c =
     let e = written-gives c.args.low c.args.high c.ranges.low c.ranges.high c.args.format (columns c.args.line.now c.args.from c.args.width) c.written_in-written.result c.written_in-written.ensures in
-    (simp (to_z-of_z w64 c.args.low c.ranges.low, to_z-of_z w64 c.args.high c.ranges.high) at c.ranged.ensures) ∙ (rw c.in-Of.is at e)
+    (simp (to_z-of_z w64 c.args.low c.ranges.low, to_z-of_z w64 c.args.high c.ranges.high) at c.ranged.ensures) ∙ (rw c.in-Some.is at e)
 
-pub returns-in-Bad : goal.returns-in-Bad
+pub returns-in-None : goal.returns-in-None
 unfolding ranged
-returns-in-Bad c =
+returns-in-None c =
     let e = written-gives c.args.low c.args.high c.ranges.low c.ranges.high c.args.format (columns c.args.line.now c.args.from c.args.width) c.written_in-written.result c.written_in-written.ensures in
-    rw c.in-Bad.is at e
+    rw c.in-None.is at e

@@ -1,5 +1,4 @@
 -- `fields::size_of` meets its contract. By cases on the format. Assumes nothing.
-use borrow.Author.Rules.{rules}
 use Rattle.fields.specs.inner.Kept.{kept_of}
 use Rattle.fields.proofs.size_of.Goals as goal
 

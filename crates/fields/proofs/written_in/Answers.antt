@@ -1,6 +1,5 @@
 -- `fields::written_in` meets its contract. A field is blanks and what is behind them: `field-behind`; the two ways of the sign. Assumes nothing.
 use native.Mathlib.Omega.{arith}
-use borrow.Author.Rules.{rules}
 use mathlib.Core.Path.{sym, ◌∙◌}
 use Rattle.columns.proofs.Columns.{padded-next}
 use Rattle.fields.specs.inner.Kept.{written_in}

@@ -1,23 +1,21 @@
 -- Only inner contracts cite this: what the reader keeps of a field: its sign, and its size behind the sign, capped.
-use Rattle.std.specs.Prelude.{ℕ, List, Bool, true, false, cond, drop}
+use Rattle.std.specs.Prelude.{ℕ, List, Bool, true, false, cond, drop, Option, Some, None}
 use Rattle.fields.specs.Numerals.{begins, whole_good, whole_size, fixed_good, fixed_size}
 use Rattle.fields.specs.inner.Cap.{kept}
 use Rattle.fields.specs.Number.{Contents, numeric, malformed, signed}
-use Rattle.fields.specs.declared.numerals.Size.{Size}
-use Rattle.fields.specs.declared.numerals.Size.TheVariants.{Of, Bad}
 use Rattle.fields.specs.declared.Written.{Written}
 use Rattle.fields.specs.declared.Format.{Format}
 use Rattle.fields.specs.declared.Format.TheVariants.{Whole, Fixed}
 
 -- of a field behind its sign
-unfoldable pub kept_of : Format → List ℕ → Size
+unfoldable pub kept_of : Format → List ℕ → Option ℕ
 kept_of Whole bs = kept (whole_good bs) (whole_size bs)
 kept_of (Fixed decimals) bs = kept (fixed_good decimals bs) (fixed_size decimals bs)
 
 -- what it stands for
-abbrev pub kept_gives : Bool → Size → Contents
-kept_gives negative (Of size) = numeric (signed negative size)
-kept_gives negative Bad = malformed
+abbrev pub kept_gives : Bool → Option ℕ → Contents
+kept_gives negative (Some size) = numeric (signed negative size)
+kept_gives negative None = malformed
 
 -- of a field behind its blanks: a minus is byte 45
 unfoldable pub written_in : Format → List ℕ → Written

@@ -1,5 +1,5 @@
 -- `hourly::write_cards` meets its contract: what is asked of the heights, then of the room; then all cards (`Given`). Assumes nothing.
-use mathlib.Core.Path.{◌≡◌, sym, ap, ◌∙◌}
+use mathlib.Core.Path.{◌≡◌, refl, sym, ◌∙◌}
 use mathlib.Core.List.{List}
 use Prim.Native.Nat.{◌*◌, ◌/◌}
 use native.Mathlib.Omega.{arith}
@@ -9,7 +9,7 @@ use lib.Seq.{sets}
 use Rattle.calendar.specs.Calendar.{month_days}
 use Prim.{Unit}
 use Prim.Native.Nat.{ℕ}
-use Rattle.refusals.specs.Outcome.{Outcome, accepted, outcome_of, number_of}
+use Rattle.refusals.specs.Outcome.{Outcome, accepted, refused, number_of}
 use Rattle.hourly.specs.Format.{heights_a_card, narrow}
 use Rattle.hourly.specs.Month.{centimetres, heights_asked}
 use Rattle.hourly.specs.Writing.{cards_written}
@@ -37,25 +37,25 @@ module _ (hours : List ℤ) (station year month : ℕ) (long : length hours ≡ 
         let n = 2 * month_days year month in
         omega (arith, cards-length narrow hours station year month all-fitting n 0 (omega (arith, long)), long)
 
-pub returns-in-Refused : goal.returns-in-Refused
-returns-in-Refused c =
-    height-refused (cards_in c.args.hours.now c.args.station c.args.year c.args.month) c.args.out.now (number_of c.in-Refused.refusal) c.in-Refused.place
-    (sym (asked c.args.hours.now c.args.station c.args.year c.args.month c.requires (outcome_of c.heights_answer-answer.result) c.heights_answer-answer.ensures) ∙ ap outcome_of c.in-Refused.is)
+pub returns-in-Err : goal.returns-in-Err
+returns-in-Err c =
+    height-refused (cards_in c.args.hours.now c.args.station c.args.year c.args.month) c.args.out.now (number_of c.in-Err.refused.refusal) c.in-Err.refused.place
+    (sym (asked c.args.hours.now c.args.station c.args.year c.args.month c.requires (refused (number_of c.in-Err.refused.refusal) c.in-Err.refused.place) c.in-Err.ensures))
 
 pub returns-then-out-bytes : goal.returns-then-out-bytes
 returns-then-out-bytes c =
-    let accepted = all-accepted c.args.hours.now c.args.station c.args.year c.args.month c.requires (outcome_of c.heights_answer-answer.result) c.heights_answer-answer.ensures (ap outcome_of c.in_default.is) in
-    let long = bytes-length c.args.hours.now c.args.station c.args.year c.args.month c.requires (outcome_of c.heights_answer-answer.result) c.heights_answer-answer.ensures (ap outcome_of c.in_default.is) in
-    room-refused (cards_in c.args.hours.now c.args.station c.args.year c.args.month) c.args.out.now accepted (omega (arith, long, c.if-out-bytes.true))
+    let all = all-accepted c.args.hours.now c.args.station c.args.year c.args.month c.requires (accepted tt) c.in_default.ensures refl in
+    let long = bytes-length c.args.hours.now c.args.station c.args.year c.args.month c.requires (accepted tt) c.in_default.ensures refl in
+    rw c.at.ensures (room-refused (cards_in c.args.hours.now c.args.station c.args.year c.args.month) c.args.out.now all (omega (arith, long, c.if-out-bytes.true)))
 
 pub put_cards-requires : goal.put_cards-requires
 put_cards-requires c =
-    (omega (arith, c.if-out-bytes.false), (omega arith, all-fitting c.args.hours.now c.args.station c.args.year c.args.month c.requires (outcome_of c.heights_answer-answer.result) c.heights_answer-answer.ensures (ap outcome_of c.in_default.is)))
+    (omega (arith, c.if-out-bytes.false), (omega arith, all-fitting c.args.hours.now c.args.station c.args.year c.args.month c.requires (accepted tt) c.in_default.ensures refl))
 
 pub returns : goal.returns
 returns c =
-    let accepted = all-accepted c.args.hours.now c.args.station c.args.year c.args.month c.requires (outcome_of c.heights_answer-answer.result) c.heights_answer-answer.ensures (ap outcome_of c.in_default.is) in
-    let long = bytes-length c.args.hours.now c.args.station c.args.year c.args.month c.requires (outcome_of c.heights_answer-answer.result) c.heights_answer-answer.ensures (ap outcome_of c.in_default.is) in
+    let all = all-accepted c.args.hours.now c.args.station c.args.year c.args.month c.requires (accepted tt) c.in_default.ensures refl in
+    let long = bytes-length c.args.hours.now c.args.station c.args.year c.args.month c.requires (accepted tt) c.in_default.ensures refl in
     let n : length c.args.hours.now / 12 ≡ 2 * month_days c.args.year c.args.month = omega (arith, c.requires) in
     let stored : c.put_cards.new.out ≡ sets c.args.out.now 0 (cards_written narrow (cards_in c.args.hours.now c.args.station c.args.year c.args.month)) = rw n at c.put_cards.ensures in
-    rw (← long) (cards-given (cards_in c.args.hours.now c.args.station c.args.year c.args.month) c.args.out.now accepted (omega (arith, long, c.if-out-bytes.false)) _ stored)
+    rw (← long) (cards-given (cards_in c.args.hours.now c.args.station c.args.year c.args.month) c.args.out.now all (omega (arith, long, c.if-out-bytes.false)) _ stored)

@@ -9,7 +9,7 @@ use Rattle.month.proofs.frequency_at.Goals as goal
 
 pub returns-then-place-frequencies : goal.returns-then-place-frequencies
 returns-then-place-frequencies c =
-    c.at_u64.ensures ∙ sym (rw zero-add at (listed_at (λ k. get_or c.args.speeds.now k 0) 0 c.args.frequencies c.args.place 0 c.if-place-frequencies.true))
+    c.at.ensures ∙ sym (rw zero-add at (listed_at (λ k. get_or c.args.speeds.now k 0) 0 c.args.frequencies c.args.place 0 c.if-place-frequencies.true))
 
 pub returns-else-place-frequencies : goal.returns-else-place-frequencies
 returns-else-place-frequencies c =

@@ -1,5 +1,5 @@
 -- `month::prepare_records` meets its contract. The invariant: what is done before what is left gives the whole, and what is kept of the mains
--- is theirs. Each arm of the match cites what was worked out at the record (`Structs`).
+-- is theirs. Each arm of the `let .. else` cites what was worked out at the record (`Structs`).
 use mathlib.Core.Path.{◌≡◌, sym, ap, subst, ◌∙◌}
 use Prim.Native.Nat.{ℕ, ◌≤◌, ◌^◌, ◌<◌, min}
 use native.Mathlib.Omega.{arith}
@@ -40,132 +40,57 @@ loop-k-init c =
     let r₄ : length c.no_constituents-month.result.ps ≡ most_records = search rules in
     let r₅ : length c.no_constituents-month.result.qs ≡ most_records = search rules in
     let angles : length c.args.table.mainangles ≡ 448 = search rules in
-    let cards : length c.args.table.maincards ≡ 192 = search rules in (
-      starts c.args.table c.args.station c.args.given c.held-n.result c.held-n.ensures,
-      omega arith,
-      omega (arith, c.held-n.ensures),
-      record { arguments = r₁; lags = r₂; frequencies = r₃; ps = r₄; qs = r₅ },
-      subst (KeptBy c.args.given c.args.table.maincards c.args.table.mainangles c.args.table.satelliteangles c.args.table.satelliteratios) (sym c.none_kept-kept.ensures) (none_yet c.args.table c.args.station c.args.given angles cards),
-    )
+    let cards : length c.args.table.maincards ≡ 192 = search rules in record {
+      whole = starts c.args.table c.args.station c.args.given c.held-n.result c.held-n.ensures;
+      room = record { arguments = r₁; lags = r₂; frequencies = r₃; ps = r₄; qs = r₅ };
+      kept = subst (KeptBy c.args.given c.args.table) (sym c.none_kept-kept.ensures) (none_yet c.args.table c.args.station c.args.given angles cards);
+    }
 
 pub work_mains-requires : goal.work_mains-requires
 work_mains-requires c =
     record {
-      table = c.requires.table;
+      cosines = c.requires.table;
       given = c.requires.given;
-      kept_by = c.loop-k.invariant.4;
+      kept_by = c.loop-k.invariant.kept;
     }
 
-pub returns-in-TooLarge : goal.returns-in-TooLarge
-returns-in-TooLarge c =
+pub returns-in_default : goal.returns-in_default
+returns-in_default c =
     let at = c.find-found.ensures.value ∙ by-first-rows c.args.table.maincards c.args.table.mains c.args.table.shallowcards c.args.table.shallows (get_or c.args.station.places c.loop-k.k 0) c.first_rows-mains.ensures c.first_rows-shallows.ensures c.find-found.ensures.place_lt_places_in_abyte in
     refused c.args.table c.args.station c.args.given c.requires.mains_value c.loop-k.k c.find-found.result _ c.from_mains-w.result at c.work_mains.ensures c.from_mains-w.ensures
-    (held_upto c.loop-k.month c.loop-k.k) c.held-n.result c.loop-k.invariant.0 c.loop-k-test.true c.in-TooLarge.is
-
-pub offset_bounds-station-k : goal.offset_bounds-station-k
-offset_bounds-station-k c =
-    omega (arith, c.loop-k-test.true, c.loop-k.invariant.2)
-
-pub bounds-station-k-in-Within : goal.bounds-station-k-in-Within
-bounds-station-k-in-Within c =
-    omega (arith, c.loop-k-test.true, c.loop-k.invariant.2)
+    (held_upto c.loop-k.month c.loop-k.k) c.held-n.result c.loop-k.invariant.whole c.loop-k-test.true c.in_default.is
 
 pub weight_of-p-requires : goal.weight_of-p-requires
 weight_of-p-requires c =
-    let small : Sized (2 ^ 22) c.in-Within.xy = subst Small c.in-Within.is c.from_mains-w.ensures.small in
-    rw (in-register c.in-Within.xy.x small.x) small.x
-
-pub offset_bounds-station-k-in-Within : goal.offset_bounds-station-k-in-Within
-offset_bounds-station-k-in-Within c =
-    omega (arith, c.loop-k-test.true, c.loop-k.invariant.2)
-
-pub bounds-station-k-in-Within-2 : goal.bounds-station-k-in-Within-2
-bounds-station-k-in-Within-2 c =
-    omega (arith, c.loop-k-test.true, c.loop-k.invariant.2)
+    let small : Sized (2 ^ 22) c.in-Some.xy = subst Small c.in-Some.is c.from_mains-w.ensures.small in
+    rw (in-register c.in-Some.xy.x small.x) small.x
 
 pub weight_of-q-requires : goal.weight_of-q-requires
 weight_of-q-requires c =
-    let small : Sized (2 ^ 22) c.in-Within.xy = subst Small c.in-Within.is c.from_mains-w.ensures.small in
-    rw (in-register c.in-Within.xy.y small.y) small.y
-
-pub offset_bounds-month-k : goal.offset_bounds-month-k
-offset_bounds-month-k c =
-    omega (arith, c.loop-k-test.true, c.loop-k.invariant.2)
-
-pub bounds-month-k : goal.bounds-month-k
-bounds-month-k c =
-    omega (arith, c.loop-k-test.true, c.loop-k.invariant.2)
-
-pub offset_bounds-station-k-in-Within-2 : goal.offset_bounds-station-k-in-Within-2
-offset_bounds-station-k-in-Within-2 c =
-    omega (arith, c.loop-k-test.true, c.loop-k.invariant.2)
-
-pub bounds-station-k-in-Within-3 : goal.bounds-station-k-in-Within-3
-bounds-station-k-in-Within-3 c =
-    omega (arith, c.loop-k-test.true, c.loop-k.invariant.2)
-
-pub offset_bounds-month-k-in-Within : goal.offset_bounds-month-k-in-Within
-offset_bounds-month-k-in-Within c =
-    omega (arith, c.loop-k-test.true, c.loop-k.invariant.2)
-
-pub bounds-month-k-in-Within : goal.bounds-month-k-in-Within
-bounds-month-k-in-Within c =
-    omega (arith, c.loop-k-test.true, c.loop-k.invariant.2)
-
-pub offset_bounds-month-k-in-Within-2 : goal.offset_bounds-month-k-in-Within-2
-offset_bounds-month-k-in-Within-2 c =
-    omega (arith, c.loop-k-test.true, c.loop-k.invariant.2)
-
-pub bounds-month-k-in-Within-2 : goal.bounds-month-k-in-Within-2
-bounds-month-k-in-Within-2 c =
-    omega (arith, c.loop-k-test.true, c.loop-k.invariant.2)
-
-pub offset_bounds-month-k-in-Within-3 : goal.offset_bounds-month-k-in-Within-3
-offset_bounds-month-k-in-Within-3 c =
-    omega (arith, c.loop-k-test.true, c.loop-k.invariant.2)
-
-pub bounds-month-k-in-Within-3 : goal.bounds-month-k-in-Within-3
-bounds-month-k-in-Within-3 c =
-    omega (arith, c.loop-k-test.true, c.loop-k.invariant.2)
-
-pub offset_bounds-month-k-in-Within-4 : goal.offset_bounds-month-k-in-Within-4
-offset_bounds-month-k-in-Within-4 c =
-    omega (arith, c.loop-k-test.true, c.loop-k.invariant.2)
-
-pub bounds-month-k-in-Within-4 : goal.bounds-month-k-in-Within-4
-bounds-month-k-in-Within-4 c =
-    omega (arith, c.loop-k-test.true, c.loop-k.invariant.2)
-
-pub overflow_add-k : goal.overflow_add-k
-overflow_add-k c =
-    omega (arith, c.loop-k-test.true, c.loop-k.invariant.2)
-
-pub loop-k-smaller : goal.loop-k-smaller
-loop-k-smaller c =
-    omega (arith, c.loop-k-test.true, c.loop-k.invariant.2)
+    let small : Sized (2 ^ 22) c.in-Some.xy = subst Small c.in-Some.is c.from_mains-w.ensures.small in
+    rw (in-register c.in-Some.xy.y small.y) small.y
 
 pub loop-k-preserved : goal.loop-k-preserved
 loop-k-preserved c =
     let at = c.find-found.ensures.value ∙ by-first-rows c.args.table.maincards c.args.table.mains c.args.table.shallowcards c.args.table.shallows (get_or c.args.station.places c.loop-k.k 0) c.first_rows-mains.ensures c.first_rows-shallows.ensures c.find-found.ensures.place_lt_places_in_abyte in
-    let small : Sized (2 ^ 22) c.in-Within.xy = subst Small c.in-Within.is c.from_mains-w.ensures.small in
+    let small : Sized (2 ^ 22) c.in-Some.xy = subst Small c.in-Some.is c.from_mains-w.ensures.small in
     let amplitude = get_or c.args.station.amplitudes c.loop-k.k 0 in
     let fp : SFits w32 c.weight_of-p.result = search rules in
     let fq : SFits w32 c.weight_of-q.result = search rules in
-    let p : to_z w32 (of_z w32 c.weight_of-p.result) ≡ weight amplitude c.in-Within.xy.x = weighed amplitude c.in-Within.xy.x c.weight_of-p.result fp small.x c.weight_of-p.ensures in
-    let q : to_z w32 (of_z w32 c.weight_of-q.result) ≡ weight amplitude c.in-Within.xy.y = weighed amplitude c.in-Within.xy.y c.weight_of-q.result fq small.y c.weight_of-q.ensures in
-    let k : c.loop-k.k < most_records = omega (arith, c.loop-k-test.true, c.loop-k.invariant.2) in
-    rw (p, q) (
-      accepted c.args.table c.args.station c.args.given c.requires.mains_value c.loop-k.k c.find-found.result _ c.from_mains-w.result at c.work_mains.ensures c.from_mains-w.ensures
-          (held_upto c.loop-k.month c.loop-k.k) c.held-n.result c.loop-k.invariant.0 c.loop-k-test.true c.in-Within.xy c.in-Within.is c.frequency_at.result _ c.frequency_at.ensures
-          (stands-last c.loop-k.month c.loop-k.k c.from_mains-w.result.argument (get_or c.args.station.lags c.loop-k.k 0) c.frequency_at.result (weight amplitude c.in-Within.xy.x) (weight amplitude c.in-Within.xy.y) c.loop-k.invariant.3 k),
-      omega (arith, c.loop-k-test.true),
-      c.loop-k.invariant.2,
-      room-kept c.loop-k.month c.loop-k.k c.from_mains-w.result.argument (get_or c.args.station.lags c.loop-k.k 0) c.frequency_at.result (weight amplitude c.in-Within.xy.x) (weight amplitude c.in-Within.xy.y) c.loop-k.invariant.3,
-      c.work_mains.ensures.kept,
-    )
+    let p : to_z w32 (of_z w32 c.weight_of-p.result) ≡ weight amplitude c.in-Some.xy.x = weighed amplitude c.in-Some.xy.x c.weight_of-p.result fp small.x c.weight_of-p.ensures in
+    let q : to_z w32 (of_z w32 c.weight_of-q.result) ≡ weight amplitude c.in-Some.xy.y = weighed amplitude c.in-Some.xy.y c.weight_of-q.result fq small.y c.weight_of-q.ensures in
+    let k : c.loop-k.k < most_records = omega (arith, c.loop-k-test.true, c.held-n.ensures) in
+    rw (p, q)
+    (record {
+      whole = accepted c.args.table c.args.station c.args.given c.requires.mains_value c.loop-k.k c.find-found.result _ c.from_mains-w.result at c.work_mains.ensures c.from_mains-w.ensures
+          (held_upto c.loop-k.month c.loop-k.k) c.held-n.result c.loop-k.invariant.whole c.loop-k-test.true c.in-Some.xy c.in-Some.is c.frequency_at.result _ c.frequency_at.ensures
+          (stands-last c.loop-k.month c.loop-k.k c.from_mains-w.result.argument (get_or c.args.station.lags c.loop-k.k 0) c.frequency_at.result (weight amplitude c.in-Some.xy.x) (weight amplitude c.in-Some.xy.y) c.loop-k.invariant.room k);
+      room = room-kept c.loop-k.month c.loop-k.k c.from_mains-w.result.argument (get_or c.args.station.lags c.loop-k.k 0) c.frequency_at.result (weight amplitude c.in-Some.xy.x) (weight amplitude c.in-Some.xy.y) c.loop-k.invariant.room;
+      kept = c.work_mains.ensures.kept;
+    })
 
 pub returns : goal.returns
 returns c =
-    let e : c.loop-k.k ≡ c.held-n.result = omega (arith, c.loop-k-test.false, c.loop-k.invariant.1) in
-    let m : min c.held-n.result most_records ≡ c.held-n.result = omega (arith, c.loop-k.invariant.2) in
-    rw m (ap (λ (i : ℕ). outcome.accepted (held_upto c.loop-k.month i)) (sym e) ∙ ends c.args.table c.args.station c.args.given (held_upto c.loop-k.month c.loop-k.k) c.held-n.result c.loop-k.k c.loop-k-test.false c.loop-k.invariant.0)
+    let m : min c.held-n.result most_records ≡ c.held-n.result = omega (arith, c.held-n.ensures) in
+    let e : c.loop-k.k ≡ c.held-n.result = omega (arith, c.loop-k-test.false, c.loop-k.auto.k-end) in
+    rw m (ap (λ (i : ℕ). outcome.accepted (held_upto c.loop-k.month i)) (sym e) ∙ ends c.args.table c.args.station c.args.given (held_upto c.loop-k.month c.loop-k.k) c.held-n.result c.loop-k.k c.loop-k-test.false c.loop-k.invariant.whole)

@@ -1,7 +1,7 @@
 -- Only inner contracts cite this: the month that the code answers with, and the lists that rows of the code's table stand for.
-use Rattle.std.specs.Prelude.{ℕ, List, get_or}
+use Rattle.std.specs.Prelude.{ℕ, List, Result, Ok, Err, get_or}
 use Rattle.refusals.specs.Outcome.{Outcome, accepted, refused, number_of}
-use Rattle.refusals.specs.declared.Refusal.TheVariants as refusal
+use Rattle.refusals.specs.declared.Refused.{Refused}
 use Rattle.month_prepared.specs.Prepared.{Constituent}
 use Rattle.month_prepared.specs.inner.View.{constituents_from, constituents_of}
 use Rattle.month_prepared.specs.declared.Month.{Month}
@@ -12,17 +12,11 @@ use Rattle.month_arguments.specs.Longitudes.{Longitudes}
 use Rattle.month_satellites.specs.Latitude.{Factors}
 use Rattle.month_workings.specs.inner.View.{mains_of, shallows_of}
 use Rattle.month.specs.Month.{records_prepared}
-use Rattle.month.specs.declared.Preparation.{Preparation}
-use Rattle.month.specs.declared.Preparation.TheVariants as preparation
-use Rattle.month.specs.declared.Prepared as code
 
--- "A refusal returns its number and a place": number 11, and the record
-abbrev pub answered_with : Preparation → Month → Outcome (List Constituent)
-answered_with preparation.Ready m = accepted (constituents_of m)
-answered_with (preparation.TooLarge place) m = refused (number_of refusal.TooLarge) place
-
-abbrev pub prepared_of : code.Prepared → Outcome (List Constituent)
-prepared_of r = answered_with r.answer r.month
+-- "A refusal returns its number and a place"
+abbrev pub prepared_of : Result Month Refused → Outcome (List Constituent)
+prepared_of (Ok m) = accepted (constituents_of m)
+prepared_of (Err e) = refused (number_of e.refusal) e.place
 
 -- the constituents at the first n places of a month
 abbrev pub held_upto : Month → ℕ → List Constituent

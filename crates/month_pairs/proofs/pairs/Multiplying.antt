@@ -1,18 +1,16 @@
 -- The multiplications by one pair, one by one: what is left of them after each. By the definition's own clauses.
 use mathlib.Core.Path.{◌≡◌}
-use Prim.Native.Nat.{ℕ, zero, suc, ◌-◌, ◌≤◌, ◌<◌}
-use native.Mathlib.Nat.{not-suc-le-zero}
+use Prim.Native.Nat.{ℕ, suc, ◌+◌, ◌-◌, ◌≤◌, ◌<◌}
 use native.Mathlib.Omega.{arith}
 use Rattle.month_satellites.specs.Satellites.{Pair}
 use Rattle.refusals.specs.Checked.{good, ◌>>=◌}
 use Rattle.month_pairs.specs.Pairs.{Corrected, checked, times_pair, times_often}
 
--- so many times by one pair
-pub often-next : (left : ℕ) (P p : Pair) (c : Corrected) → 0 < left → c ≡ checked (times_pair P p) → c >>= (λ Q. times_often (left - 1) Q p) ≡ times_often left P p
+-- so many times by one pair, k of them done
+pub often-next : (k n : ℕ) (P p : Pair) (c : Corrected) → k < n → c ≡ checked (times_pair P p) → c >>= (λ Q. times_often (n - (k + 1)) Q p) ≡ times_often (n - k) P p
 unfolding times_often
-often-next zero P p c h e = absurd (not-suc-le-zero h)
-often-next (suc n) P p c h e = let d : suc n - 1 ≡ n = omega arith in rw (e, d)
+often-next k n P p c h e = let d : n - k ≡ suc (n - (k + 1)) = omega arith in rw (e, d)
 
-pub often-none : (left : ℕ) (P p : Pair) → left ≤ 0 → good P ≡ times_often left P p
+pub often-none : (k n : ℕ) (P p : Pair) → n ≤ k → good P ≡ times_often (n - k) P p
 unfolding times_often
-often-none left P p h = let d : left ≡ 0 = omega arith in rw d
+often-none k n P p h = let d : n - k ≡ 0 = omega arith in rw d

@@ -4,12 +4,13 @@ use mathlib.Core.Path.{◌≡◌, refl, sym, ap, subst, ◌∙◌}
 use mathlib.Core.List.{List}
 use Prim.Native.Nat.{ℕ}
 use lib.IntN.{ℤ}
+use Rattle.std.specs.Prelude.{Option, Some, None}
 use Rattle.table.specs.inner.View.{listed, naturals, main_of, shallow_of}
 use Rattle.table.proofs.entries.Beyond.{entry_at}
 use Rattle.table.specs.Definitions.{Definition}
 use Rattle.table.proofs.definitions.OfRows.{definition_of, IsRow, found_at, found-row, found-is}
-use Rattle.table.specs.declared.definitions.Found.{Found}
-use Rattle.table.specs.declared.definitions.Found.TheVariants as found
+use Rattle.table.specs.declared.definitions.Defined.{Defined}
+use Rattle.table.specs.declared.definitions.Defined.TheVariants as found
 use Rattle.month_arguments.specs.Longitudes.{Longitudes, nodal}
 use Rattle.month_arguments.specs.Arguments as arguments
 use Rattle.month_arguments.specs.inner.Rows.{row_argument, arguments_in}
@@ -28,33 +29,33 @@ use Rattle.month_workings.specs.declared.worked.Worked.{Worked}
 
 module _ (g : Factors) (l : Longitudes) (maincards : List ℕ) (mainangles satelliteangles : List ℤ) (satelliteratios : List ℕ) (mains : ℕ) (shallowcards : List ℕ) (coefficients : List ℤ) (kept : List ℤ) where
   -- V and the pair of what a row stands for
-  abbrev meant : Found → Definition
+  abbrev meant : Option Defined → Definition
   meant = definition_of (main_of maincards mainangles satelliteangles satelliteratios) (shallow_of shallowcards coefficients)
 
-  abbrev IsReady : Found → Type 0
+  abbrev IsReady : Option Defined → Type 0
   IsReady r = Ready (argument_at l mainangles mains) (corrected_at g (nodal l) maincards satelliteangles satelliteratios mains) shallowcards r kept
 
-  argument_is : (r : Found) → IsRow mains r → IsReady r → argument_from (arguments_in kept) shallowcards coefficients r ≡ argument_of l (mains_of maincards mainangles satelliteangles satelliteratios mains) (meant r)
+  argument_is : (r : Option Defined) → IsRow mains r → IsReady r → argument_from (arguments_in kept) shallowcards coefficients r ≡ argument_of l (mains_of maincards mainangles satelliteangles satelliteratios mains) (meant r)
   unfolding argument_of
-  argument_is (found.Main k) h w =
+  argument_is (Some (found.Main k)) h w =
       w.kept.arguments k w.has ∙ sym (entry_at 0 (row_argument l mainangles) mains k h) ∙ main-row l maincards mainangles satelliteangles satelliteratios k
-  argument_is (found.Shallow k) h w =
+  argument_is (Some (found.Shallow k)) h w =
       shallow-argument-is (listed (row_argument l mainangles) 0 mains) (listed (row_corrected g (nodal l) maincards satelliteangles satelliteratios) 0 mains) shallowcards coefficients k kept (record { kept = w.kept; has = w.has })
       ∙ ap (λ all. arguments.argument_from_parts all (shallow_of shallowcards coefficients k)) (sym (mains-rows l maincards mainangles satelliteangles satelliteratios mains))
-  argument_is found.Nothing h w = refl
+  argument_is None h w = refl
 
-  correction-is : (r : Found) → IsRow mains r → IsReady r → pair_from (pairs_of kept) shallowcards coefficients r ≡ correction_of g l (mains_of maincards mainangles satelliteangles satelliteratios mains) (meant r)
+  correction-is : (r : Option Defined) → IsRow mains r → IsReady r → pair_from (pairs_of kept) shallowcards coefficients r ≡ correction_of g l (mains_of maincards mainangles satelliteangles satelliteratios mains) (meant r)
   unfolding correction_of
-  correction-is (found.Main k) h w =
+  correction-is (Some (found.Main k)) h w =
       w.kept.pairs k w.has ∙ sym (entry_at (good start_pair) (row_corrected g (nodal l) maincards satelliteangles satelliteratios) mains k h)
       ∙ sym (main-of-row g (nodal l) maincards mainangles satelliteangles satelliteratios k)
-  correction-is (found.Shallow k) h w =
+  correction-is (Some (found.Shallow k)) h w =
       shallow-pair-is (listed (row_argument l mainangles) 0 mains) (listed (row_corrected g (nodal l) maincards satelliteangles satelliteratios) 0 mains) shallowcards coefficients k kept (record { kept = w.kept; has = w.has })
       ∙ ap (λ all. pairs.pair_from_parts all (shallow_of shallowcards coefficients k)) (sym (mains-of-rows g (nodal l) maincards mainangles satelliteangles satelliteratios mains))
-  correction-is found.Nothing h w = refl
+  correction-is None h w = refl
 
   -- and so of what is found at a place
-  pub worked-out : (shallows place : ℕ) (r : Found) (w : Worked) → r ≡ found_at maincards mains shallowcards shallows place → IsReady r → FromMains kept shallowcards coefficients r w
+  pub worked-out : (shallows place : ℕ) (r : Option Defined) (w : Worked) → r ≡ found_at maincards mains shallowcards shallows place → IsReady r → FromMains kept shallowcards coefficients r w
       → IsWorked g l (mains_of maincards mainangles satelliteangles satelliteratios mains) (shallows_of shallowcards coefficients shallows) place w
   worked-out shallows place r w f ready is =
       let d = ap meant f ∙ found-is maincards mains shallowcards shallows place mainangles satelliteangles satelliteratios coefficients in
@@ -66,12 +67,12 @@ module _ (g : Factors) (l : Longitudes) (maincards : List ℕ) (mainangles satel
       }
 
 -- the mains of what is found are worked out, in each case
-module _ (argument : ℕ → ℕ) (corrected : ℕ → Corrected) (shallowcards : List ℕ) (r : Found) (before kept : List ℤ) where
-  pub ready-main : (k : ℕ) → r ≡ found.Main k → WithMain argument corrected k before kept → Ready argument corrected shallowcards r kept
+module _ (argument : ℕ → ℕ) (corrected : ℕ → Corrected) (shallowcards : List ℕ) (r : Option Defined) (before kept : List ℤ) where
+  pub ready-main : (k : ℕ) → r ≡ Some (found.Main k) → WithMain argument corrected k before kept → Ready argument corrected shallowcards r kept
   ready-main k e w = subst (λ f. Ready argument corrected shallowcards f kept) (sym e) (record { kept = w.kept; has = w.has })
 
-  pub ready-shallow : (k : ℕ) → r ≡ found.Shallow k → WithParts argument corrected (naturals 6 shallowcards k) kept → Ready argument corrected shallowcards r kept
+  pub ready-shallow : (k : ℕ) → r ≡ Some (found.Shallow k) → WithParts argument corrected (naturals 6 shallowcards k) kept → Ready argument corrected shallowcards r kept
   ready-shallow k e w = subst (λ f. Ready argument corrected shallowcards f kept) (sym e) (record { kept = w.kept; has = w.has })
 
-  pub ready-nothing : r ≡ found.Nothing → Kept argument corrected kept → Ready argument corrected shallowcards r kept
+  pub ready-nothing : r ≡ None → Kept argument corrected kept → Ready argument corrected shallowcards r kept
   ready-nothing e w = subst (λ f. Ready argument corrected shallowcards f kept) (sym e) (record { kept = w; has = tt })

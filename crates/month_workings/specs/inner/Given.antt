@@ -3,6 +3,7 @@ use Rattle.std.specs.Prelude.{ℕ, List, ℤ}
 use Rattle.month_arguments.specs.Longitudes.{nodal}
 use Rattle.month_arguments.specs.inner.Longitudes.{longitudes_of, Reduced}
 use Rattle.month_satellites.specs.inner.Factors.{AreFactors, factors_of}
+use Rattle.table.specs.declared.Table.{Table}
 use Rattle.month_pairs.specs.Pairs.{Corrected}
 use Rattle.month_workings.specs.inner.Kept.{argument_at, corrected_at, Kept}
 use Rattle.month_workings.specs.declared.workings.Given.{Given}
@@ -12,14 +13,14 @@ pub record IsGiven (given : Given) : Type 0 where
   pub factors : AreFactors given.factors
   pub longitudes : Reduced given.longitudes
 
--- V of main k
-abbrev pub argument_by : Given → List ℤ → ℕ → ℕ
-argument_by given angles = argument_at (longitudes_of given.longitudes) angles given.mains
+-- V of main k of a table
+abbrev pub argument_by : Given → Table → ℕ → ℕ
+argument_by given t = argument_at (longitudes_of given.longitudes) t.mainangles given.mains
 
--- the pair of main k, by refusal 11
-abbrev pub corrected_by : Given → List ℕ → List ℤ → List ℕ → ℕ → Corrected
-corrected_by given cards angles ratios = corrected_at (factors_of given.factors) (nodal (longitudes_of given.longitudes)) cards angles ratios given.mains
+-- the pair of main k of a table, by refusal 11
+abbrev pub corrected_by : Given → Table → ℕ → Corrected
+corrected_by given t = corrected_at (factors_of given.factors) (nodal (longitudes_of given.longitudes)) t.maincards t.satelliteangles t.satelliteratios given.mains
 
 -- what is kept of the mains is theirs
-abbrev pub KeptBy : Given → List ℕ → List ℤ → List ℤ → List ℕ → List ℤ → Type 0
-KeptBy given cards angles satelliteangles ratios kept = Kept (argument_by given angles) (corrected_by given cards satelliteangles ratios) kept
+abbrev pub KeptBy : Given → Table → List ℤ → Type 0
+KeptBy given t kept = Kept (argument_by given t) (corrected_by given t) kept

@@ -1,10 +1,10 @@
 -- Only inner contracts cite this: the lists that rows of the code's table stand for, and a constituent from what is kept of the mains.
-use Rattle.std.specs.Prelude.{ℕ, ◌+◌, ◌<◌, ◌≡◌, List, ℤ, pos, get_or}
+use Rattle.std.specs.Prelude.{Option, Some, None, ℕ, ◌+◌, ◌<◌, ◌≡◌, List, ℤ, pos, get_or}
 use Rattle.table.specs.Table.{Main, Shallow}
 use Rattle.table.specs.inner.View.{listed, naturals, main_of, shallow_of}
 use Rattle.table.specs.Definitions.{definition_at}
-use Rattle.table.specs.declared.definitions.Found.{Found}
-use Rattle.table.specs.declared.definitions.Found.TheVariants as found
+use Rattle.table.specs.declared.definitions.Defined.{Defined}
+use Rattle.table.specs.declared.definitions.Defined.TheVariants as found
 use Rattle.month_arguments.specs.Longitudes.{Longitudes}
 use Rattle.month_arguments.specs.Arguments as arguments
 use Rattle.month_arguments.specs.inner.Rows.{arguments_in}
@@ -26,28 +26,28 @@ abbrev pub shallows_of : List ℕ → List ℤ → ℕ → List Shallow
 shallows_of cards coefficients n = listed (shallow_of cards coefficients) 0 n
 
 -- the mains that a constituent needs are worked out
-abbrev pub HasMains : List ℕ → Found → List ℤ → Type 0
-HasMains shallowcards (found.Main k) kept = Has kept k
-HasMains shallowcards (found.Shallow k) kept = (j : ℕ) → j < get_or (naturals 6 shallowcards k) 1 0 → Has kept (get_or (naturals 6 shallowcards k) (2 + j) 0)
-HasMains shallowcards found.Nothing kept = Unit
+abbrev pub HasMains : List ℕ → Option Defined → List ℤ → Type 0
+HasMains shallowcards (Some (found.Main k)) kept = Has kept k
+HasMains shallowcards (Some (found.Shallow k)) kept = (j : ℕ) → j < get_or (naturals 6 shallowcards k) 1 0 → Has kept (get_or (naturals 6 shallowcards k) (2 + j) 0)
+HasMains shallowcards None kept = Unit
 
-pub record Ready (argument : ℕ → ℕ) (corrected : ℕ → Corrected) (shallowcards : List ℕ) (r : Found) (all : List ℤ) : Type 0 where
+pub record Ready (argument : ℕ → ℕ) (corrected : ℕ → Corrected) (shallowcards : List ℕ) (r : Option Defined) (all : List ℤ) : Type 0 where
   pub kept : Kept argument corrected all
   pub has : HasMains shallowcards r all
 
 -- V of a constituent, from the mains' V
-abbrev pub argument_from : List ℕ → List ℕ → List ℤ → Found → ℕ
-argument_from vs shallowcards coefficients (found.Main k) = get_or vs k 0
-argument_from vs shallowcards coefficients (found.Shallow k) = arguments.argument_from_parts vs (shallow_of shallowcards coefficients k)
-argument_from vs shallowcards coefficients found.Nothing = 0
+abbrev pub argument_from : List ℕ → List ℕ → List ℤ → Option Defined → ℕ
+argument_from vs shallowcards coefficients (Some (found.Main k)) = get_or vs k 0
+argument_from vs shallowcards coefficients (Some (found.Shallow k)) = arguments.argument_from_parts vs (shallow_of shallowcards coefficients k)
+argument_from vs shallowcards coefficients None = 0
 
 -- its pair, from the mains' pairs
-abbrev pub pair_from : List Corrected → List ℕ → List ℤ → Found → Corrected
-pair_from pairs shallowcards coefficients (found.Main k) = get_or pairs k (good start_pair)
-pair_from pairs shallowcards coefficients (found.Shallow k) = shallow.pair_from_parts pairs (shallow_of shallowcards coefficients k)
-pair_from pairs shallowcards coefficients found.Nothing = good (record { x = pos 0; y = pos 0 })
+abbrev pub pair_from : List Corrected → List ℕ → List ℤ → Option Defined → Corrected
+pair_from pairs shallowcards coefficients (Some (found.Main k)) = get_or pairs k (good start_pair)
+pair_from pairs shallowcards coefficients (Some (found.Shallow k)) = shallow.pair_from_parts pairs (shallow_of shallowcards coefficients k)
+pair_from pairs shallowcards coefficients None = good (record { x = pos 0; y = pos 0 })
 
-pub record FromMains (kept : List ℤ) (shallowcards : List ℕ) (coefficients : List ℤ) (r : Found) (w : Worked) : Type 0 where
+pub record FromMains (kept : List ℤ) (shallowcards : List ℕ) (coefficients : List ℤ) (r : Option Defined) (w : Worked) : Type 0 where
   pub argument : w.argument ≡ argument_from (arguments_in kept) shallowcards coefficients r
   pub correction : corrected_of w.corrected ≡ pair_from (pairs_of kept) shallowcards coefficients r
   pub small : Small w.corrected

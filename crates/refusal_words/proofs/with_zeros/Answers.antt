@@ -26,15 +26,13 @@ over-all : (n : ℕ) (words : List ℕ) → over n words (length words) ≡ word
 over-all n words = let z : 0 + length words ≡ length words = omega arith in rw (z, take-length words, zeros-left n (length words))
 
 pub loop-k-init : goal.loop-k-init
-loop-k-init c =
-    (omega arith, refl)
+loop-k-init c = refl
 
 pub loop-k-preserved : goal.loop-k-preserved
-loop-k-preserved c =
-    (omega arith, rw c.loop-k.invariant.1 (over-more 64 c.args.words.now c.loop-k.k c.loop-k-test.true c.requires))
+loop-k-preserved c = rw c.loop-k.invariant (over-more 64 c.args.words.now c.loop-k.k c.loop-k-test.true c.requires)
 
 pub returns : goal.returns
 unfolding zeros_behind
 returns c =
     let e : c.loop-k.k ≡ length c.args.words.now = omega arith in
-    c.loop-k.invariant.1 ∙ rw e (over-all 64 c.args.words.now)
+    c.loop-k.invariant ∙ rw e (over-all 64 c.args.words.now)

@@ -1,7 +1,8 @@
+-- `refusal_words::with_zeros`: the first k words are over the zeros.
 use mathlib.Core.Path.{◌≡◌}
-use Prim.Native.Nat.{ℕ, ◌-◌, ◌≤◌}
+use Prim.Native.Nat.{ℕ}
 use mathlib.Core.List.{List}
-use lib.ListN.{length, replicate}
+use lib.ListN.{replicate}
 use lib.Seq.{paste}
 use Rattle.refusal_words.proofs.with_zeros.Given as goal
 
@@ -10,7 +11,4 @@ abbrev pub over : ℕ → List ℕ → ℕ → List ℕ
 over n words k = paste (replicate n 0) 0 words k
 
 abbrev pub invariant-loop-k : goal.invariant-loop-k
-invariant-loop-k l = (l.k ≤ length l.words) × (l.text ≡ over 64 l.words l.k)
-
-abbrev pub decreases-loop-k : goal.decreases-loop-k
-decreases-loop-k l = length l.words - l.k
+invariant-loop-k l = l.text ≡ over 64 l.words l.k

@@ -1,12 +1,11 @@
 -- `table::put_i8` meets its contract: the loop copies the row number by number (`Copied`), each read back from its byte.
-use Prim.Native.Nat.{◌-◌}
 use borrow.Author.Rules.{rules}
 use lib.IntN.{pos}
-use lib.ListN.{length, get_or}
+use lib.ListN.{get_or}
 use mir.Syntax.{w8}
 use mir.Val.{SFits}
 use mir.ValLaws.{to_z-of_z}
-use Rattle.table.proofs.Rows.{Copied, copied_none, copied_next, copied_all}
+use Rattle.table.proofs.Rows.{copied_none, copied_next, copied_all}
 use Rattle.table.proofs.put_i8.Goals as goal
 
 pub loop-j-init : goal.loop-j-init

@@ -1,15 +1,5 @@
-use Prim.Native.Nat.{◌-◌}
-use borrow.Author.Rules.{rules}
-use lib.IntN.{pos}
-use lib.ListN.{length, get_or}
-use mir.Syntax.{w8}
-use mir.Val.{SFits}
-use mir.ValLaws.{to_z-of_z}
-use Rattle.table.proofs.Rows.{Copied, copied_none, copied_next, copied_all}
+use Rattle.table.proofs.Rows.{Copied}
 use Rattle.table.proofs.put_i8.Given as goal
 
 abbrev pub invariant-loop-j : goal.invariant-loop-j
 invariant-loop-j l = Copied l.initial.xs l.at l.row l.xs l.j
-
-abbrev pub decreases-loop-j : goal.decreases-loop-j
-decreases-loop-j l = length l.row - l.j

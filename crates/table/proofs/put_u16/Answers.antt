@@ -1,8 +1,5 @@
 -- `table::put_u16` meets its contract: the loop copies the row number by number (`Copied`).
-use Prim.Native.Nat.{◌-◌}
-use borrow.Author.Rules.{rules}
-use lib.ListN.{length}
-use Rattle.table.proofs.Rows.{Copied, copied_none, copied_next, copied_all}
+use Rattle.table.proofs.Rows.{copied_none, copied_next, copied_all}
 use Rattle.table.proofs.put_u16.Goals as goal
 
 pub loop-j-init : goal.loop-j-init

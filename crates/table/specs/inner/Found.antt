@@ -1,9 +1,9 @@
 -- Only inner contracts cite this: the first row with each place, and what is found by it.
-use Rattle.std.specs.Prelude.{ℕ, zero, suc, ◌<◌, ◌≡◌, cond, List, eqb, ltb, get_or}
+use Rattle.std.specs.Prelude.{Option, Some, None, ℕ, zero, suc, ◌<◌, ◌≡◌, cond, List, eqb, ltb, get_or}
 use Rattle.limits.specs.Limits.{places_in_a_byte}
 use Rattle.table.specs.inner.View.{naturals}
-use Rattle.table.specs.declared.definitions.Found.{Found}
-use Rattle.table.specs.declared.definitions.Found.TheVariants.{Main, Shallow, Nothing}
+use Rattle.table.specs.declared.definitions.Defined.{Defined}
+use Rattle.table.specs.declared.definitions.Defined.TheVariants.{Main, Shallow}
 
 -- the place in a row of cards of some width
 abbrev pub place_in : ℕ → List ℕ → ℕ → ℕ
@@ -19,5 +19,5 @@ pub record FirstRows (place_of : ℕ → ℕ) (rows : ℕ) (first : List ℕ) : 
   pub each : (place : ℕ) → place < places_in_a_byte → get_or first place 0 ≡ first_row place_of place 0 rows
 
 -- the first main's row, if it is one of so many, or else the first shallow constituent's, or nothing
-abbrev pub found_by : ℕ → ℕ → ℕ → ℕ → Found
-found_by main mains shallow shallows = cond (ltb main mains) (Main main) (cond (ltb shallow shallows) (Shallow shallow) Nothing)
+abbrev pub found_by : ℕ → ℕ → ℕ → ℕ → Option Defined
+found_by main mains shallow shallows = cond (ltb main mains) (Some (Main main)) (cond (ltb shallow shallows) (Some (Shallow shallow)) None)

@@ -1,8 +1,9 @@
 -- The minutes of turns as they are kept while more are found: each is in the search's range, and when none are left all are kept for which
 -- there are places.
 -- By induction on the strides, and by what `NextPost` says of the turns that are left. Assumes nothing.
-use mathlib.Core.Path.{◌≡◌, refl, sym, ap, ◌∙◌}
-use mathlib.Core.Bool.{Bool, true, false}
+use mathlib.Core.Path.{◌≡◌, refl, sym, ap, subst, ◌∙◌}
+use Rattle.std.specs.Prelude.{Option, None, Some, IfSome, MatchOption}
+use mathlib.Core.Bool.{Bool, false}
 use mathlib.Core.List.{List, [], ◌∷◌}
 use Prim.Native.Nat.{ℕ, zero, suc, ◌+◌, ◌-◌, ◌≤◌, ◌<◌}
 use native.Mathlib.Nat.{le_trans}
@@ -18,7 +19,7 @@ use Rattle.turns.specs.Cuts.{earlier_end, later_end}
 use Rattle.turns.proofs.bisection.Cuts.{by-test, end-within}
 use Rattle.turns.specs.Search.{Turn, turn_in, turns_from, turns_of}
 use Rattle.turns.specs.Search.{first_high, minutes_of}
-use Rattle.turns.specs.inner.Search.{NextPost, FoundPost, Upto, onwards}
+use Rattle.turns.specs.inner.Search.{IsNext, NextPost, FoundPost, Upto, onwards}
 use Rattle.turns.specs.declared.search.Next.{Next}
 use Rattle.turns.proofs.search.Strides.{smaller-within, turns-few}
 use Rattle.turns.proofs.search.Stored.{stored-in-front}
@@ -45,60 +46,63 @@ module _ (slope : ℕ → ℤ) (stride : ℕ) (some : 0 < stride) (last : ℕ) w
 
 -- ---- while turns are left: `next` is known, and `n` are kept in a list that was `kept₀`
 
-pub record Left (slope : ℕ → ℤ) (stride first last : ℕ) (kept₀ kept : List ℕ) (next : Next) (n : ℕ) : Type 0 where
-  pub turn : next.turn ≤ last
-  pub later : next.later ≤ last
-  pub there : next.slope ≡ slope next.later
+pub record Left (slope : ℕ → ℤ) (stride first last : ℕ) (kept₀ kept : List ℕ) (next : Option Next) (n : ℕ) : Type 0 where
+  pub is-next : IfSome next (IsNext slope last)
   pub room : length kept ≡ length kept₀
   pub count : n + length (onwards slope stride last next) ≡ length (turns_of slope stride first last)
   pub minutes : sets kept n (minutes_of (onwards slope stride last next)) ≡ sets kept₀ 0 (minutes_of (turns_of slope stride first last))
 
 module _ {slope : ℕ → ℤ} {stride first last : ℕ} where
-  pub left-first : {kept : List ℕ} {next : Next} → NextPost slope stride last first next → Left slope stride first last kept kept next 0
+  pub left-first : {kept : List ℕ} {next : Option Next} → NextPost slope stride last first next → Left slope stride first last kept kept next 0
   left-first {kept} p =
       let all = ap length p.turns in
       record {
-        turn = p.turn;
-        later = p.later;
-        there = p.there;
+        is-next = p.next;
         room = refl;
         count = omega arith;
         minutes = ap (λ (ts : List Turn). sets kept 0 (minutes_of ts)) (sym p.turns);
       }
 
-  module _ {kept₀ kept : List ℕ} {next : Next} {n : ℕ} (l : Left slope stride first last kept₀ kept next n) where
-    found-one : next.found ≡ true → onwards slope stride last next ≡ record { minute = next.turn; high = next.high } ∷ turns_of slope stride next.later last
-    found-one e = rw e
+  -- whether the first is high
+  pub high-first : (next : Option Next) → NextPost slope stride last first next → {high : Bool} → MatchOption next (high ≡ false) (λ (s : Next). high ≡ s.high) → high ≡ first_high (turns_of slope stride first last)
+  high-first None p e = e ∙ sym (ap first_high p.turns)
+  high-first (Some s) p e = e ∙ sym (ap first_high p.turns)
 
-    -- the turn found is one of all, so there are fewer before it than minutes
-    pub left-room : 0 < stride → next.found ≡ true → n < last
-    left-room some e =
-        let few = turns-few slope stride some last first in
-        let one = ap length (found-one e) in
-        let all = l.count in
-        omega arith
+  module _ {kept₀ kept : List ℕ} {next : Option Next} {n : ℕ} (l : Left slope stride first last kept₀ kept next n) where
+    module _ (s : Next) (e : next ≡ Some s) where
+      pub left-next : IsNext slope last s
+      left-next = subst (λ (o : Option Next). IfSome o (IsNext slope last)) e l.is-next
 
-    module _ (e : next.found ≡ true) {s : Next} (p : NextPost slope stride last next.later s) where
-      one_more : onwards slope stride last next ≡ record { minute = next.turn; high = next.high } ∷ onwards slope stride last s
-      one_more = found-one e ∙ ap (λ (ts : List Turn). record { minute = next.turn; high = next.high } ∷ ts) p.turns
+      found-one : onwards slope stride last next ≡ record { minute = s.turn; high = s.high } ∷ turns_of slope stride s.later last
+      found-one = rw e
 
-      pub left-fewer : length (onwards slope stride last s) < length (onwards slope stride last next)
-      left-fewer = let m = ap length one_more in omega arith
-
-      pub left-more : {kept' : List ℕ} → kept' ≡ set kept n next.turn → Left slope stride first last kept₀ kept' s (n + 1)
-      left-more is =
-          let m = ap length one_more in
+      -- the turn found is one of all, so there are fewer before it than minutes
+      pub left-room : 0 < stride → n < last
+      left-room some =
+          let few = turns-few slope stride some last first in
+          let one = ap length found-one in
           let all = l.count in
-          record {
-            turn = p.turn;
-            later = p.later;
-            there = p.there;
-            room = ap length is ∙ (length-set kept n next.turn ∙ l.room);
-            count = omega arith;
-            minutes = rw (is, add-one) (rw one_more at l.minutes);
-          }
+          omega arith
 
-    pub left-none : {high : Bool} → next.found ≡ false → high ≡ first_high (turns_of slope stride first last) → FoundPost (turns_of slope stride first last) kept₀ kept (record { count = n; high = high })
+      module _ {t : Option Next} (p : NextPost slope stride last s.later t) where
+        one_more : onwards slope stride last next ≡ record { minute = s.turn; high = s.high } ∷ onwards slope stride last t
+        one_more = found-one ∙ ap (λ (ts : List Turn). record { minute = s.turn; high = s.high } ∷ ts) p.turns
+
+        pub left-fewer : length (onwards slope stride last t) < length (onwards slope stride last next)
+        left-fewer = let m = ap length one_more in omega arith
+
+        pub left-more : {kept' : List ℕ} → kept' ≡ set kept n s.turn → Left slope stride first last kept₀ kept' t (n + 1)
+        left-more is =
+            let m = ap length one_more in
+            let all = l.count in
+            record {
+              is-next = p.next;
+              room = ap length is ∙ (length-set kept n s.turn ∙ l.room);
+              count = omega arith;
+              minutes = rw (is, add-one) (rw one_more at l.minutes);
+            }
+
+    pub left-none : {high : Bool} → next ≡ None → high ≡ first_high (turns_of slope stride first last) → FoundPost (turns_of slope stride first last) kept₀ kept (record { count = n; high = high })
     left-none e s =
         let none : onwards slope stride last next ≡ [] = rw e in
         let m = ap length none in

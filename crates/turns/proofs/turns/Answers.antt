@@ -14,22 +14,22 @@ use Rattle.turns.proofs.turns.Goals.{then-many-le-KEPT, else-many-le-KEPT}
 
 pub returns-then-minutes-many : goal.returns-then-minutes-many
 returns-then-minutes-many c =
-    let height = heights_in c.args.arguments.now c.args.lags.now c.args.frequencies.now c.args.ps.now c.args.qs.now c.args.months in
-    let slope = slopes_in c.args.arguments.now c.args.lags.now c.args.frequencies.now c.args.ps.now c.args.qs.now c.args.months in
+    let height = heights_in c.args.lent in
+    let slope = slopes_in c.args.lent in
     let turns = turns_of slope c.args.reach.stride c.args.reach.first c.args.reach.last in
     few-minutes height turns c.args.minutes.now c.args.heights.now (omega (arith, c.find_turns-found.ensures.count))
 
 pub returns-then-heights-many : goal.returns-then-heights-many
 returns-then-heights-many c =
-    let height = heights_in c.args.arguments.now c.args.lags.now c.args.frequencies.now c.args.ps.now c.args.qs.now c.args.months in
-    let slope = slopes_in c.args.arguments.now c.args.lags.now c.args.frequencies.now c.args.ps.now c.args.qs.now c.args.months in
+    let height = heights_in c.args.lent in
+    let slope = slopes_in c.args.lent in
     let turns = turns_of slope c.args.reach.stride c.args.reach.first c.args.reach.last in
     few-heights height turns c.args.minutes.now c.args.heights.now (omega (arith, c.find_turns-found.ensures.count)) (omega (arith, c.find_turns-found.ensures.count))
 
 -- copied or found again, all minutes stand in front
 pub put_heights-requires-clause-upto : goal.put_heights-requires-clause-upto
 put_heights-requires-clause-upto c =
-    let slope = slopes_in c.args.arguments.now c.args.lags.now c.args.frequencies.now c.args.ps.now c.args.qs.now c.args.months in
+    let slope = slopes_in c.args.lent in
     let turns = turns_of slope c.args.reach.stride c.args.reach.first c.args.reach.last in
     let written : c.if-many-le-KEPT.minutes ≡ from_front (minutes_of turns) c.args.minutes.now =
     elim c.if-many-le-KEPT.branch [
@@ -42,8 +42,8 @@ put_heights-requires-clause-upto c =
 
 pub returns : goal.returns
 returns c =
-    let height = heights_in c.args.arguments.now c.args.lags.now c.args.frequencies.now c.args.ps.now c.args.qs.now c.args.months in
-    let slope = slopes_in c.args.arguments.now c.args.lags.now c.args.frequencies.now c.args.ps.now c.args.qs.now c.args.months in
+    let height = heights_in c.args.lent in
+    let slope = slopes_in c.args.lent in
     let turns = turns_of slope c.args.reach.stride c.args.reach.first c.args.reach.last in
     let written : c.if-many-le-KEPT.minutes ≡ from_front (minutes_of turns) c.args.minutes.now =
     elim c.if-many-le-KEPT.branch [

@@ -1,26 +1,24 @@
--- Only inner contracts cite this: the constituents and the months that lists hold.
-use Rattle.std.specs.Prelude.{ℕ, ℤ, List}
-use Rattle.cosine.specs.Fixed.{IsTable}
+-- Only inner contracts cite this: the slopes and the heights of the constituents and the months that are lent.
+use Rattle.std.specs.Prelude.{ℕ, ℤ}
 use Rattle.heights.specs.Height.{height_over}
-use Rattle.month_prepared.specs.inner.View.{constituents_from}
-use Rattle.month_prepared.specs.inner.Rows.{InRange, Following, HasRows, months_in}
-use Rattle.month_prepared.specs.declared.months.Months.{Months}
+use Rattle.heights.specs.inner.Lent.{constituents_lent, months_lent, AreLent}
+use Rattle.heights.specs.declared.Lent.{Lent}
+use Rattle.heights.specs.declared.months.LentMonths.{LentMonths}
+use Rattle.month_prepared.specs.inner.Rows.{InRange}
 use Rattle.turns.specs.Slope.{slope_at, slope_over}
 
--- the slope of the constituents that five lists hold
-abbrev pub slope_of : List ℕ → List ℕ → List ℕ → List ℤ → List ℤ → ℕ → ℕ → ℤ
-slope_of arguments lags frequencies ps qs count = slope_at (constituents_from arguments lags frequencies ps qs count)
+-- the slope of the constituents of a month
+abbrev pub slope_of : Lent → ℕ → ℤ
+slope_of l = slope_at (constituents_lent l)
 
--- the slope and the height in the months whose rows five lists hold
-abbrev pub slopes_in : List ℕ → List ℕ → List ℕ → List ℤ → List ℤ → Months → ℕ → ℤ
-slopes_in arguments lags frequencies ps qs months = slope_over (months_in arguments lags frequencies ps qs months)
+-- the slope and the height in months that follow one another
+abbrev pub slopes_in : LentMonths → ℕ → ℤ
+slopes_in l = slope_over (months_lent l)
 
-abbrev pub heights_in : List ℕ → List ℕ → List ℕ → List ℤ → List ℤ → Months → ℕ → ℤ
-heights_in arguments lags frequencies ps qs months = height_over (months_in arguments lags frequencies ps qs months)
+abbrev pub heights_in : LentMonths → ℕ → ℤ
+heights_in l = height_over (months_lent l)
 
 -- what is asked of all that is lent to a search
-pub record Rows (table : List ℕ) (months : Months) (vs fs : List ℕ) (ps qs : List ℤ) : Type 0 where
-  pub cosines : IsTable table
-  pub following : Following months
-  pub rows : HasRows months vs ps qs
-  pub frequencies : InRange months.count fs
+pub record Rows (l : LentMonths) : Type 0 where
+  pub lent : AreLent l
+  pub frequencies : InRange l.months.count l.frequencies.now

@@ -1,6 +1,6 @@
 -- Only inner contracts cite this: what the functions of the search promise.
 -- Assumes nothing.
-use Rattle.std.specs.Prelude.{ℕ, ◌≤◌, ◌<◌, ◌≡◌, cond, List, [], ◌∷◌, ℤ, length, get_or, take}
+use Rattle.std.specs.Prelude.{ℕ, ◌≤◌, ◌<◌, ◌≡◌, List, [], ◌∷◌, ℤ, length, get_or, take, Option, None, Some, IfSome}
 use Rattle.limits.specs.Limits.{most_stride}
 use Rattle.turns.specs.Search.{Turn, turns_of, first_high, minutes_of}
 use Rattle.turns.specs.Written.{from_front}
@@ -15,18 +15,21 @@ pub record Reaches (end : ℕ) (reach : Reach) : Type 0 where
   pub order : reach.first ≤ reach.last
   pub within : reach.last ≤ end
 
--- the turns from a minute on: the one found and those from where the search resumes, or none
-abbrev pub onwards : (ℕ → ℤ) → ℕ → ℕ → Next → List Turn
-onwards slope stride last r =
-    cond r.found (record { minute = r.turn; high = r.high } ∷ turns_of slope stride r.later last) []
+-- the turns from a minute on: the next one and those from where the search resumes, or none
+abbrev pub onwards : (ℕ → ℤ) → ℕ → ℕ → Option Next → List Turn
+onwards slope stride last None = []
+onwards slope stride last (Some n) = record { minute = n.turn; high = n.high } ∷ turns_of slope stride n.later last
 
--- the next turn from a minute on
-pub record NextPost (slope : ℕ → ℤ) (stride last minute : ℕ) (r : Next) : Type 0 where
+-- a turn no later than a last minute, as the search resumes from it
+pub record IsNext (slope : ℕ → ℤ) (last : ℕ) (n : Next) : Type 0 where
+  pub turn : n.turn ≤ last
+  pub later : n.later ≤ last
+  pub there : n.slope ≡ slope n.later
+
+-- the next turn from a minute on, or none
+pub record NextPost (slope : ℕ → ℤ) (stride last minute : ℕ) (r : Option Next) : Type 0 where
   pub turns : turns_of slope stride minute last ≡ onwards slope stride last r
-  pub high : r.high ≡ first_high (turns_of slope stride minute last)
-  pub turn : r.turn ≤ last
-  pub later : r.later ≤ last
-  pub there : r.slope ≡ slope r.later
+  pub next : IfSome r (IsNext slope last)
 
 -- minutes no later than a last one
 abbrev pub Upto : ℕ → List ℕ → Type 0

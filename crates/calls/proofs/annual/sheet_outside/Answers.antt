@@ -1,5 +1,4 @@
 -- `calls::annual::sheet_outside` meets its contract: the series' question, and then the search's, of the year's last minute. Assumes nothing.
-use borrow.Author.Rules.{rules}
 use Rattle.calls.proofs.annual.sheet_outside.Goals as goal
 
 pub returns-then-series_outside : goal.returns-then-series_outside

@@ -1,5 +1,4 @@
 -- `calls::asked::height_answer` meets its contract, by the definition. Assumes nothing.
-use borrow.Author.Rules.{rules}
 use Rattle.calls.proofs.asked.height_answer.Goals as goal
 
 pub returns : goal.returns

@@ -2,18 +2,18 @@
 use borrow.Author.Tests.{not-true, not-false}
 use Rattle.calls.proofs.asked.state_answer.Goals as goal
 
-pub returns-then-not-tabled : goal.returns-then-not-tabled
-returns-then-not-tabled c =
-    simp (not-true c.args.tabled c.if-not-tabled.true-raw)
+pub returns-then-not-there : goal.returns-then-not-there
+returns-then-not-there c =
+    rw c.at.ensures (simp (not-true c.args.there.tabled c.if-not-there.true))
 
-pub returns-then-not-stationed : goal.returns-then-not-stationed
-returns-then-not-stationed c =
-    simp (not-false c.args.tabled c.if-not-tabled.false-raw, not-true c.args.stationed c.if-not-stationed.true-raw)
+pub returns-then-not-there-2 : goal.returns-then-not-there-2
+returns-then-not-there-2 c =
+    rw c.at-then-not-there-2.ensures (simp (not-false c.args.there.tabled c.if-not-there.false, not-true c.args.there.stationed c.if-not-there-2.true))
 
-pub returns-then-not-dated : goal.returns-then-not-dated
-returns-then-not-dated c =
-    simp (not-false c.args.tabled c.if-not-tabled.false-raw, not-false c.args.stationed c.if-not-stationed.false-raw, not-true c.args.dated c.if-not-dated.true-raw)
+pub returns-then-not-there-3 : goal.returns-then-not-there-3
+returns-then-not-there-3 c =
+    rw c.at-then-not-there-3.ensures (simp (not-false c.args.there.tabled c.if-not-there.false, not-false c.args.there.stationed c.if-not-there-2.false, not-true c.args.there.dated c.if-not-there-3.true))
 
 pub returns : goal.returns
 returns c =
-    simp (not-false c.args.tabled c.if-not-tabled.false-raw, not-false c.args.stationed c.if-not-stationed.false-raw, not-false c.args.dated c.if-not-dated.false-raw)
+    simp (not-false c.args.there.tabled c.if-not-there.false, not-false c.args.there.stationed c.if-not-there-2.false, not-false c.args.there.dated c.if-not-there-3.false)

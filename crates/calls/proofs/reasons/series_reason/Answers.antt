@@ -1,7 +1,5 @@
 -- `calls::reasons::series_reason` meets its contract: the start, the step, then the last minute, by the laws of `Past`. Assumes nothing.
-use borrow.Author.Rules.{rules}
 use native.Mathlib.Omega.{arith}
-use mathlib.Core.Path.{sym, ◌∙◌}
 use borrow.Author.Tests.{lt-ltb, le-ltb}
 use Rattle.calls.specs.Reasons.{series_reason}
 use Rattle.calls.proofs.reasons.Past.{in-range, past_is, none-past}

@@ -1,27 +1,21 @@
 -- `calls::settings::station_answer` meets its contract: 21 where there is no table, else what its records come to. Assumes nothing.
-use borrow.Author.Rules.{rules}
-use mathlib.Core.Path.{refl, sym, ap, ◌∙◌}
+use mathlib.Core.Path.{sym}
 use mir.Syntax.{w32}
 use mir.ValLaws.{to_z-of_z}
-use Rattle.refusals.specs.Outcome.{outcome_of}
-use Rattle.station.proofs.Laws.{not-accepted}
 use Rattle.calls.specs.Calls.{station_returns}
 use Rattle.calls.proofs.asked.States.{table-there, table-missing}
 use Rattle.calls.proofs.settings.Tables.{frequencies-count}
 use Rattle.calls.proofs.settings.station_answer.Goals as goal
 
-pub returns-in-Accepted : goal.returns-in-Accepted
+pub returns : goal.returns
 unfolding station_returns
-returns-in-Accepted c =
-    let there = table-there c.args.tabled (sym c.state_answer.ensures ∙ ap outcome_of c.in-Accepted.is) in
+returns c =
+    let there = table-there c.args.tabled (sym c.in_default.ensures) in
     record {
       says = simp (there, frequencies-count c.args.table) (rw (to_z-of_z w32 c.args.latitude c.ranges.latitude) at c.take_station.ensures.says);
       keeps = rw (to_z-of_z w32 c.args.latitude c.ranges.latitude) at c.take_station.ensures.keeps;
     }
 
-pub returns-in-Refused : goal.returns-in-Refused
-returns-in-Refused c =
-    record {
-      says = sym (table-missing c.args.tabled _ _ _ _ (sym c.state_answer.ensures ∙ ap outcome_of c.in-Refused.is));
-      keeps = not-accepted _ c.in-Refused.refusal c.in-Refused.place refl;
-    }
+pub returns-in-Err : goal.returns-in-Err
+returns-in-Err c =
+    record { says = sym (table-missing c.args.tabled _ _ _ _ (sym c.in-Err.ensures)); keeps = tt }

@@ -1,5 +1,4 @@
 -- `card::faults::bad_line` meets its contract: over 80 columns, or else a bad byte. Assumes nothing.
-use borrow.Author.Rules.{rules}
 use borrow.Author.Tests.{lt-ltb, le-ltb}
 use Rattle.card.specs.Faults.{bad_line}
 use Rattle.card.proofs.faults.bad_line.Goals as goal

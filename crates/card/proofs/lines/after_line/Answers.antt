@@ -1,5 +1,4 @@
 -- `card::lines::after_line` meets its contract: the line ends with its LF, or with the file.
-use borrow.Author.Rules.{rules}
 use native.Mathlib.Omega.{arith}
 use Rattle.card.proofs.lines.Walk.{line-within, behind-lf, behind-last}
 use Rattle.card.proofs.lines.after_line.Goals as goal

@@ -1,5 +1,4 @@
 -- `card::lines::begins` meets its contract: the definition branches as the code does.
-use borrow.Author.Rules.{rules}
 use borrow.Author.Tests.{le-leb, lt-leb}
 use Rattle.card.specs.Card.{opening}
 use Rattle.card.proofs.lines.begins.Goals as goal

@@ -1,15 +1,9 @@
 -- `card::places::is_among` meets its contract. The loop keeps that the place is among the rows left just when it is among all.
-use borrow.Author.Rules.{rules}
 use Rattle.limits.specs.Limits.{most_frequencies}
 use native.Mathlib.Omega.{arith}
 use native.Mathlib.Nat.{sub-zero, mul-le-mul}
-use mathlib.Core.Path.{◌≡◌}
-use Prim.Native.Nat.{◌-◌, ◌*◌, ◌≤◌}
-use lib.ListN.{get_or}
+use Prim.Native.Nat.{◌≤◌}
 use borrow.Author.Tests.{eq-eqb, ne_eqb}
-use Rattle.table.specs.inner.View.{listed}
-use Rattle.refusals.specs.Places.{is_among}
-use Rattle.card.specs.inner.Places.{places_in}
 use Rattle.card.proofs.places.Defined.{among-more, among_none}
 use Rattle.card.proofs.places.is_among.Goals as goal
 
@@ -23,13 +17,13 @@ overflow_mul-width c =
     let n : c.loop-k.k ≤ most_frequencies = omega arith in
     omega (arith, mul-le-mul w n)
 
-pub returns-then-place-at_u16 : goal.returns-then-place-at_u16
-returns-then-place-at_u16 c =
-    rw (among-more c.args.place c.args.width c.args.cards.now c.loop-k.k c.args.count c.loop-k-test.true, ← c.at_u16.ensures, eq-eqb _ _ c.if-place-at_u16.true) at c.loop-k.invariant
+pub returns-then-place-at : goal.returns-then-place-at
+returns-then-place-at c =
+    rw (among-more c.args.place c.args.width c.args.cards.now c.loop-k.k c.args.count c.loop-k-test.true, ← c.at.ensures, eq-eqb _ _ c.if-place-at.true) at c.loop-k.invariant
 
 pub loop-k-preserved : goal.loop-k-preserved
 loop-k-preserved c =
-    rw (among-more c.args.place c.args.width c.args.cards.now c.loop-k.k c.args.count c.loop-k-test.true, ← c.at_u16.ensures, ne_eqb _ _ c.if-place-at_u16.false) at c.loop-k.invariant
+    rw (among-more c.args.place c.args.width c.args.cards.now c.loop-k.k c.args.count c.loop-k-test.true, ← c.at.ensures, ne_eqb _ _ c.if-place-at.false) at c.loop-k.invariant
 
 pub returns : goal.returns
 returns c =

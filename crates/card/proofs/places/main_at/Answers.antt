@@ -1,13 +1,6 @@
 -- `card::places::main_at` meets its contract. The loop keeps that what is found among the rows left is what is found among all.
-use borrow.Author.Rules.{rules}
 use native.Mathlib.Nat.{sub-zero}
-use mathlib.Core.Path.{◌≡◌}
-use Prim.Native.Nat.{◌-◌, ◌*◌}
-use lib.ListN.{get_or}
 use borrow.Author.Tests.{eq-eqb, ne_eqb}
-use Rattle.table.specs.inner.View.{listed}
-use Rattle.card.specs.Places.{main_at}
-use Rattle.card.specs.inner.Places.{places_in}
 use Rattle.card.proofs.places.Defined.{main-more, main-none}
 use Rattle.card.proofs.places.main_at.Goals as goal
 
@@ -15,13 +8,13 @@ pub loop-k-init : goal.loop-k-init
 loop-k-init c =
     rw (sub-zero c.args.count)
 
-pub returns-then-place-at_u16 : goal.returns-then-place-at_u16
-returns-then-place-at_u16 c =
-    rw (main-more c.args.place 3 c.args.cards.now c.loop-k.k c.args.count c.args.j c.loop-k-test.true, ← c.at_u16.ensures, eq-eqb _ _ c.if-place-at_u16.true) at c.loop-k.invariant
+pub returns-then-place-at : goal.returns-then-place-at
+returns-then-place-at c =
+    rw (main-more c.args.place 3 c.args.cards.now c.loop-k.k c.args.count c.args.j c.loop-k-test.true, ← c.at.ensures, eq-eqb _ _ c.if-place-at.true) at c.loop-k.invariant
 
 pub loop-k-preserved : goal.loop-k-preserved
 loop-k-preserved c =
-    rw (main-more c.args.place 3 c.args.cards.now c.loop-k.k c.args.count c.args.j c.loop-k-test.true, ← c.at_u16.ensures, ne_eqb _ _ c.if-place-at_u16.false) at c.loop-k.invariant
+    rw (main-more c.args.place 3 c.args.cards.now c.loop-k.k c.args.count c.args.j c.loop-k-test.true, ← c.at.ensures, ne_eqb _ _ c.if-place-at.false) at c.loop-k.invariant
 
 pub returns : goal.returns
 returns c =

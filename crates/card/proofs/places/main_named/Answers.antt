@@ -8,15 +8,15 @@ use Rattle.card.proofs.places.main_named.Goals as goal
 
 pub overflow_cast-place : goal.overflow_cast-place
 overflow_cast-place c =
-    let h : c.in-At.place < c.args.frequencies = place-within _ c.args.names.now c.args.frequencies _ (sym c.find_name.ensures ∙ c.in-At.is) in
+    let h : c.in-Some.place < c.args.frequencies = place-within _ c.args.names.now c.args.frequencies _ (sym c.find_name.ensures ∙ c.in-Some.is) in
     search rules
 
-pub returns-in-At : goal.returns-in-At
+pub returns-in-Some : goal.returns-in-Some
 unfolding main_named
-returns-in-At c =
-    rw (← c.part_name.ensures, ← c.name_part.ensures.result_value_2, ← c.find_name.ensures, c.in-At.is) c.main_at.ensures
+returns-in-Some c =
+    rw (← c.part_name.ensures, ← c.name_part.ensures.result_value_2, ← c.find_name.ensures, c.in-Some.is) c.main_at.ensures
 
-pub returns-in-Nothing : goal.returns-in-Nothing
+pub returns-in-None : goal.returns-in-None
 unfolding main_named
-returns-in-Nothing c =
-    rw (c.not_main.ensures, ← c.part_name.ensures, ← c.name_part.ensures.result_value_2, ← c.find_name.ensures, c.in-Nothing.is)
+returns-in-None c =
+    rw (c.not_main.ensures, ← c.part_name.ensures, ← c.name_part.ensures.result_value_2, ← c.find_name.ensures, c.in-None.is)

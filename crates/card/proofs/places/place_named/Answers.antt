@@ -13,15 +13,15 @@ returns-then-name_blank c =
 
 pub overflow_cast-result : goal.overflow_cast-result
 overflow_cast-result c =
-    let h : c.in-At.place < c.args.count = place-within _ c.args.names.now c.args.count _ (sym c.find_name.ensures ∙ c.in-At.is) in
+    let h : c.in-Some.place < c.args.count = place-within _ c.args.names.now c.args.count _ (sym c.find_name.ensures ∙ c.in-Some.is) in
     search rules
 
-pub returns-in-At : goal.returns-in-At
+pub returns-in-Some : goal.returns-in-Some
 unfolding place_named
-returns-in-At c =
-    rw (← c.name_part-name.ensures.result_value_2, ← c.name_blank.ensures, c.if-name_blank.false, ← c.find_name.ensures, c.in-At.is)
+returns-in-Some c =
+    rw (← c.name_part-name.ensures.result_value_2, ← c.name_blank.ensures, c.if-name_blank.false, ← c.find_name.ensures, c.in-Some.is)
 
-pub returns-in-Nothing : goal.returns-in-Nothing
+pub returns-in-None : goal.returns-in-None
 unfolding place_named
-returns-in-Nothing c =
-    rw (c.only-in-Nothing.ensures, ← c.name_part-name.ensures.result_value_2, ← c.name_blank.ensures, c.if-name_blank.false, ← c.find_name.ensures, c.in-Nothing.is)
+returns-in-None c =
+    rw (c.only-in-None.ensures, ← c.name_part-name.ensures.result_value_2, ← c.name_blank.ensures, c.if-name_blank.false, ← c.find_name.ensures, c.in-None.is)

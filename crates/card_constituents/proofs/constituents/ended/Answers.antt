@@ -1,5 +1,4 @@
 -- `card_constituents::constituents::ended` meets its contract: the one fault that it passes on.
-use borrow.Author.Rules.{rules}
 use Rattle.card_constituents.proofs.constituents.ended.Goals as goal
 
 pub returns : goal.returns

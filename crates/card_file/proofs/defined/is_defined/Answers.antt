@@ -1,5 +1,4 @@
 -- `card_file::cards::is_defined` meets its contract. A place is among those of two kinds where it is among one: `among-both`. Assumes nothing.
-use borrow.Author.Rules.{rules}
 use Rattle.card.proofs.places.Defined.{among-both}
 use mathlib.Core.Path.{◌≡◌}
 use Rattle.refusals.specs.Places.{is_among}
@@ -8,7 +7,7 @@ use Rattle.card_file.proofs.defined.is_defined.Goals as goal
 
 pub returns-then-is_among : goal.returns-then-is_among
 returns-then-is_among c =
-    let main : c.is_among.result ≡ is_among c.args.place (places_in 3 c.args.maincards.now c.args.mains) = c.is_among.ensures in
+    let main : c.is_among.result ≡ is_among c.args.place (places_in 3 c.args.table.now.maincards c.args.table.now.mains) = c.is_among.ensures in
     rw (among-both, ← main, c.if-is_among.true)
 
 pub returns : goal.returns

@@ -1,34 +1,26 @@
 -- `card_file::cards::undefined` meets its contract. The loop's invariant: the frequencies from this place on give what all of them give.
--- The measure is how many are left. Rests on the laws of `Last`.
-use borrow.Author.Rules.{rules}
-use mathlib.Core.Path.{◌≡◌}
+-- Rests on the laws of `Last`.
 use mathlib.Core.List.{◌++◌}
-use Prim.Native.Nat.{◌-◌, ◌≤◌, ◌<◌}
 use native.Mathlib.Nat.{sub-zero}
-use native.Mathlib.Omega.{arith}
-use Rattle.card_file.specs.Cards.{first_undefined}
 use Rattle.card.specs.inner.Places.{places_in}
 use Rattle.card_file.proofs.defined.Last.{defined_more, defined-none}
 use Rattle.card_file.proofs.defined.undefined.Goals as goal
 
-pub loop-k-init : goal.loop-k-init
-loop-k-init c =
-    (omega arith, rw (sub-zero c.args.frequencies))
+pub loop-place-init : goal.loop-place-init
+loop-place-init c =
+    rw (sub-zero c.args.table.now.frequencies)
 
-pub loop-k-preserved : goal.loop-k-preserved
-loop-k-preserved c =
-    let defined = places_in 3 c.args.maincards.now c.args.mains ++ places_in 6 c.args.cards.now c.args.count in
-    let h : c.loop-k.k < c.args.frequencies = omega arith in
-    (omega arith, rw (defined_more defined c.loop-k.k c.args.frequencies h, ← c.is_defined.ensures, c.if-is_defined.true) at c.loop-k.invariant.1)
+pub loop-place-preserved : goal.loop-place-preserved
+loop-place-preserved c =
+    let defined = places_in 3 c.args.table.now.maincards c.args.table.now.mains ++ places_in 6 c.args.table.now.shallowcards c.args.table.now.shallows in
+    rw (defined_more defined c.loop-place.place c.args.table.now.frequencies c.loop-place-test.true, ← c.is_defined.ensures, c.if-not-is_defined.false) at c.loop-place.invariant
 
-pub returns-else-is_defined : goal.returns-else-is_defined
-returns-else-is_defined c =
-    let defined = places_in 3 c.args.maincards.now c.args.mains ++ places_in 6 c.args.cards.now c.args.count in
-    let h : c.loop-k.k < c.args.frequencies = omega arith in
-    rw (defined_more defined c.loop-k.k c.args.frequencies h, ← c.is_defined.ensures, c.if-is_defined.false) at c.loop-k.invariant.1
+pub returns-then-not-is_defined : goal.returns-then-not-is_defined
+returns-then-not-is_defined c =
+    let defined = places_in 3 c.args.table.now.maincards c.args.table.now.mains ++ places_in 6 c.args.table.now.shallowcards c.args.table.now.shallows in
+    rw (defined_more defined c.loop-place.place c.args.table.now.frequencies c.loop-place-test.true, ← c.is_defined.ensures, c.if-not-is_defined.true) at c.loop-place.invariant
 
 pub returns : goal.returns
 returns c =
-    let defined = places_in 3 c.args.maincards.now c.args.mains ++ places_in 6 c.args.cards.now c.args.count in
-    let h : c.args.frequencies ≤ c.loop-k.k = omega arith in
-    rw (defined-none defined c.loop-k.k c.args.frequencies h) at c.loop-k.invariant.1
+    let defined = places_in 3 c.args.table.now.maincards c.args.table.now.mains ++ places_in 6 c.args.table.now.shallowcards c.args.table.now.shallows in
+    rw (defined-none defined c.loop-place.place c.args.table.now.frequencies c.loop-place-test.false) at c.loop-place.invariant

@@ -1,25 +1,24 @@
 -- `card_frequencies::frequencies::frequency_card` meets its contract: how the card begins, then its fields.
-use borrow.Author.Rules.{rules}
 use Rattle.card_frequencies.specs.Frequencies.{next_frequency}
 use Rattle.columns.proofs.names.Names.{names-count}
 use Rattle.card_frequencies.proofs.frequencies.frequency_card.Goals as goal
 
-pub returns-in-Ends : goal.returns-in-Ends
+pub returns-in-Ok-Ends : goal.returns-in-Ok-Ends
 unfolding next_frequency
-returns-in-Ends c =
-    rw (names-count c.args.names.now 0 c.args.count, ← c.begins.ensures, c.in-Ends.is)
+returns-in-Ok-Ends c =
+    rw (names-count c.args.names.now 0 c.args.count, ← c.begins.ensures, c.in-Ok-Ends.is, c.in-Ok-Ends.field-0-is)
 
-pub returns-in-Value : goal.returns-in-Value
+pub returns-in-Ok : goal.returns-in-Ok
 unfolding next_frequency
-returns-in-Value c =
-    rw (names-count c.args.names.now 0 c.args.count, ← c.begins.ensures, c.in-Fields.is, ← c.frequency_fields.ensures, c.in-Value.is)
+returns-in-Ok c =
+    rw (names-count c.args.names.now 0 c.args.count, ← c.begins.ensures, c.in-Ok-Fields.is, c.in-Ok-Fields.field-0-is, ← c.frequency_fields.ensures, c.in-Ok.is)
 
-pub returns-in-Bad : goal.returns-in-Bad
+pub returns-in-Err-frequency_fields : goal.returns-in-Err-frequency_fields
 unfolding next_frequency
-returns-in-Bad c =
-    rw (names-count c.args.names.now 0 c.args.count, ← c.begins.ensures, c.in-Fields.is, ← c.frequency_fields.ensures, c.in-Bad.is)
+returns-in-Err-frequency_fields c =
+    rw (names-count c.args.names.now 0 c.args.count, ← c.begins.ensures, c.in-Ok-Fields.is, c.in-Ok-Fields.field-0-is, ← c.frequency_fields.ensures, c.in-Err-frequency_fields.is)
 
-pub returns-in-Fails : goal.returns-in-Fails
+pub returns-in-Err : goal.returns-in-Err
 unfolding next_frequency
-returns-in-Fails c =
-    rw (names-count c.args.names.now 0 c.args.count, ← c.begins.ensures, c.in-Fails.is)
+returns-in-Err c =
+    rw (names-count c.args.names.now 0 c.args.count, ← c.begins.ensures, c.in-Err.is)

@@ -1,5 +1,4 @@
 -- `card_frequencies::frequencies::frequency_fields` meets its contract: the name, then the number to the right of it.
-use borrow.Author.Rules.{rules}
 use mathlib.Core.Path.{refl}
 use Rattle.card.specs.Card.{new_name}
 use Rattle.card_frequencies.specs.Frequencies.{frequency_card}
@@ -15,12 +14,12 @@ pub natural_field-requires : goal.natural_field-requires
 natural_field-requires c =
     rw c.frequency.ensures refl
 
-pub returns-in-At : goal.returns-in-At
+pub returns-in-Some : goal.returns-in-Some
 unfolding frequency_card new_name
-returns-in-At c =
-    rw (c.only-in-At.ensures, ← c.name_part-name.ensures.result_value_2, ← c.name_blank.ensures, c.if-name_blank.false, ← c.find_name.ensures, c.in-At.is)
+returns-in-Some c =
+    rw (c.only-in-Some.ensures, ← c.name_part-name.ensures.result_value_2, ← c.name_blank.ensures, c.if-name_blank.false, ← c.find_name.ensures, c.in-Some.is)
 
-pub returns-in-Nothing : goal.returns-in-Nothing
+pub returns-in-None : goal.returns-in-None
 unfolding frequency_card new_name
-returns-in-Nothing c =
-    rw (frequency-read c.args.line.now c.natural_field.result, c.natural_field.ensures.result_value, c.frequency.ensures) (rw (← c.name_part-name.ensures.result_value_2, ← c.name_blank.ensures, c.if-name_blank.false, ← c.find_name.ensures, c.in-Nothing.is))
+returns-in-None c =
+    rw (frequency-read c.args.line.now c.natural_field.result, c.natural_field.ensures.result_value, c.frequency.ensures) (rw (← c.name_part-name.ensures.result_value_2, ← c.name_blank.ensures, c.if-name_blank.false, ← c.find_name.ensures, c.in-None.is))

@@ -1,10 +1,6 @@
 -- `card_frequencies::frequencies::put_name` meets its contract. The loop keeps that storing the columns left gives what storing all of them gives.
-use borrow.Author.Rules.{rules}
 use native.Mathlib.Nat.{add-zero}
-use mathlib.Core.Path.{◌≡◌}
-use Prim.Native.Nat.{◌+◌, ◌-◌, ◌*◌}
-use lib.Seq.{sets}
-use Rattle.columns.specs.Columns.{columns}
+use Prim.Native.Nat.{◌*◌}
 use Rattle.card_frequencies.proofs.frequencies.Rows.{store-more, store-none}
 use Rattle.card_frequencies.proofs.frequencies.put_name.Goals as goal
 

@@ -3,18 +3,17 @@
 use borrow.Author.Rules.{rules}
 use native.Mathlib.Omega.{arith}
 use mathlib.Core.Path.{◌≡◌, refl, sym, ap, ◌∙◌}
-use mathlib.Core.List.{[]}
-use Prim.Native.Nat.{◌+◌, ◌-◌, ◌*◌, ◌≤◌, ◌<◌}
-use lib.ListN.{length, drop}
+use Rattle.std.specs.Prelude.{Ok}
+use Prim.Native.Nat.{◌*◌, ◌<◌}
+use lib.ListN.{length}
 use lib.Seq.{sets, length-sets}
 use Rattle.columns.specs.Columns.{columns}
-use Rattle.columns.specs.Lines.{lines_of}
 use Rattle.columns.proofs.Columns.{length-padded}
-use Rattle.table.specs.inner.View.{listed, frequency_of}
+use Rattle.table.specs.inner.View.{listed}
 use Rattle.limits.specs.Limits.{most_frequencies}
 use Rattle.card.specs.Formats.{frequency_name}
-use Rattle.card_frequencies.specs.Frequencies.{frequencies_from}
-use Rattle.card_frequencies.specs.inner.Answers.{frequency_gives}
+use Rattle.card_frequencies.specs.inner.Answers.{frequency_on}
+use Rattle.card.specs.inner.Lines.{next_gives}
 use Rattle.card_frequencies.proofs.frequencies.Rows.{frequency-room, frequency-put, frequencies-end}
 use Rattle.card_frequencies.proofs.frequencies.Rows.{frequencies-step}
 use Rattle.card_frequencies.proofs.frequencies.read_frequencies.Goals as goal
@@ -28,26 +27,26 @@ pub after_line-next-requires : goal.after_line-next-requires
 after_line-next-requires c =
     (search rules, ap length c.line_at-line.ensures)
 
-pub returns-in-Ends : goal.returns-in-Ends
-returns-in-Ends c =
+pub returns-in-Ok-None : goal.returns-in-Ok-None
+returns-in-Ok-None c =
     record {
-      count_value = rw (frequencies-step c.args.file.now c.loop-at.at c.loop-at.n c.loop-at.names c.loop-at.speeds c.loop-at.count c.after_line-next.result c.line_at-line.result.now c.frequency_card.result c.loop-at-test.true c.line_at-line.ensures c.after_line-next.ensures.2 c.frequency_card.ensures, c.in-Ends.is) at c.loop-at.invariant.5;
+      count_value = rw (frequencies-step c.args.file.now c.loop-at.at c.loop-at.n c.loop-at.names c.loop-at.speeds c.loop-at.count c.after_line-next.result c.line_at-line.result.now c.frequency_card.result c.loop-at-test.true c.line_at-line.ensures c.after_line-next.ensures.2 c.frequency_card.ensures, c.in-Ok-None.is, c.in-Ok-None.field-0-is) at c.loop-at.invariant.5;
       within_file = ((omega arith, omega arith), c.loop-at.invariant.2);
     }
 
 pub put_name-requires : goal.put_name-requires
 put_name-requires c =
-    (frequency-room c.loop-at.names c.line_at-line.result.now c.loop-at.count _ (sym c.frequency_card.ensures ∙ ap (frequency_gives c.line_at-line.result.now) c.in-Gives.is), omega arith)
+    (frequency-room c.loop-at.names c.line_at-line.result.now c.loop-at.count _ (sym c.frequency_card.ensures ∙ ap (next_gives (frequency_on c.line_at-line.result.now)) (c.in-Ok-Some.is ∙ ap Ok c.in-Ok-Some.field-0-is)), omega arith)
 
 pub bounds-speeds-count : goal.bounds-speeds-count
 bounds-speeds-count c =
-    frequency-room c.loop-at.names c.line_at-line.result.now c.loop-at.count _ (sym c.frequency_card.ensures ∙ ap (frequency_gives c.line_at-line.result.now) c.in-Gives.is)
+    frequency-room c.loop-at.names c.line_at-line.result.now c.loop-at.count _ (sym c.frequency_card.ensures ∙ ap (next_gives (frequency_on c.line_at-line.result.now)) (c.in-Ok-Some.is ∙ ap Ok c.in-Ok-Some.field-0-is))
 
-pub returns-in-Fails : goal.returns-in-Fails
-returns-in-Fails c =
+pub returns-in-Err : goal.returns-in-Err
+returns-in-Err c =
     record {
-      count_value = rw (frequencies-step c.args.file.now c.loop-at.at c.loop-at.n c.loop-at.names c.loop-at.speeds c.loop-at.count c.after_line-next.result c.line_at-line.result.now c.frequency_card.result c.loop-at-test.true c.line_at-line.ensures c.after_line-next.ensures.2 c.frequency_card.ensures, c.in-Fails.is) at c.loop-at.invariant.5;
-      within_file = (tt, c.loop-at.invariant.2);
+      count_value = rw (frequencies-step c.args.file.now c.loop-at.at c.loop-at.n c.loop-at.names c.loop-at.speeds c.loop-at.count c.after_line-next.result c.line_at-line.result.now c.frequency_card.result c.loop-at-test.true c.line_at-line.ensures c.after_line-next.ensures.2 c.frequency_card.ensures, c.in-Err.is) at c.loop-at.invariant.5;
+      within_file = tt;
     }
 
 pub overflow_add-count : goal.overflow_add-count
@@ -56,7 +55,7 @@ overflow_add-count c =
 
 pub loop-at-preserved : goal.loop-at-preserved
 loop-at-preserved c =
-    let room : c.loop-at.count < most_frequencies = frequency-room c.loop-at.names c.line_at-line.result.now c.loop-at.count _ (sym c.frequency_card.ensures ∙ ap (frequency_gives c.line_at-line.result.now) c.in-Gives.is) in
+    let room : c.loop-at.count < most_frequencies = frequency-room c.loop-at.names c.line_at-line.result.now c.loop-at.count _ (sym c.frequency_card.ensures ∙ ap (next_gives (frequency_on c.line_at-line.result.now)) (c.in-Ok-Some.is ∙ ap Ok c.in-Ok-Some.field-0-is)) in
     let put : c.put_name.new.names ≡ sets c.loop-at.names (5 * c.loop-at.count) (columns c.line_at-line.result.now frequency_name 5) = c.put_name.ensures in
     let len : length c.loop-at.names ≡ 5 * most_frequencies = c.loop-at.invariant.3 in (
       omega arith,
@@ -64,13 +63,13 @@ loop-at-preserved c =
       omega arith,
       ap length put ∙ length-sets c.loop-at.names (5 * c.loop-at.count) (columns c.line_at-line.result.now frequency_name 5) ∙ len,
       search rules,
-      rw (put, frequency-put c.loop-at.names c.loop-at.speeds (columns c.line_at-line.result.now frequency_name 5) c.in-Gives.v c.loop-at.count (length-padded 32 c.line_at-line.result.now frequency_name 5) (omega arith) (omega arith))
-          (rw (frequencies-step c.args.file.now c.loop-at.at c.loop-at.n c.loop-at.names c.loop-at.speeds c.loop-at.count c.after_line-next.result c.line_at-line.result.now c.frequency_card.result c.loop-at-test.true c.line_at-line.ensures c.after_line-next.ensures.2 c.frequency_card.ensures, c.in-Gives.is) at c.loop-at.invariant.5),
+      rw (put, frequency-put c.loop-at.names c.loop-at.speeds (columns c.line_at-line.result.now frequency_name 5) c.in-Ok-Some.frequency c.loop-at.count (length-padded 32 c.line_at-line.result.now frequency_name 5) (omega arith) (omega arith))
+          (rw (frequencies-step c.args.file.now c.loop-at.at c.loop-at.n c.loop-at.names c.loop-at.speeds c.loop-at.count c.after_line-next.result c.line_at-line.result.now c.frequency_card.result c.loop-at-test.true c.line_at-line.ensures c.after_line-next.ensures.2 c.frequency_card.ensures, c.in-Ok-Some.is, c.in-Ok-Some.field-0-is) at c.loop-at.invariant.5),
     )
 
 pub returns : goal.returns
 returns c =
     record {
       count_value = rw c.only.ensures (rw (frequencies-end c.args.file.now c.loop-at.at c.loop-at.n c.loop-at.names c.loop-at.speeds c.loop-at.count c.loop-at-test.false) at c.loop-at.invariant.5);
-      within_file = (tt, c.loop-at.invariant.2);
+      within_file = tt;
     }

@@ -1,20 +1,11 @@
-use borrow.Author.Rules.{rules}
-use native.Mathlib.Omega.{arith}
-use mathlib.Core.Path.{◌≡◌, refl, sym, ap, ◌∙◌}
+use mathlib.Core.Path.{◌≡◌}
 use mathlib.Core.List.{[]}
-use Prim.Native.Nat.{◌+◌, ◌-◌, ◌*◌, ◌≤◌, ◌<◌}
+use Prim.Native.Nat.{◌+◌, ◌-◌, ◌*◌, ◌≤◌}
 use lib.ListN.{length, drop}
-use lib.Seq.{sets, length-sets}
-use Rattle.columns.specs.Columns.{columns}
 use Rattle.columns.specs.Lines.{lines_of}
-use Rattle.columns.proofs.Columns.{length-padded}
 use Rattle.table.specs.inner.View.{listed, frequency_of}
 use Rattle.limits.specs.Limits.{most_frequencies}
-use Rattle.card.specs.Formats.{frequency_name}
 use Rattle.card_frequencies.specs.Frequencies.{frequencies_from}
-use Rattle.card_frequencies.specs.inner.Answers.{frequency_gives}
-use Rattle.card_frequencies.proofs.frequencies.Rows.{frequency-room, frequency-put, frequencies-end}
-use Rattle.card_frequencies.proofs.frequencies.Rows.{frequencies-step}
 use Rattle.card_frequencies.proofs.frequencies.read_frequencies.Given as goal
 
 abbrev pub invariant-loop-at : goal.invariant-loop-at

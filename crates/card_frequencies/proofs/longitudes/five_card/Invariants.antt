@@ -1,21 +1,11 @@
-use borrow.Author.Rules.{rules}
-use native.Mathlib.Omega.{arith}
-use mathlib.Core.Path.{◌≡◌, refl}
+use mathlib.Core.Path.{◌≡◌}
 use mathlib.Core.List.{map}
-use Prim.Native.Nat.{◌-◌, ◌≤◌, ◌<◌}
+use Prim.Native.Nat.{◌-◌, ◌≤◌}
 use lib.ListN.{length, take}
-use lib.Seq.{take_all}
 use lib.IntN.{pos}
 use Rattle.card.specs.Formats.{five_field}
 use Rattle.card.specs.Card.{numbers_from, numbers}
-use Rattle.card_frequencies.specs.Longitudes.{five_card}
-use Rattle.card.proofs.Ranges.{numbers_more, numbers-none, take-stored}
-use Rattle.card_frequencies.proofs.longitudes.Fives.{map-nat_abs-pos, five-natural}
-use mathlib.Core.List.{map-append, ◌∷◌, []}
 use Rattle.card_frequencies.proofs.longitudes.five_card.Given as goal
 
 abbrev pub invariant-loop-k : goal.invariant-loop-k
 invariant-loop-k l = (l.k ≤ 5) × (length l.values ≡ 5) × (numbers_from l.line (five_field l.card) (map pos (take l.k l.values)) l.k (5 - l.k) ≡ numbers l.line (five_field l.card) 5)
-
-abbrev pub decreases-loop-k : goal.decreases-loop-k
-decreases-loop-k l = 5 - l.k

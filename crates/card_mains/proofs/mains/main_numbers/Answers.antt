@@ -20,26 +20,26 @@ natural_field-requires c =
 
 pub main_made-requires : goal.main_made-requires
 main_made-requires c =
-    (rw (c.in-Value-natural_field.is, c.satellite_count.ensures) at c.natural_field.ensures.natural_within, c.requires)
+    (rw (c.in-Ok-natural_field.is, c.satellite_count.ensures) at c.natural_field.ensures.natural_within, c.requires)
 
-pub returns-in-Value-natural_field : goal.returns-in-Value-natural_field
+pub returns-in-Ok-natural_field : goal.returns-in-Ok-natural_field
 unfolding main_numbers
-returns-in-Value-natural_field c =
-    let len : length c.small_row-row.result.values ≡ 6 = c.small_row-row.ensures.values_len in
-    let fits : SFits w8 c.in-Value.phase = search rules in
-    rw (← c.small_row-row.ensures.values_value, c.in-Clear.is, ← c.main_phase.ensures, ← c.small_field.ensures, c.in-Value.is, ← c.satellite_count.ensures, ← c.natural_field.ensures.result_value, c.in-Value-natural_field.is, take_all 6 c.small_row-row.result.values (omega arith)) (rw (to_z-of_z w8 c.in-Value.phase fits) at c.main_made.ensures)
+returns-in-Ok-natural_field c =
+    let len : length c.in-Ok.doodson ≡ 6 = c.in-Ok.ensures.values_len in
+    let fits : SFits w8 c.in-Ok-small_field.phase = search rules in
+    rw (← c.small_row.ensures.values_value, c.in-Ok.is, ← c.main_phase.ensures, ← c.small_field.ensures, c.in-Ok-small_field.is, ← c.satellite_count.ensures, ← c.natural_field.ensures.result_value, c.in-Ok-natural_field.is, take_all 6 c.in-Ok.doodson (omega arith)) (rw (to_z-of_z w8 c.in-Ok-small_field.phase fits) at c.main_made.ensures)
 
-pub returns-in-Bad-natural_field : goal.returns-in-Bad-natural_field
+pub returns-in-Err-natural_field : goal.returns-in-Err-natural_field
 unfolding main_numbers
-returns-in-Bad-natural_field c =
-    rw (← c.small_row-row.ensures.values_value, c.in-Clear.is, ← c.main_phase.ensures, ← c.small_field.ensures, c.in-Value.is, ← c.satellite_count.ensures, ← c.natural_field.ensures.result_value, c.in-Bad-natural_field.is) c.failed.ensures
+returns-in-Err-natural_field c =
+    rw (← c.small_row.ensures.values_value, c.in-Ok.is, ← c.main_phase.ensures, ← c.small_field.ensures, c.in-Ok-small_field.is, ← c.satellite_count.ensures, ← c.natural_field.ensures.result_value, c.in-Err-natural_field.is)
 
-pub returns-in-Bad-small_field : goal.returns-in-Bad-small_field
+pub returns-in-Err-small_field : goal.returns-in-Err-small_field
 unfolding main_numbers
-returns-in-Bad-small_field c =
-    rw (← c.small_row-row.ensures.values_value, c.in-Clear.is, ← c.main_phase.ensures, ← c.small_field.ensures, c.in-Bad-small_field.is) c.failed-in-Bad-small_field.ensures
+returns-in-Err-small_field c =
+    rw (← c.small_row.ensures.values_value, c.in-Ok.is, ← c.main_phase.ensures, ← c.small_field.ensures, c.in-Err-small_field.is)
 
-pub returns-in-Bad : goal.returns-in-Bad
+pub returns-in-Err : goal.returns-in-Err
 unfolding main_numbers
-returns-in-Bad c =
-    rw (← c.small_row-row.ensures.values_value, c.in-Bad.is) c.failed-in-Bad.ensures
+returns-in-Err c =
+    rw (← c.small_row.ensures.values_value, c.in-Err.is)

@@ -1,5 +1,4 @@
 -- `card_mains::satellitecard::satellite_card` meets its contract: a good line, then its satellites.
-use borrow.Author.Rules.{rules}
 use mathlib.Core.Path.{refl}
 use Rattle.card.specs.Card.{due_card}
 use Rattle.card_mains.specs.Satellites.{satellite_card}

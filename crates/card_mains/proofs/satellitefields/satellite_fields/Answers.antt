@@ -11,23 +11,23 @@ pub small_field-requires : goal.small_field-requires
 small_field-requires c =
     rw c.satellite_phase.ensures (refl, refl)
 
-pub returns-in-Value-ratio_on : goal.returns-in-Value-ratio_on
+pub returns-in-Ok-ratio_on : goal.returns-in-Ok-ratio_on
 unfolding satellite
-returns-in-Value-ratio_on c =
-    let fits : SFits w8 c.in-Value.phase = search rules in
-    (rw (← c.small_row-row.ensures.values_value, c.in-Clear.is, ← c.satellite_phase.ensures, ← c.small_field.ensures, c.in-Value.is, ← c.ratio_on.ensures.result_value, c.in-Value-ratio_on.is, ← c.mark_column.ensures, ← c.column-mark.ensures, to_z-of_z w8 c.in-Value.phase fits), c.small_row-row.ensures.values_len)
+returns-in-Ok-ratio_on c =
+    let fits : SFits w8 c.in-Ok-small_field.phase = search rules in
+    (rw (← c.small_row.ensures.values_value, c.in-Ok.is, ← c.satellite_phase.ensures, ← c.small_field.ensures, c.in-Ok-small_field.is, ← c.ratio_on.ensures.result_value, c.in-Ok-ratio_on.is, ← c.mark_column.ensures, ← c.column.ensures, to_z-of_z w8 c.in-Ok-small_field.phase fits), c.in-Ok.ensures.values_len)
 
-pub returns-in-Bad-ratio_on : goal.returns-in-Bad-ratio_on
+pub returns-in-Err-ratio_on : goal.returns-in-Err-ratio_on
 unfolding satellite
-returns-in-Bad-ratio_on c =
-    (rw (← c.small_row-row.ensures.values_value, c.in-Clear.is, ← c.satellite_phase.ensures, ← c.small_field.ensures, c.in-Value.is, ← c.ratio_on.ensures.result_value, c.in-Bad-ratio_on.is) c.failed.ensures.0, c.failed.ensures.1)
+returns-in-Err-ratio_on c =
+    (rw (← c.small_row.ensures.values_value, c.in-Ok.is, ← c.satellite_phase.ensures, ← c.small_field.ensures, c.in-Ok-small_field.is, ← c.ratio_on.ensures.result_value, c.in-Err-ratio_on.is), tt)
 
-pub returns-in-Bad-small_field : goal.returns-in-Bad-small_field
+pub returns-in-Err-small_field : goal.returns-in-Err-small_field
 unfolding satellite
-returns-in-Bad-small_field c =
-    (rw (← c.small_row-row.ensures.values_value, c.in-Clear.is, ← c.satellite_phase.ensures, ← c.small_field.ensures, c.in-Bad-small_field.is) c.failed-in-Bad-small_field.ensures.0, c.failed-in-Bad-small_field.ensures.1)
+returns-in-Err-small_field c =
+    (rw (← c.small_row.ensures.values_value, c.in-Ok.is, ← c.satellite_phase.ensures, ← c.small_field.ensures, c.in-Err-small_field.is), tt)
 
-pub returns-in-Bad : goal.returns-in-Bad
+pub returns-in-Err : goal.returns-in-Err
 unfolding satellite
-returns-in-Bad c =
-    (rw (← c.small_row-row.ensures.values_value, c.in-Bad.is) c.failed-in-Bad.ensures.0, c.failed-in-Bad.ensures.1)
+returns-in-Err c =
+    (rw (← c.small_row.ensures.values_value, c.in-Err.is), tt)

@@ -11,25 +11,25 @@ natural_field-requires c =
 
 pub overflow_cast-parts : goal.overflow_cast-parts
 overflow_cast-parts c =
-    let few : c.in-Value.parts ≤ 4 = rw (c.in-Value.is, c.part_count.ensures) at c.natural_field.ensures.natural_within in
+    let few : c.in-Ok-natural_field.parts ≤ 4 = rw (c.in-Ok-natural_field.is, c.part_count.ensures) at c.natural_field.ensures.natural_within in
     search rules
 
 pub parts_on-requires : goal.parts_on-requires
 parts_on-requires c =
-    let few : c.in-Value.parts ≤ 4 = rw (c.in-Value.is, c.part_count.ensures) at c.natural_field.ensures.natural_within in
+    let few : c.in-Ok-natural_field.parts ≤ 4 = rw (c.in-Ok-natural_field.is, c.part_count.ensures) at c.natural_field.ensures.natural_within in
     (few, c.requires.0, c.requires.1)
 
-pub returns-in-Value : goal.returns-in-Value
+pub returns-in-Ok-natural_field : goal.returns-in-Ok-natural_field
 unfolding shallow_card
-returns-in-Value c =
-    rw (← c.own_place.ensures, c.in-At.is, ← c.part_count.ensures, ← c.natural_field.ensures.result_value, c.in-Value.is) c.parts_on.ensures
+returns-in-Ok-natural_field c =
+    rw (← c.own_place.ensures, c.in-Ok.is, ← c.part_count.ensures, ← c.natural_field.ensures.result_value, c.in-Ok-natural_field.is) c.parts_on.ensures
 
-pub returns-in-Bad-natural_field : goal.returns-in-Bad-natural_field
+pub returns-in-Err-natural_field : goal.returns-in-Err-natural_field
 unfolding shallow_card
-returns-in-Bad-natural_field c =
-    rw (← c.own_place.ensures, c.in-At.is, ← c.part_count.ensures, ← c.natural_field.ensures.result_value, c.in-Bad-natural_field.is) c.failed.ensures
+returns-in-Err-natural_field c =
+    rw (← c.own_place.ensures, c.in-Ok.is, ← c.part_count.ensures, ← c.natural_field.ensures.result_value, c.in-Err-natural_field.is)
 
-pub returns-in-Bad : goal.returns-in-Bad
+pub returns-in-Err : goal.returns-in-Err
 unfolding shallow_card
-returns-in-Bad c =
-    rw (← c.own_place.ensures, c.in-Bad.is) c.failed-in-Bad.ensures
+returns-in-Err c =
+    rw (← c.own_place.ensures, c.in-Err.is)

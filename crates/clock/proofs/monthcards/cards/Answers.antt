@@ -1,5 +1,4 @@
 -- `clock::monthcards::cards` meets its contract: the series of the month's hours, in the first places of the row, and their cards. Assumes nothing.
-use borrow.Author.Rules.{rules}
 use native.Mathlib.Omega.{arith}
 use Prim.Native.Nat.{ℕ, ◌*◌, ◌≤◌}
 use mathlib.Core.Path.{sym, ap, ◌∙◌}
@@ -8,8 +7,8 @@ use lib.IntN.{ℤ}
 use lib.ListN.{length}
 use lib.Seq.{length-take-le}
 use Rattle.calendar.proofs.Months.{month-short}
-use Rattle.month_prepared.specs.inner.View.{constituents_from}
 use Rattle.heights.specs.Height.{height_at}
+use Rattle.heights.specs.inner.Lent.{constituents_lent}
 use Rattle.heights.specs.Series.{series_of}
 use Rattle.hourly.specs.Card.{HourlyCard}
 use Rattle.hourly.specs.Month.{bytes_of, into_buffer}
@@ -46,7 +45,7 @@ write_cards-requires c =
 pub returns : goal.returns
 returns c =
     let within : 24 * c.month_days.result ≤ length c.hour_places-hours.result = omega (arith, month-short c.args.year c.args.month, c.month_days.ensures, c.hour_places-hours.ensures) in
-    let height = height_at (constituents_from c.args.arguments.now c.args.lags.now c.args.frequencies.now c.args.ps.now c.args.qs.now c.args.count) in
+    let height = height_at (constituents_lent c.args.lent) in
     let hours = hours-first height 60 60 _ _ _ within c.series.ensures ∙ ap (λ (d : ℕ). series_of height 60 60 (24 * d)) c.month_days.ensures in
     c.write_cards.ensures
     ∙ ap (λ (cards : List HourlyCard). into_buffer (bytes_of cards (length c.args.out.now)) c.args.out.now)

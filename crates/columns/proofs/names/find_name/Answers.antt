@@ -1,10 +1,6 @@
 -- `columns::names::find_name` meets its contract. The loop's invariant: looking from place k on finds what looking from 0 on finds. Rests on the clauses of `place_from`. Assumes nothing.
-use borrow.Author.Rules.{rules}
-use mathlib.Core.Path.{◌≡◌}
-use Prim.Native.Nat.{◌-◌}
 use native.Mathlib.Nat.{sub-zero}
 use Rattle.columns.specs.Columns.{columns}
-use Rattle.columns.specs.Names.{names_from, place_from, place_of}
 use Rattle.columns.proofs.names.Names.{place-more, place_none}
 use Rattle.columns.proofs.names.find_name.Goals as goal
 

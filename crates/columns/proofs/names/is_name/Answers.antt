@@ -1,5 +1,4 @@
 -- `columns::names::is_name` meets its contract. What is read of the part at a place, padded, is the name there: `padded-part`. Assumes nothing.
-use borrow.Author.Rules.{rules}
 use Prim.Native.Nat.{◌*◌}
 use Rattle.columns.proofs.Columns.{padded-part}
 use Rattle.columns.proofs.names.is_name.Goals as goal

@@ -1,5 +1,4 @@
 -- `columns::names::name_part` meets its contract. The part of the line, and that it is the five columns when padded: `padded-part`. Assumes nothing.
-use borrow.Author.Rules.{rules}
 use Rattle.columns.proofs.Columns.{padded-part}
 use Rattle.columns.proofs.names.name_part.Goals as goal
 

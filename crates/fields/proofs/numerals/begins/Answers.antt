@@ -1,5 +1,4 @@
 -- `fields::numerals::begins` meets its contract. A column before the end is the first of the rest: `begins-more`, `begins-none`. Assumes nothing.
-use borrow.Author.Rules.{rules}
 use Rattle.fields.proofs.numerals.Digits.{begins-more, begins-none}
 use Rattle.fields.proofs.numerals.begins.Goals as goal
 

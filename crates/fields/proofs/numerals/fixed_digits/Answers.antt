@@ -1,5 +1,4 @@
 -- `fields::numerals::fixed_digits` meets its contract. A cap put on between the digits shows only at the end: `capped-before`, twice. Assumes nothing.
-use borrow.Author.Rules.{rules}
 use mathlib.Core.Path.{◌∙◌}
 use Prim.Native.Nat.{◌+◌, ◌-◌}
 use lib.ListN.{replicate}

@@ -1,10 +1,9 @@
 -- `fields::numerals::fixed_size` meets its contract. The tests in the definition's order, by the columns where digits and decimals end: `fixed-good`, `fixed-size`. Assumes nothing.
 use native.Mathlib.Omega.{arith}
-use borrow.Author.Rules.{rules}
 use mathlib.Core.Path.{refl, sym, ap, ◌∙◌}
 use Prim.Native.Nat.{◌+◌, ◌-◌, ◌≤◌, ◌<◌}
 use borrow.Author.Tests.{lt-ltb, le-ltb, le-leb, lt-leb}
-use Rattle.fields.specs.declared.numerals.Size.TheVariants.{Of}
+use Rattle.std.specs.Prelude.{Some}
 use Rattle.fields.proofs.numerals.Digits.{begins-within}
 use Rattle.fields.proofs.numerals.Sizes.{fixed-good, fixed-size}
 use lib.ListN.{length}
@@ -50,7 +49,7 @@ returns-then-all_among c =
       ← c.all_among.ensures,
       c.if-all_among.true,
       fixed-size c.args.field.now c.args.k c.args.end c.run_end-point.result c.run_end-point.ensures c.run_end-stop.result c.args.decimals c.run_end-stop.ensures,
-    ) (ap Of c.fixed_digits.ensures)
+    ) (ap Some c.fixed_digits.ensures)
 
 pub returns-else-all_among : goal.returns-else-all_among
 returns-else-all_among c =

@@ -1,11 +1,9 @@
 -- `fields::numerals::numeral` meets its contract. The loop's invariant: the digits left, behind the number so far, write the capped number. Rests on `capped-before`. Assumes nothing.
 use native.Mathlib.Omega.{arith}
-use borrow.Author.Rules.{rules}
 use mathlib.Core.Path.{◌≡◌, refl, sym, ◌∙◌}
-use Prim.Native.Nat.{min, ◌+◌, ◌*◌, ◌-◌, ◌≤◌}
+use Prim.Native.Nat.{min, ◌+◌, ◌*◌, ◌-◌}
 use lib.ListN.{get_or}
 use Rattle.columns.specs.Columns.{columns}
-use Rattle.fields.specs.Numerals as spec
 use Rattle.fields.specs.inner.Cap.{cap}
 use Rattle.fields.proofs.numerals.Digits.{numeral-more, numeral-none, capped-before}
 use Rattle.fields.proofs.numerals.numeral.Goals as goal

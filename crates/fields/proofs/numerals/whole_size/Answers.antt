@@ -1,10 +1,9 @@
 -- `fields::numerals::whole_size` meets its contract. The tests in the definition's order, by the column where the digits end: `whole-good`, `whole-size`. Assumes nothing.
 use native.Mathlib.Omega.{arith}
-use borrow.Author.Rules.{rules}
 use mathlib.Core.Path.{ap}
 use Prim.Native.Nat.{◌-◌, ◌≤◌, ◌<◌}
 use borrow.Author.Tests.{lt-ltb, le-ltb}
-use Rattle.fields.specs.declared.numerals.Size.TheVariants.{Of}
+use Rattle.std.specs.Prelude.{Some}
 use Rattle.fields.proofs.numerals.Sizes.{whole-good, whole-size}
 use Rattle.fields.proofs.numerals.whole_size.Goals as goal
 
@@ -22,7 +21,7 @@ returns-then-all_among c =
       ← c.all_among.ensures,
       c.if-all_among.true,
       whole-size c.args.field.now c.args.k c.args.end c.run_end-last.result c.run_end-last.ensures,
-    ) (ap Of c.numeral.ensures)
+    ) (ap Some c.numeral.ensures)
 
 pub returns : goal.returns
 returns c =

@@ -6,7 +6,6 @@ use native.Mathlib.Nat.{mul-le-mul}
 use Rattle.limits.specs.Limits.{most_minutes}
 use Rattle.heights.specs.Angle.{angle}
 use Rattle.heights.proofs.minuteangle.Turning.{lap, angle-is}
-use borrow.Author.Rules.{rules}
 use Rattle.heights.proofs.minuteangle.angle_at.Goals as goal
 
 -- the laps fit

@@ -6,7 +6,6 @@ use native.Mathlib.Nat.{mul-le-mul}
 use Rattle.limits.specs.Limits.{most_minutes}
 use Rattle.heights.specs.Angle.{angle}
 use Rattle.heights.proofs.minuteangle.Turning.{angle-of-card}
-use borrow.Author.Rules.{rules}
 use Rattle.heights.proofs.minuteangle.angle_of_card.Goals as goal
 
 -- what a constituent advances from the month's start fits

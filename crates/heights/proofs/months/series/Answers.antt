@@ -1,12 +1,16 @@
 -- `heights::months::series` meets its contract: the heights written so far are the series' own, place by place.
 use borrow.Author.Rules.{rules}
-use Prim.Native.Nat.{◌-◌}
 use native.Mathlib.Omega.{arith}
+use mathlib.Core.Path.{ap, ◌∙◌}
+use mathlib.Core.List.{List}
+use Prim.Native.Nat.{◌+◌, ◌-◌}
 use lib.ListN.{length}
-use Rattle.month_prepared.specs.inner.Rows.{months_in}
+use borrow.Rule.Slice.PartMut.{mid_of}
+use Rattle.month_prepared.specs.Prepared.{Constituent}
 use Rattle.month_prepared.proofs.Owners.{last-most}
-use Rattle.heights.specs.Height.{height_over}
-use Rattle.heights.proofs.months.Joined.{Joining, minute-within, joining-none, joining-all}
+use Rattle.heights.specs.Height.{height_at}
+use Rattle.heights.specs.Series.{series_of}
+use Rattle.heights.proofs.months.Joined.{minute-within, joining-none, joining-all}
 use Rattle.heights.proofs.months.Rows.{is-own, month-joined}
 use Rattle.heights.proofs.months.series.Goals as goal
 
@@ -16,26 +20,19 @@ loop-n-init c =
 
 pub overflow_mul-n : goal.overflow_mul-n
 overflow_mul-n c =
-    omega (arith, minute-within c.requires.series_within c.loop-n.n (omega arith), last-most c.args.months c.requires.table.1.0)
+    omega (arith, minute-within c.requires.series_within c.loop-n.n (omega arith), last-most c.args.lent.months c.requires.lent.following)
 
 pub overflow_add-start : goal.overflow_add-start
 overflow_add-start c =
-    omega (arith, minute-within c.requires.series_within c.loop-n.n (omega arith), last-most c.args.months c.requires.table.1.0)
+    omega (arith, minute-within c.requires.series_within c.loop-n.n (omega arith), last-most c.args.lent.months c.requires.lent.following)
 
 pub owner-own-requires : goal.owner-own-requires
 owner-own-requires c =
-    (c.requires.table.1.0, minute-within c.requires.series_within c.loop-n.n (omega arith))
+    (c.requires.lent.following, minute-within c.requires.series_within c.loop-n.n (omega arith))
 
 pub places_in-requires : goal.places_in-requires
 places_in-requires c =
-    (c.requires.table.1.0, (is-own c.owner-own.ensures, c.requires.series_within.some))
-
-pub month_series-requires : goal.month_series-requires
-month_series-requires c =
-    record {
-      table = c.requires.table;
-      own = (is-own c.owner-own.ensures, c.requires.series_within.short);
-    }
+    (c.requires.lent.following, (is-own c.owner-own.ensures, c.requires.series_within.some))
 
 pub loop-n-smaller : goal.loop-n-smaller
 loop-n-smaller c =
@@ -43,7 +40,10 @@ loop-n-smaller c =
 
 pub loop-n-preserved : goal.loop-n-preserved
 loop-n-preserved c =
-    month-joined c.args.arguments.now c.args.lags.now c.args.frequencies.now c.args.ps.now c.args.qs.now c.args.months c.args.start c.args.step c.loop-n.n _ c.places_in.result c.owner-own.result c.owner-own.ensures c.places_in.ensures (omega arith) c.loop-n.invariant _ c.month_series.ensures c.out-1.given.1
+    let l = c.args.lent in
+    let n = c.loop-n.n in
+    let here = c.series.ensures ∙ ap (λ (cs : List Constituent). series_of (height_at cs) c.owner-own.result.minute c.args.step (length (mid_of n (n + c.places_in.result - n) c.loop-n.out))) c.month.ensures.is in
+    month-joined l.arguments.now l.lags.now l.frequencies.now l.ps.now l.qs.now l.months c.args.start c.args.step c.loop-n.n _ c.places_in.result c.owner-own.result c.owner-own.ensures c.places_in.ensures (omega arith) c.loop-n.invariant _ here (search rules)
 
 pub returns : goal.returns
 returns c =

@@ -1,12 +1,11 @@
 -- `heights::series::height_of` meets its contract: the sum so far and the shares that are left give the sum of all. Assumes nothing.
-use Prim.Native.Nat.{ℕ, ◌+◌, ◌-◌, ◌*◌, ◌^◌, ◌≤◌, ◌<◌}
+use Prim.Native.Nat.{ℕ, ◌+◌, ◌-◌, ◌*◌, ◌^◌}
 use native.Mathlib.Omega.{arith}
 use native.Mathlib.Nat.{sub-zero}
-use mathlib.Core.Path.{◌≡◌, sym, ap, ap₂, ◌∙◌}
-use mathlib.Core.List.{List}
+use mathlib.Core.Path.{sym, ap, ap₂, ◌∙◌}
 use borrow.Author.Rules.{rules}
 use lib.Dec.{lit<, lit≤}
-use lib.IntN.{ℤ, pos, nat_abs, ◌+ℤ◌, +ℤ_idl, +ℤ_idr, +ℤ_assoc}
+use lib.IntN.{ℤ, pos, ◌+ℤ◌, +ℤ_idl, +ℤ_idr, +ℤ_assoc}
 use lib.ListN.{get_or}
 use mir.Syntax.{w32, w64}
 use mir.Val.{SFits, to_z}
@@ -14,19 +13,16 @@ use mir.ValLaws.{to_z-of_z}
 use Rattle.limits.specs.Limits.{most_records}
 use Rattle.angles.specs.Floor.{floor_div}
 use Rattle.angles.proofs.Known.{plainly, plus, shifted, kept, fits, says}
-use Rattle.month_prepared.specs.inner.View.{constituents_after, constituents_from}
+use Rattle.month_prepared.specs.inner.View.{constituents_after}
 use Rattle.heights.specs.Share.{share}
 use Rattle.heights.specs.Height.{sum_of_shares, height_at}
-use Rattle.heights.specs.inner.Angles.{Angles}
 use Rattle.heights.proofs.Terms.{shares-more, shares-none}
 use Rattle.heights.proofs.Sums.{one_more}
-use Rattle.heights.proofs.series.height_of.Invariants.{Summing}
 use Rattle.heights.proofs.series.height_of.Goals as goal
 
 pub loop-k-init : goal.loop-k-init
 loop-k-init c =
     record {
-      within = omega arith;
       size = omega arith;
       left = λ vs ls fs m h. +ℤ_idl _ ∙ ap (λ (n : ℕ). sum_of_shares (constituents_after vs ls fs c.args.ps.now c.args.qs.now 0 n) m) (sub-zero c.args.count);
     }
@@ -45,7 +41,6 @@ loop-k-preserved c =
     let more = says (kept (one_more z c.share_at-sum.result c.loop-k.k (omega arith) c.loop-k.invariant.size c.share_at-sum.ensures.result_bound) (omega arith)) in
     let is_share = c.share_at-sum.ensures.value ∙ ap₂ (λ (x y : ℤ). share x y (get_or c.args.angles.now c.loop-k.k 0)) (to_z-of_z w32 p fp) (to_z-of_z w32 q fq) in
     record {
-      within = omega arith;
       size = more.1;
       left = λ vs ls fs m h.
           let rest = sum_of_shares (constituents_after vs ls fs c.args.ps.now c.args.qs.now (c.loop-k.k + 1) (c.args.count - (c.loop-k.k + 1))) m in

@@ -1,25 +1,16 @@
-use borrow.Author.Rules.{rules}
-use Prim.Native.Nat.{ℕ, ◌+◌, ◌-◌, ◌%◌, ◌≤◌, ◌<◌}
-use native.Mathlib.Omega.{arith}
-use mathlib.Core.Path.{◌≡◌, refl, ap, ◌∙◌}
+use Prim.Native.Nat.{ℕ, ◌≤◌}
+use mathlib.Core.Path.{◌≡◌}
 use mathlib.Core.List.{List}
-use lib.ListN.{length, get_or, length-set}
-use borrow.Author.Count.{below_none}
+use lib.ListN.{length, get_or}
 use Rattle.limits.specs.Limits.{most_records}
-use Rattle.angles.specs.Ticks.{turn}
 use Rattle.heights.specs.inner.Angles.{MovedOn}
-use Rattle.heights.proofs.series.Filling.{filled_more, unreached}
 use Rattle.heights.proofs.series.move_on.Given as goal
 
 -- before place k: the places below it are moved on, the others are as they were
-pub record Moving (angles₀ ticks : List ℕ) (count : ℕ) (angles : List ℕ) (k : ℕ) : Type 0 where
-  pub within : k ≤ count
+pub record Moving (angles₀ ticks angles : List ℕ) (k : ℕ) : Type 0 where
   pub room : length angles ≡ most_records
   pub moved : MovedOn k ticks angles₀ angles
   pub others : (j : ℕ) → k ≤ j → get_or angles j 0 ≡ get_or angles₀ j 0
 
 abbrev pub invariant-loop-k : goal.invariant-loop-k
-invariant-loop-k l = Moving l.initial.angles l.ticks l.count l.angles l.k
-
-abbrev pub decreases-loop-k : goal.decreases-loop-k
-decreases-loop-k l = l.count - l.k
+invariant-loop-k l = Moving l.initial.angles l.ticks l.angles l.k

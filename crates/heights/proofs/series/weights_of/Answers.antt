@@ -16,7 +16,7 @@ use Rattle.heights.proofs.series.weights_of.Goals as goal
 
 pub loop-k-init : goal.loop-k-init
 loop-k-init c =
-    (omega arith, (refl, below_none _))
+    record { room = refl; copied = below_none _ }
 
 pub loop-k-preserved : goal.loop-k-preserved
 loop-k-preserved c =
@@ -24,8 +24,8 @@ loop-k-preserved c =
     let copied = to_z w32 (of_z w32 weight) in
     let fits : SFits w32 weight = search rules in
     let l : c.loop-k.k < length c.loop-k.weights = omega arith in
-    (omega arith, (length-set c.loop-k.weights c.loop-k.k copied ∙ c.loop-k.invariant.1.0, filled_more (pos 0) c.loop-k.weights c.loop-k.k copied (λ j. get_or c.args.row.now j (pos 0)) l c.loop-k.invariant.1.1 (to_z-of_z w32 weight fits)))
+    record { room = length-set c.loop-k.weights c.loop-k.k copied ∙ c.loop-k.invariant.room; copied = filled_more (pos 0) c.loop-k.weights c.loop-k.k copied (λ j. get_or c.args.row.now j (pos 0)) l c.loop-k.invariant.copied (to_z-of_z w32 weight fits) }
 
 pub returns : goal.returns
 returns c =
-    ext_get_or (pos 0) c.loop-k.weights c.args.row.now (c.loop-k.invariant.1.0 ∙ sym c.requires) (λ j h. c.loop-k.invariant.1.1 j (omega arith))
+    ext_get_or (pos 0) c.loop-k.weights c.args.row.now (c.loop-k.invariant.room ∙ sym c.requires) (λ j h. c.loop-k.invariant.copied j (omega arith))

@@ -1,7 +1,6 @@
 -- `heights::shares::share_at` meets its contract: the shift is the floor of the two products' difference. Assumes nothing.
 use Prim.Native.Nat.{◌^◌}
 use mathlib.Core.Path.{ap, ◌∙◌}
-use borrow.Author.Rules.{rules}
 use lib.Dec.{lit<, lit≤}
 use lib.IntN.{ℤ, ◌*ℤ◌}
 use mir.Syntax.{w32}

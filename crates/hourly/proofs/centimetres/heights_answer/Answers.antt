@@ -3,7 +3,6 @@ use mathlib.Core.Path.{◌≡◌, sym, ap, ◌∙◌}
 use mathlib.Core.Bool.{Bool, false}
 use Prim.Native.Nat.{ℕ, ◌<◌, ◌^◌}
 use native.Mathlib.Omega.{arith}
-use borrow.Author.Rules.{rules}
 use borrow.Author.Count.{below_none, below_more}
 use lib.IntN.{ℤ, pos}
 use lib.ListN.{length, get_or}
@@ -24,20 +23,20 @@ told h r out f e g o =
 
 pub loop-k-init : goal.loop-k-init
 loop-k-init c =
-    (omega arith, below_none _)
+    below_none _
 
 pub returns-then-outside : goal.returns-then-outside
 returns-then-outside c =
-    record {
-      asked = λ station year month n e. sym (first-refused c.args.hours.now station year month c.loop-k.k c.loop-k.invariant.1 (sym (told (get_or c.args.hours.now c.loop-k.k (pos 0)) c.centimetres.result c.outside.result (omega arith) c.centimetres.ensures c.centimetres.type_inv c.outside.ensures) ∙ c.if-outside.true) 0 n (omega arith) (omega arith) (omega arith));
+    rw c.at.ensures (record {
+      asked = λ station year month n e. sym (first-refused c.args.hours.now station year month c.loop-k.k c.loop-k.invariant (sym (told (get_or c.args.hours.now c.loop-k.k (pos 0)) c.centimetres.result c.outside.result (omega arith) c.centimetres.ensures c.centimetres.type_inv c.outside.ensures) ∙ c.if-outside.true) 0 n (omega arith) (omega arith) (omega arith));
       inside = λ e. not-both e;
-    }
+    })
 
 pub loop-k-preserved : goal.loop-k-preserved
 loop-k-preserved c =
-    (search rules, below_more _ _ c.loop-k.invariant.1 (sym (told (get_or c.args.hours.now c.loop-k.k (pos 0)) c.centimetres.result c.outside.result (omega arith) c.centimetres.ensures c.centimetres.type_inv c.outside.ensures) ∙ c.if-outside.false))
+    below_more _ _ c.loop-k.invariant (sym (told (get_or c.args.hours.now c.loop-k.k (pos 0)) c.centimetres.result c.outside.result (omega arith) c.centimetres.ensures c.centimetres.type_inv c.outside.ensures) ∙ c.if-outside.false)
 
 pub returns : goal.returns
 returns c =
-    let inside : (k : ℕ) → k < length c.args.hours.now → outside (value (centimetres (get_or c.args.hours.now k (pos 0)))) ≡ false = λ k h. c.loop-k.invariant.1 k (omega (arith, c.loop-k-test.false)) in
+    let inside : (k : ℕ) → k < length c.args.hours.now → outside (value (centimetres (get_or c.args.hours.now k (pos 0)))) ≡ false = λ k h. c.loop-k.invariant k (omega (arith, c.loop-k-test.false)) in
     record { asked = λ station year month n e. sym (all-accepted c.args.hours.now station year month inside 0 n 1 (omega arith)); inside = λ e. inside }

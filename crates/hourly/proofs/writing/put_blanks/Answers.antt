@@ -1,42 +1,43 @@
--- `hourly::writing::put_blanks` meets its contract: the blanks that are left are stored one by one. Assumes nothing.
-use mathlib.Core.Path.{◌≡◌, refl}
-use mathlib.Core.List.{List, [], ◌∷◌}
-use Prim.Native.Nat.{ℕ, suc, ◌+◌, ◌-◌, ◌≤◌, ◌<◌}
-use native.Mathlib.Nat.{add-zero}
+-- `hourly::writing::put_blanks` meets its contract: the part that is filled holds the blanks. Assumes nothing.
+use mathlib.Core.Path.{◌≡◌, sym, ap, ◌∙◌}
+use mathlib.Core.List.{List, ◌++◌}
+use Prim.Native.Nat.{ℕ, ◌+◌, ◌-◌, ◌≤◌}
 use native.Mathlib.Omega.{arith}
-use lib.ListN.{set, replicate}
-use lib.Seq.{sets}
-use Rattle.hourly.proofs.writing.Stores.{Left, left-all, left-next, left-none}
+use borrow.Rule.Slice.PartMut.{put_mid}
+use lib.ListN.{length, take, drop, replicate, length-drop, length-replicate, drop_of_length-le}
+use lib.Seq.{sets, sets-eq, take-length, length-take-le}
+use Rattle.std.proofs.Common.{append-nil}
+use Rattle.std.proofs.lemmas.List.Edits.{fill_none, fill_more}
+use Rattle.std.proofs.lemmas.Slice.{put_mid-paste}
 use Rattle.hourly.proofs.writing.put_blanks.Goals as goal
 
-module _ (out₀ : List ℕ) (at count : ℕ) where
-  none_yet : Left out₀ at (replicate count 32) out₀ (at + 0) (replicate (count - 0) 32)
-  none_yet = let e : count - 0 ≡ count = omega arith in rw (add-zero at, e) (left-all out₀ at (replicate count 32))
+module _ (out : List ℕ) (at count n : ℕ) (there : at + count ≤ length out) (e : n ≡ count) where
+  slice-length : length (take n (drop at out)) ≡ count
+  slice-length = rw e (length-take-le count (drop at out) (omega (arith, length-drop at out)))
 
-  one_more : (out : List ℕ) (j : ℕ) → j < count → Left out₀ at (replicate count 32) out (at + j) (replicate (count - j) 32) → Left out₀ at (replicate count 32) (set out (at + j) 32) (at + (j + 1)) (replicate (count - (j + 1)) 32)
-  one_more out j h l =
-      let e : count - j ≡ suc (count - (j + 1)) = omega arith in
-      left-next (32 ∷ []) (at + (j + 1)) (rw e at l) refl (omega arith)
+  -- the bytes of the part, when all of it is filled
+  all-blank : (part : List ℕ) (k : ℕ) → k ≡ count → part ≡ replicate k 32 ++ drop k (take n (drop at out)) → part ≡ replicate count 32
+  all-blank part k all h = h ∙ rw (all, drop_of_length-le (take n (drop at out)) {i = count} (omega (arith, slice-length))) (append-nil _)
 
-  all-of-them : (out : List ℕ) (j : ℕ) → count ≤ j → Left out₀ at (replicate count 32) out (at + j) (replicate (count - j) 32) → out ≡ sets out₀ at (replicate count 32)
-  all-of-them out j h l = let e : count - j ≡ 0 = omega arith in left-none (rw e at l)
+  filled : (part : List ℕ) → part ≡ replicate count 32 → put_mid at n out part ≡ sets out at (replicate count 32)
+  filled part h =
+      let blanks = replicate count 32 in
+      let all : take count blanks ≡ blanks = ap (λ (k : ℕ). take k blanks) (sym (length-replicate {A = ℕ} count 32)) ∙ take-length blanks in
+      rw (sets-eq blanks out at (omega (arith, length-replicate {A = ℕ} count 32)), length-replicate {A = ℕ} count 32)
+      (put_mid-paste at n out part blanks count h (sym e) (sym (length-replicate {A = ℕ} count 32)) ∙ rw all)
 
-pub loop-j-init : goal.loop-j-init
-loop-j-init c =
-    (omega arith, none_yet c.args.out.now c.args.at c.args.count)
+pub loop-byte-init : goal.loop-byte-init
+loop-byte-init c = fill_none _ 32
 
-pub bounds-out-at : goal.bounds-out-at
-bounds-out-at c =
-    omega (arith, c.loop-j.invariant.1.same_length)
-
-pub loop-j-preserved : goal.loop-j-preserved
-loop-j-preserved c =
-    (omega arith, one_more c.args.out.now c.args.at c.args.count c.loop-j.out c.loop-j.j c.loop-j-test.true c.loop-j.invariant.1)
-
-pub shape_of-out : goal.shape_of-out
-shape_of-out c =
-    c.loop-j.invariant.1.same_length
+pub loop-byte-preserved : goal.loop-byte-preserved
+loop-byte-preserved c =
+    let slice = take (c.args.at + c.args.count - c.args.at) (drop c.args.at c.args.out.now) in
+    rw c.loop-byte.invariant (fill_more c.loop-byte.byte-index 32 slice c.loop-byte-test.true)
 
 pub returns : goal.returns
 returns c =
-    all-of-them c.args.out.now c.args.at c.args.count c.loop-j.out c.loop-j.j c.loop-j-test.false c.loop-j.invariant.1
+    let n = c.args.at + c.args.count - c.args.at in
+    let many : n ≡ c.args.count = omega arith in
+    let all : c.loop-byte.byte-index ≡ c.args.count = omega (arith, slice-length c.args.out.now c.args.at c.args.count n c.requires many) in
+    filled c.args.out.now c.args.at c.args.count n c.requires many c.loop-byte.byte-items
+    (all-blank c.args.out.now c.args.at c.args.count n c.requires many c.loop-byte.byte-items c.loop-byte.byte-index all c.loop-byte.invariant)

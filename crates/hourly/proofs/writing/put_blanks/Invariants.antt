@@ -1,10 +1,8 @@
-use Prim.Native.Nat.{◌+◌, ◌-◌, ◌≤◌}
-use lib.ListN.{replicate}
-use Rattle.hourly.proofs.writing.Stores.{Left}
+-- `hourly::writing::put_blanks`: the bytes so far are blanks, and those behind them as they were.
+use mathlib.Core.Path.{◌≡◌}
+use mathlib.Core.List.{◌++◌}
+use lib.ListN.{drop, replicate}
 use Rattle.hourly.proofs.writing.put_blanks.Given as goal
 
-abbrev pub invariant-loop-j : goal.invariant-loop-j
-invariant-loop-j l = (l.j ≤ l.count) × Left l.initial.out l.at (replicate l.count 32) l.out (l.at + l.j) (replicate (l.count - l.j) 32)
-
-abbrev pub decreases-loop-j : goal.decreases-loop-j
-decreases-loop-j l = l.count - l.j
+abbrev pub invariant-loop-byte : goal.invariant-loop-byte
+invariant-loop-byte l = l.byte-items ≡ replicate l.byte-index 32 ++ drop l.byte-index l.initial.byte-items

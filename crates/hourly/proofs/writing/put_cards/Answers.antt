@@ -14,7 +14,6 @@ pub loop-i-init : goal.loop-i-init
 loop-i-init c =
     let e : c.args.cards - 0 ≡ c.args.cards = omega arith in
     record {
-      within = omega arith;
       place = sym (zero-mul (card_length c.args.width));
       stored = rw e (left-all c.args.out.now 0 (cards_written c.args.width (cards_after c.args.hours.now c.args.heading.station c.args.heading.year c.args.heading.month 0 c.args.cards)));
     }
@@ -26,7 +25,6 @@ put_card-at-requires c =
 pub loop-i-preserved : goal.loop-i-preserved
 loop-i-preserved c =
     record {
-      within = omega (arith, c.loop-i-test.true);
       place = omega (arith, c.put_card-at.ensures.value, c.loop-i.invariant.place, one_more c.loop-i.i (card_length c.args.width));
       stored = rw c.put_card-at.ensures.value (cards-next c.args.width c.args.hours.now c.args.heading.station c.args.heading.year c.args.heading.month c.requires.1.1 c.loop-i.i c.args.cards c.loop-i-test.true c.requires.1.0 c.loop-i.invariant.stored c.put_card-at.ensures.out_after);
     }

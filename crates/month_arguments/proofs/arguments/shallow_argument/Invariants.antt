@@ -9,7 +9,7 @@ use Rattle.month_arguments.specs.inner.Rows.{arguments_in}
 use Rattle.month_arguments.proofs.arguments.shallow_argument.Given as goal
 
 abbrev pub invariant-loop-part : goal.invariant-loop-part
-invariant-loop-part l = (mod_turn (pos l.v +ℤ sum_of_parts (arguments_in l.kept) (listed (part_of (naturals 6 l.cards l.row) (integers 4 l.coefficients l.row)) l.part (l.parts - l.part))) ≡ argument_from_parts (arguments_in l.kept) (shallow_of l.cards l.coefficients l.row)) × (l.v < turn) × (l.parts < 65536)
-
-abbrev pub decreases-loop-part : goal.decreases-loop-part
-decreases-loop-part l = l.parts - l.part
+invariant-loop-part l = record {
+  same : mod_turn (pos l.v +ℤ sum_of_parts (arguments_in l.kept) (listed (part_of (naturals 6 l.table.shallowcards l.row) (integers 4 l.table.coefficients l.row)) l.part (l.parts - l.part))) ≡ argument_from_parts (arguments_in l.kept) (shallow_of l.table.shallowcards l.table.coefficients l.row);
+  below : l.v < turn;
+}

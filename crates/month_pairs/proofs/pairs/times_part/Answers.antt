@@ -15,15 +15,22 @@ use Rattle.month_pairs.proofs.pairs.times_part.Goals as goal
 
 pub turn-requires : goal.turn-requires
 turn-requires c =
-    subst Small c.in-Within.is c.requires.small
+    subst Small c.in-Some.is c.requires.small
 
-pub returns-in-Within : goal.returns-in-Within
-returns-in-Within c =
+pub returns-in_default : goal.returns-in_default
+returns-in_default c =
+    record {
+      result_value = sym (ap (λ m. times_main (pair_of c.args.p) (corrected_of m) c.args.coefficient) c.in_default.is);
+      small_2 = tt;
+    }
+
+pub returns : goal.returns
+returns c =
     let P = pair_of c.args.p in
     let here = to_z-of_z w8 c.args.coefficient c.ranges.coefficient in
     let often = size-through w8 c.args.coefficient c.widened.result c.size.result (lit< tt) c.ranges.coefficient (c.widened.ensures.value, c.widened.ensures.result_bound) c.size.ensures in
-    let by = c.turn.ensures.result_value ∙ ap (λ (z : ℤ). turned z (pair_of c.in-Within.q)) here in record {
+    let by = c.turn.ensures.result_value ∙ ap (λ (z : ℤ). turned z (pair_of c.in-Some.q)) here in record {
       result_value = c.times_often.ensures.result_value ∙ ap₂ (λ (k : ℕ) (p : Pair). times_often k P p) often by
-          ∙ sym (ap (λ m. times_main P (corrected_of m) c.args.coefficient) c.in-Within.is);
+          ∙ sym (ap (λ m. times_main P (corrected_of m) c.args.coefficient) c.in-Some.is);
       small_2 = c.times_often.ensures.small;
     }

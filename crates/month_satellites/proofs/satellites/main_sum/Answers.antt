@@ -29,34 +29,31 @@ pair_is g ls s x y start n first count ex ey es en =
 
 pub loop-k-init : goal.loop-k-init
 loop-k-init c =
-    (omega arith, omega arith, omega arith, begin _ _ (pos (2 ^ 20)) _ _ (lit≤ tt), begin _ _ (pos 0) _ _ (lit≤ tt))
+    record { x = begin _ _ (pos (2 ^ 20)) _ _ (lit≤ tt); y = begin _ _ (pos 0) _ _ (lit≤ tt) }
 
 pub overflow_add-x : goal.overflow_add-x
 overflow_add-x c =
-    added-fits _ _ _ _ _ c.loop-k.k c.loop-k.x-bits c.terms_of-t.result.x c.loop-k.invariant.0 c.loop-k-test.true c.loop-k.invariant.2 c.loop-k.invariant.3 c.terms_of-t.ensures.sized.x
+    added-fits _ _ _ _ _ c.loop-k.k c.loop-k.x-bits c.terms_of-t.result.x (omega arith) c.loop-k-test.true (omega arith) c.loop-k.invariant.x c.terms_of-t.ensures.sized.x
 
 pub overflow_add-y : goal.overflow_add-y
 overflow_add-y c =
-    added-fits _ _ _ _ _ c.loop-k.k c.loop-k.y-bits c.terms_of-t.result.y c.loop-k.invariant.0 c.loop-k-test.true c.loop-k.invariant.2 c.loop-k.invariant.4 c.terms_of-t.ensures.sized.y
+    added-fits _ _ _ _ _ c.loop-k.k c.loop-k.y-bits c.terms_of-t.result.y (omega arith) c.loop-k-test.true (omega arith) c.loop-k.invariant.y c.terms_of-t.ensures.sized.y
 
 pub loop-k-preserved : goal.loop-k-preserved
-loop-k-preserved c = (
-  omega arith,
-  omega arith,
-  c.loop-k.invariant.2,
-  added-runs _ _ _ _ _ c.loop-k.k c.loop-k.x-bits c.terms_of-t.result.x c.loop-k.invariant.0 c.loop-k-test.true c.loop-k.invariant.2 c.loop-k.invariant.3 c.terms_of-t.ensures.sized.x
-      (c.terms_of-t.ensures.x_value ∙ ap (satellite_term fixed_cosine (factors_of c.args.g) (longitudes_of c.args.l)) c.satellite_at.ensures),
-  added-runs _ _ _ _ _ c.loop-k.k c.loop-k.y-bits c.terms_of-t.result.y c.loop-k.invariant.0 c.loop-k-test.true c.loop-k.invariant.2 c.loop-k.invariant.4 c.terms_of-t.ensures.sized.y
-      (c.terms_of-t.ensures.y_value ∙ ap (satellite_term fixed_sine (factors_of c.args.g) (longitudes_of c.args.l)) c.satellite_at.ensures),
-)
+loop-k-preserved c = record {
+  x = added-runs _ _ _ _ _ c.loop-k.k c.loop-k.x-bits c.terms_of-t.result.x (omega arith) c.loop-k-test.true (omega arith) c.loop-k.invariant.x c.terms_of-t.ensures.sized.x
+      (c.terms_of-t.ensures.x_value ∙ ap (satellite_term fixed_cosine (factors_of c.args.g) (longitudes_of c.args.l)) c.satellite_at.ensures);
+  y = added-runs _ _ _ _ _ c.loop-k.k c.loop-k.y-bits c.terms_of-t.result.y (omega arith) c.loop-k-test.true (omega arith) c.loop-k.invariant.y c.terms_of-t.ensures.sized.y
+      (c.terms_of-t.ensures.y_value ∙ ap (satellite_term fixed_sine (factors_of c.args.g) (longitudes_of c.args.l)) c.satellite_at.ensures);
+}
 
 pub returns : goal.returns
 returns c =
     record {
-      result_value = pair_is (factors_of c.args.g) (longitudes_of c.args.l) (satellite_of c.args.angles.now c.args.ratios.now) (to_z w64 c.loop-k.x-bits) (to_z w64 c.loop-k.y-bits) c.index-start.result c.index.result c.args.first c.args.count
-          (done _ _ _ _ _ c.loop-k.k (to_z w64 c.loop-k.x-bits) c.loop-k-test.false c.loop-k.invariant.3) (done _ _ _ _ _ c.loop-k.k (to_z w64 c.loop-k.y-bits) c.loop-k-test.false c.loop-k.invariant.4) c.index-start.ensures.value c.index.ensures.value;
+      result_value = pair_is (factors_of c.args.g) (longitudes_of c.args.l) (satellite_of c.args.table.now.satelliteangles c.args.table.now.satelliteratios) (to_z w64 c.loop-k.x-bits) (to_z w64 c.loop-k.y-bits) c.index-start.result c.index.result c.args.first c.args.count
+          (done _ _ _ _ _ c.loop-k.k (to_z w64 c.loop-k.x-bits) c.loop-k-test.false c.loop-k.invariant.x) (done _ _ _ _ _ c.loop-k.k (to_z w64 c.loop-k.y-bits) c.loop-k-test.false c.loop-k.invariant.y) c.index-start.ensures.value c.index.ensures.value;
       sized = record {
-        x = le_trans (room _ _ _ _ _ c.loop-k.k (to_z w64 c.loop-k.x-bits) c.loop-k.invariant.0 (omega arith) c.loop-k.invariant.3) (lit≤ tt);
-        y = le_trans (room _ _ _ _ _ c.loop-k.k (to_z w64 c.loop-k.y-bits) c.loop-k.invariant.0 (omega arith) c.loop-k.invariant.4) (lit≤ tt);
+        x = le_trans (room _ _ _ _ _ c.loop-k.k (to_z w64 c.loop-k.x-bits) (omega arith) (omega arith) c.loop-k.invariant.x) (lit≤ tt);
+        y = le_trans (room _ _ _ _ _ c.loop-k.k (to_z w64 c.loop-k.y-bits) (omega arith) (omega arith) c.loop-k.invariant.y) (lit≤ tt);
       };
     }

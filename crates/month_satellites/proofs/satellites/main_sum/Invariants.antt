@@ -1,4 +1,4 @@
-use Prim.Native.Nat.{◌+◌, ◌-◌, ◌^◌, ◌≤◌, ◌<◌}
+use Prim.Native.Nat.{◌^◌}
 use lib.IntN.{pos}
 use Rattle.cosine.specs.Fixed.{fixed_cosine, fixed_sine}
 use Rattle.table.specs.inner.View.{satellite_of}
@@ -9,9 +9,7 @@ use Rattle.month_satellites.proofs.satellites.Running.{Running}
 use Rattle.month_satellites.proofs.satellites.main_sum.Given as goal
 
 abbrev pub invariant-loop-k : goal.invariant-loop-k
-invariant-loop-k l = (l.start ≤ l.k) × (l.k ≤ l.end) × (l.end < l.start + 2 ^ 16)
-    × Running (satellite_term fixed_cosine (factors_of l.g) (longitudes_of l.l)) (satellite_of l.angles l.ratios) (pos (2 ^ 20)) l.start l.end l.k l.x
-    × Running (satellite_term fixed_sine (factors_of l.g) (longitudes_of l.l)) (satellite_of l.angles l.ratios) (pos 0) l.start l.end l.k l.y
-
-abbrev pub decreases-loop-k : goal.decreases-loop-k
-decreases-loop-k l = l.end - l.k
+invariant-loop-k l = record {
+  x : Running (satellite_term fixed_cosine (factors_of l.g) (longitudes_of l.l)) (satellite_of l.table.satelliteangles l.table.satelliteratios) (pos (2 ^ 20)) l.start l.end l.k l.x;
+  y : Running (satellite_term fixed_sine (factors_of l.g) (longitudes_of l.l)) (satellite_of l.table.satelliteangles l.table.satelliteratios) (pos 0) l.start l.end l.k l.y;
+}

@@ -22,9 +22,9 @@ satellite-is xs rs k a b d e ratio mark ha hb hd he hr hm = simp (ha, hb, hd, he
 
 pub returns : goal.returns
 returns c =
-    let fa : SFits w8 c.at_i8.result = search rules in
-    let fb : SFits w8 c.at_i8-2.result = search rules in
-    let fd : SFits w8 c.at_i8-3.result = search rules in
-    let fe : SFits w8 c.at_i8-4.result = search rules in
-    satellite-is c.args.angles.now c.args.ratios.now c.args.k _ _ _ _ _ _ (to_z-of_z w8 c.at_i8.result fa ∙ c.at_i8.ensures) (to_z-of_z w8 c.at_i8-2.result fb ∙ c.at_i8-2.ensures)
-    (to_z-of_z w8 c.at_i8-3.result fd ∙ c.at_i8-3.ensures) (to_z-of_z w8 c.at_i8-4.result fe ∙ c.at_i8-4.ensures) c.at_u32.ensures c.at_u32-2.ensures
+    let fa : SFits w8 c.at.result.now = search rules in
+    let fb : SFits w8 c.at-2.result.now = search rules in
+    let fd : SFits w8 c.at-3.result.now = search rules in
+    let fe : SFits w8 c.at-4.result.now = search rules in
+    satellite-is c.args.table.now.satelliteangles c.args.table.now.satelliteratios c.args.k _ _ _ _ _ _ (to_z-of_z w8 c.at.result.now fa ∙ c.at.ensures) (to_z-of_z w8 c.at-2.result.now fb ∙ c.at-2.ensures)
+    (to_z-of_z w8 c.at-3.result.now fd ∙ c.at-3.ensures) (to_z-of_z w8 c.at-4.result.now fe ∙ c.at-4.ensures) c.at-5.ensures c.at-6.ensures

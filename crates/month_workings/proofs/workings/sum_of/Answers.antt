@@ -15,12 +15,12 @@ use Rattle.month_workings.proofs.workings.sum_of.Goals as goal
 pub returns-then-given-k : goal.returns-then-given-k
 unfolding checked
 returns-then-given-k c =
-    past-entries (good start_pair) (row_corrected (factors_of c.args.given.factors) (nodal (longitudes_of c.args.given.longitudes)) c.args.cards.now c.args.angles.now c.args.ratios.now) c.args.given.mains c.args.k c.if-given-k.true
+    past-entries (good start_pair) (row_corrected (factors_of c.args.given.factors) (nodal (longitudes_of c.args.given.longitudes)) c.args.table.now.maincards c.args.table.now.satelliteangles c.args.table.now.satelliteratios) c.args.given.mains c.args.k c.if-given-k.true
 
 pub returns : goal.returns
 unfolding row_corrected row_satellites
 returns c =
     let g = factors_of c.args.given.factors in
     let l = nodal (longitudes_of c.args.given.longitudes) in
-    ap checked ((rw c.nodal_of-l.ensures.result_value at c.main_sum.ensures.result_value) ∙ ap₂ (λ (first count : ℕ). main_pair g l (listed (satellite_of c.args.angles.now c.args.ratios.now) first count)) c.natural_at-first.ensures c.natural_at-count.ensures)
-    ∙ entry_at (good start_pair) (row_corrected g l c.args.cards.now c.args.angles.now c.args.ratios.now) c.args.given.mains c.args.k c.if-given-k.false
+    ap checked ((rw c.nodal_of-l.ensures.result_value at c.main_sum.ensures.result_value) ∙ ap₂ (λ (first count : ℕ). main_pair g l (listed (satellite_of c.args.table.now.satelliteangles c.args.table.now.satelliteratios) first count)) c.entry_at-first.ensures c.entry_at-count.ensures)
+    ∙ entry_at (good start_pair) (row_corrected g l c.args.table.now.maincards c.args.table.now.satelliteangles c.args.table.now.satelliteratios) c.args.given.mains c.args.k c.if-given-k.false

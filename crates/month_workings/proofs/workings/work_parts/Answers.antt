@@ -8,22 +8,25 @@ use Rattle.month_workings.proofs.workings.work_parts.Goals as goal
 
 pub loop-j-init : goal.loop-j-init
 loop-j-init c =
-    (c.requires.kept_by, λ i h. absurd (not-suc-le-zero h), c.index-count.ensures.upper_bound)
+    record { kept = c.requires.kept_by; has = λ i h. absurd (not-suc-le-zero h) }
 
 pub work_main-requires : goal.work_main-requires
 work_main-requires c =
     record {
-      table = c.requires.table;
+      cosines = c.requires.cosines;
       given = c.requires.given;
-      kept_by = c.loop-j.invariant.0;
+      kept_by = c.loop-j.invariant.kept;
     }
 
 pub loop-j-preserved : goal.loop-j-preserved
 loop-j-preserved c =
-    let main = c.index-main.ensures.value ∙ c.natural_at-in-loop-j.ensures in
-    (c.work_main.ensures.kept, one-part-more _ _ c.index-main.result c.loop-j.kept _ (naturals 6 c.args.shallowcards.now c.args.row) c.loop-j.j main c.loop-j.invariant.1 c.work_main.ensures, c.loop-j.invariant.2)
+    let main = c.index-main.ensures.value ∙ c.entry_at-in-loop-j.ensures in
+    record {
+      kept = c.work_main.ensures.kept;
+      has = one-part-more _ _ c.index-main.result c.loop-j.kept _ (naturals 6 c.args.table.now.shallowcards c.args.row) c.loop-j.j main c.loop-j.invariant.has c.work_main.ensures;
+    }
 
 pub returns : goal.returns
 returns c =
-    let count = c.index-count.ensures.value ∙ c.natural_at.ensures in
-    record { kept = c.loop-j.invariant.0; has = λ j h. c.loop-j.invariant.1 j (omega (arith, h, count, c.loop-j-test.false)) }
+    let count = c.index-count.ensures.value ∙ c.entry_at.ensures in
+    record { kept = c.loop-j.invariant.kept; has = λ j h. c.loop-j.invariant.has j (omega (arith, h, count, c.loop-j-test.false)) }

@@ -1,5 +1,4 @@
 -- `station::strides::strides_outside` meets its contract: one of the three lengths. Assumes nothing.
-use borrow.Author.Rules.{rules}
 use mathlib.Core.Path.{sym, ◌∙◌}
 use Rattle.station.specs.Strides.{strides_outside}
 use Rattle.station.proofs.strides.strides_outside.Goals as goal

@@ -13,7 +13,7 @@ use Rattle.turns.proofs.bisection.+bisect.Goals as goal
 
 pub turn_between-requires : goal.turn_between-requires
 turn_between-requires t c =
-    let small = last-most c.args.months c.requires.rows.following in
+    let small = last-most c.args.lent.months c.requires.rows.lent.following in
     search rules
 
 pub returns-then-length-le1 : goal.returns-then-length-le1
@@ -24,7 +24,7 @@ returns-then-length-le1 t c =
 
 pub overflow_add-cut : goal.overflow_add-cut
 overflow_add-cut t c =
-    let small = last-most c.args.months c.requires.rows.following in
+    let small = last-most c.args.lent.months c.requires.rows.lent.following in
     search rules
 
 pub bisect-requires : goal.bisect-requires
@@ -57,7 +57,7 @@ bisect-requires-2 t c =
           some = omega arith;
           within = omega (arith, c.requires.bracket_pre.within);
           early = kept_result c.slope-middle.type_inv c.slope-middle.ensures;
-          late = kept fl (c.requires.bracket_pre.late ∙ ap (λ (m : ℕ). slopes_in c.args.arguments.now c.args.lags.now c.args.frequencies.now c.args.ps.now c.args.qs.now c.args.months m) (omega arith));
+          late = kept fl (c.requires.bracket_pre.late ∙ ap (λ (m : ℕ). slopes_in c.args.lent m) (omega arith));
         },
       ),
     )

@@ -15,16 +15,16 @@ use Rattle.turns.proofs.search.next_turn.Goals as goal
 
 pub loop-from-init : goal.loop-from-init
 loop-from-init c =
-    (c.requires.reaches.1, (kept c.ranges.here c.requires.here_value, refl))
+    record { within = c.requires.reaches.1; there = kept c.ranges.here c.requires.here_value; same = refl }
 
 pub overflow_add-from : goal.overflow_add-from
 overflow_add-from c =
-    let small = last-most c.args.months c.requires.rows.following in
+    let small = last-most c.args.lent.months c.requires.rows.lent.following in
     search rules
 
 pub overflow_add-to : goal.overflow_add-to
 overflow_add-to c =
-    let small = last-most c.args.months c.requires.rows.following in
+    let small = last-most c.args.lent.months c.requires.rows.lent.following in
     search rules
 
 pub bisect-t-requires : goal.bisect-t-requires
@@ -34,7 +34,7 @@ bisect-t-requires c =
       bracket_pre = record {
         some = c.requires.reaches.0.some;
         within = omega (arith, c.requires.reaches.0.within);
-        early = c.loop-from.invariant.1.0;
+        early = c.loop-from.invariant.there;
         late = kept_result c.slope-ahead.type_inv c.slope-ahead.ensures;
       };
     }
@@ -44,17 +44,17 @@ returns-then-differs c =
     let h : c.loop-from.from + c.args.reach.stride ≤ c.args.reach.last = omega (arith, c.loop-from-test.true) in
     let f : SFits w64 c.bisect-t.result.slope = search rules in
     let ahead = kept_result c.slope-ahead.type_inv c.slope-ahead.ensures in
-    let sense = sense-of c.loop-from.invariant.1.0 ahead c.differs.ensures c.if-differs.true in
-    let high = c.rises.ensures ∙ ap rising c.loop-from.invariant.1.0 in
-    turn-found _ c.args.reach.stride c.requires.reaches.0.some c.args.reach.last c.args.minute c.loop-from.from c.loop-from.invariant.1.1 h sense c.bisect-t.ensures high (to_z-of_z w64 c.bisect-t.result.slope f)
+    let sense = sense-of c.loop-from.invariant.there ahead c.differs.ensures c.if-differs.true in
+    let high = c.rises.ensures ∙ ap rising c.loop-from.invariant.there in
+    turn-found _ c.args.reach.stride c.requires.reaches.0.some c.args.reach.last c.args.minute c.loop-from.from c.loop-from.invariant.same h sense c.bisect-t.ensures high (to_z-of_z w64 c.bisect-t.result.slope f)
 
 pub loop-from-preserved : goal.loop-from-preserved
 loop-from-preserved c =
     let h : c.loop-from.from + c.args.reach.stride ≤ c.args.reach.last = omega (arith, c.loop-from-test.true) in
     let ahead = kept_result c.slope-ahead.type_inv c.slope-ahead.ensures in
-    let sense = sense-of c.loop-from.invariant.1.0 ahead c.differs.ensures c.if-differs.false in
-    (h, (ahead, stride-passed _ c.args.reach.stride c.requires.reaches.0.some c.args.reach.last c.args.minute c.loop-from.from c.loop-from.invariant.1.1 h sense))
+    let sense = sense-of c.loop-from.invariant.there ahead c.differs.ensures c.if-differs.false in
+    record { within = h; there = ahead; same = stride-passed _ c.args.reach.stride c.requires.reaches.0.some c.args.reach.last c.args.minute c.loop-from.from c.loop-from.invariant.same h sense }
 
 pub returns : goal.returns
 returns c =
-    end-reached _ c.args.reach.stride c.requires.reaches.0.some c.args.reach.last c.args.minute c.loop-from.from c.loop-from.invariant.1.1 c.loop-from.invariant.0 (omega arith) c.loop-from.invariant.1.0
+    end-reached _ c.args.reach.stride c.requires.reaches.0.some c.args.reach.last c.args.minute c.loop-from.from c.loop-from.invariant.same (omega arith)

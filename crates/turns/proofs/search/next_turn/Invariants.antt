@@ -5,9 +5,11 @@ use Rattle.turns.specs.Search.{turns_of}
 use Rattle.turns.proofs.search.next_turn.Given as goal
 
 abbrev pub invariant-loop-from : goal.invariant-loop-from
-invariant-loop-from l = (l.from ≤ l.last)
-    × ((l.behind ≡ slopes_in l.arguments l.lags l.frequencies l.ps l.qs l.months l.from)
-    × (turns_of (slopes_in l.arguments l.lags l.frequencies l.ps l.qs l.months) l.stride l.minute l.last ≡ turns_of (slopes_in l.arguments l.lags l.frequencies l.ps l.qs l.months) l.stride l.from l.last))
+invariant-loop-from l = record {
+  within : l.from ≤ l.last;
+  there : l.behind ≡ slopes_in l.lent l.from;
+  same : turns_of (slopes_in l.lent) l.stride l.minute l.last ≡ turns_of (slopes_in l.lent) l.stride l.from l.last;
+}
 
 abbrev pub decreases-loop-from : goal.decreases-loop-from
 decreases-loop-from l = l.last - l.from

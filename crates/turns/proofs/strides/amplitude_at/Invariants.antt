@@ -1,13 +1,9 @@
-use Rattle.limits.specs.Limits.{most_records}
 use mathlib.Core.Path.{◌≡◌}
-use Prim.Native.Nat.{◌-◌, ◌≤◌}
+use Prim.Native.Nat.{◌-◌}
 use Rattle.station.specs.Records.{records_from}
 use Rattle.station.specs.inner.Station.{station_of}
 use Rattle.turns.specs.Strides.{amplitude_at}
 use Rattle.turns.proofs.strides.amplitude_at.Given as goal
 
 abbrev pub invariant-loop-k : goal.invariant-loop-k
-invariant-loop-k l = (amplitude_at (records_from l.station.places l.station.amplitudes l.station.lags l.k (l.count - l.k)) l.place ≡ amplitude_at (station_of l.station).records l.place) × (l.count ≤ most_records)
-
-abbrev pub decreases-loop-k : goal.decreases-loop-k
-decreases-loop-k l = l.count - l.k
+invariant-loop-k l = amplitude_at (records_from l.station.places l.station.amplitudes l.station.lags l.k (l.count - l.k)) l.place ≡ amplitude_at (station_of l.station).records l.place
