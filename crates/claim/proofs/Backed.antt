@@ -1,5 +1,6 @@
 -- The claim's premises can be met (specs/Controls.antt): a call whose contract is a fact that holds keeps it, and a clock with no table
 -- refuses each kind of call. Rests on what an empty card file comes to, by computing. Assumes nothing.
+use Prim.{Unit}
 use Prim.Native.Nat.{ℕ}
 use mathlib.Core.List.{List, [], ◌∷◌}
 use mathlib.Core.Logic.{∥∥₁_map}
@@ -12,9 +13,10 @@ use contract.Adequate.{Satisfies, sat_fact}
 use denote.Ref.{Bor}
 use denote.MutBor.{MutBor}
 use borrow.Fn.World.{World, w₀}
+use Rattle.std.specs.Prelude.{Result, Ok, Err}
 use Rattle.refusals.specs.Outcome.{refused, outcome_of}
-use Rattle.refusals.specs.declared.Answer.{Answer}
-use Rattle.refusals.specs.declared.Answer.TheVariants.{Refused}
+use Rattle.refusals.specs.declared.Refused.{Refused}
+use Rattle.refusals.specs.declared.Refusal.{Refusal}
 use Rattle.refusals.specs.declared.Refusal.TheVariants.{NoTable, Ended}
 use Rattle.columns.specs.Lines.{lines_of}
 use Rattle.columns.specs.Names.{names_from}
@@ -26,14 +28,9 @@ use Rattle.station.specs.Station.{station_lent}
 use Rattle.station.specs.declared.records.Rows.{Rows}
 use Rattle.station.specs.Records.{records_from, records_of}
 use Rattle.station.specs.inner.Rows.{no_rows}
-use Rattle.hourly.specs.declared.CardsAnswer.{CardsAnswer}
-use Rattle.hourly.specs.declared.CardsAnswer.TheVariants as cards
 use Rattle.hourly.specs.Answers.{cards_returned}
 use Rattle.clock.specs.declared.Clock.{Clock}
-use Rattle.clock.specs.declared.HeightAnswer.{HeightAnswer}
-use Rattle.clock.specs.declared.HeightAnswer.TheVariants as height
-use Rattle.clock.specs.declared.TurnsAnswer.{TurnsAnswer}
-use Rattle.clock.specs.declared.TurnsAnswer.TheVariants as turns
+use Rattle.turns.specs.declared.search.Summary.{Summary}
 use Rattle.clock.specs.declared.TableNames.{TableNames}
 use Rattle.clock.specs.View.{view}
 use Rattle.calls.specs.State.{State}
@@ -136,47 +133,47 @@ module _ (c : Clock) (p : NewPost c) where
 new-there : (c : Clock) → NewPost c → New c
 new-there c p = New.news (record { bound = λ w. tt; contract = kept _ _ p })
 
-cards-there : (c c' : Clock) (file : List ℕ) (answer : Answer) → CardsPost c file (outcome_of answer) c' → Call c (Cards file) (told (outcome_of answer)) c'
+cards-there : (c c' : Clock) (file : List ℕ) (answer : Result Unit Refused) → CardsPost c file (outcome_of answer) c' → Call c (Cards file) (told (outcome_of answer)) c'
 cards-there c c' file answer p =
     Call.loads {κs = ([], tt)} {file = lent file} {r = record { answer = answer; clock = c' }} (record { bound = λ w. tt; contract = kept _ _ p })
 
-station-there : (c c' : Clock) (s : station.Station) (answer : Answer) → StationPost c s (outcome_of answer) c' → Call c (Station s) (told (outcome_of answer)) c'
+station-there : (c c' : Clock) (s : station.Station) (answer : Result Unit Refused) → StationPost c s (outcome_of answer) c' → Call c (Station s) (told (outcome_of answer)) c'
 station-there c c' s answer p =
     Call.stations {κs = ([], tt)} {records = lent s.records} {r = record { answer = answer; clock = c' }} (record { bound = λ w. tt; contract = kept _ _ p })
 
-placing-there : (c c' : Clock) (latitude : ℤ) (strides : Strides) (n : ℕ) (rows : Rows) (answer : Answer) → StationPost c (station_lent latitude strides (records_of rows n)) (outcome_of answer) c'
+placing-there : (c c' : Clock) (latitude : ℤ) (strides : Strides) (n : ℕ) (rows : Rows) (answer : Result Unit Refused) → StationPost c (station_lent latitude strides (records_of rows n)) (outcome_of answer) c'
     → Call c (Station (station_lent latitude strides (records_of rows n))) (told (outcome_of answer)) c'
 placing-there c c' latitude strides n rows answer p =
     Call.placed {n = n} {rows = rows} {r = record { answer = answer; clock = c' }} (record { bound = λ w. tt; contract = kept _ _ p })
 
-date-there : (c c' : Clock) (year month : ℕ) (answer : Answer) → DatePost c year month (outcome_of answer) c' → Call c (Date year month) (told (outcome_of answer)) c'
+date-there : (c c' : Clock) (year month : ℕ) (answer : Result Unit Refused) → DatePost c year month (outcome_of answer) c' → Call c (Date year month) (told (outcome_of answer)) c'
 date-there c c' year month answer p =
     Call.dates {r = record { answer = answer; clock = c' }} (record { bound = λ w. tt; contract = kept _ _ p })
 
-height-there : (c : Clock) (minute : ℕ) (answer : HeightAnswer) → HeightPost c minute (height_returned answer) → Call c (Height minute) (predicted (height_returned answer)) c
+height-there : (c : Clock) (minute : ℕ) (answer : Result ℤ Refused) → HeightPost c minute (height_returned answer) → Call c (Height minute) (predicted (height_returned answer)) c
 height-there c minute answer p = Call.heights {r = answer} (record { bound = λ w. tt; contract = kept _ _ p })
 
-series-there : (c : Clock) (start step : ℕ) (hs hs' : List ℤ) (answer : Answer) → SeriesPost c start step hs hs' (outcome_of answer)
+series-there : (c : Clock) (start step : ℕ) (hs hs' : List ℤ) (answer : Result Unit Refused) → SeriesPost c start step hs hs' (outcome_of answer)
     → Call c (Series start step hs) (wrote (record { returned = outcome_of answer; heights = hs' })) c
 series-there c start step hs hs' answer p =
     Call.serieses {κs = ([], tt)} {before = written hs} {r = answer} (record { bound = λ w. tt; contract = kept _ _ p })
 
-turns-there : (c : Clock) (first last : ℕ) (ms ms' : List ℕ) (hs hs' : List ℤ) (answer : TurnsAnswer) → TurnsPost c first last ms ms' hs hs' (turns_returned answer)
+turns-there : (c : Clock) (first last : ℕ) (ms ms' : List ℕ) (hs hs' : List ℤ) (answer : Result Summary Refused) → TurnsPost c first last ms ms' hs hs' (turns_returned answer)
     → Call c (Turns first last ms hs) (found (record { returned = turns_returned answer; minutes = ms'; heights = hs' })) c
 turns-there c first last ms ms' hs hs' answer p =
     Call.searches {κs = ([], ([], tt))} {ms = written ms} {hs = written hs} {r = answer} (record { bound = λ w. tt; contract = kept _ _ p })
 
-year-there : (c : Clock) (sheet : Sheet) (ss ss' : List ℤ) (ms ms' : List ℕ) (hs hs' : List ℤ) (answer : TurnsAnswer) → YearPost c sheet ss ss' ms ms' hs hs' (turns_returned answer)
+year-there : (c : Clock) (sheet : Sheet) (ss ss' : List ℤ) (ms ms' : List ℕ) (hs hs' : List ℤ) (answer : Result Summary Refused) → YearPost c sheet ss ss' ms ms' hs hs' (turns_returned answer)
     → Call c (Year sheet ss ms hs) (filled (record { returned = turns_returned answer; series = ss'; minutes = ms'; heights = hs' })) c
 year-there c sheet ss ss' ms ms' hs hs' answer p =
     Call.years {κs = ([], ([], ([], tt)))} {ss = written ss} {ms = written ms} {hs = written hs} {r = answer} (record { bound = λ w. tt; contract = kept _ _ p })
 
-bookings-there : (c : Clock) (minutes : List ℕ) (hs hs' : List ℤ) (answer : Answer) → BookingsPost c minutes hs hs' (outcome_of answer)
+bookings-there : (c : Clock) (minutes : List ℕ) (hs hs' : List ℤ) (answer : Result Unit Refused) → BookingsPost c minutes hs hs' (outcome_of answer)
     → Call c (Bookings minutes hs) (wrote (record { returned = outcome_of answer; heights = hs' })) c
 bookings-there c minutes hs hs' answer p =
     Call.bookings {κs = ([], ([], tt))} {minutes = lent minutes} {before = written hs} {r = answer} (record { bound = λ w. tt; contract = kept _ _ p })
 
-hourly-there : (c : Clock) (number : ℕ) (buffer left : List ℕ) (answer : CardsAnswer) → HourlyPost c number buffer left (cards_returned answer)
+hourly-there : (c : Clock) (number : ℕ) (buffer left : List ℕ) (answer : Result ℕ Refused) → HourlyPost c number buffer left (cards_returned answer)
     → Call c (Hourly number buffer) (carded (record { returned = cards_returned answer; buffer = left })) c
 hourly-there c number buffer left answer p =
     Call.hourlies {κs = ([], tt)} {before = written buffer} {r = answer} (record { bound = λ w. tt; contract = kept _ _ p })
@@ -201,7 +198,7 @@ held-date-there : (c c' : Clock) (year month : ℕ) (r : Verdict) → DatePost c
 held-date-there c c' year month r p plain =
     Call.held_dates {κs = ([], tt)} {clock = written c} {r = r} (record { bound = λ w. tt; contract = kept _ _ (p, plain) })
 
-lent-height-there : (c : Clock) (minute : ℕ) (answer : HeightAnswer) → HeightPost c minute (height_returned answer) → Call c (Height minute) (predicted (height_returned answer)) c
+lent-height-there : (c : Clock) (minute : ℕ) (answer : Result ℤ Refused) → HeightPost c minute (height_returned answer) → Call c (Height minute) (predicted (height_returned answer)) c
 lent-height-there c minute answer p = Call.lent_heights {κs = ([], tt)} {clock = lent c} {r = answer} (record { bound = λ w. tt; contract = kept _ _ p })
 
 held-height-there : (c : Clock) (minute : ℕ) (r : Reading) → HeightPost c minute (reading_returned r) → PlainReading r → Call c (Height minute) (predicted (reading_returned r)) c
@@ -223,7 +220,7 @@ held-year-there : (c : Clock) (sheet : Sheet) (ss ss' : List ℤ) (ms ms' : List
 held-year-there c sheet ss ss' ms ms' hs hs' r p plain =
     Call.held_years {κs = ([], ([], ([], ([], tt))))} {clock = lent c} {sheet = sheet} {ss = written ss} {ms = written ms} {hs = written hs} {r = r} (record { bound = λ w. tt; contract = kept _ _ (p, plain) })
 
-lent-bookings-there : (c : Clock) (minutes : List ℕ) (hs hs' : List ℤ) (answer : Answer) → BookingsPost c minutes hs hs' (outcome_of answer)
+lent-bookings-there : (c : Clock) (minutes : List ℕ) (hs hs' : List ℤ) (answer : Result Unit Refused) → BookingsPost c minutes hs hs' (outcome_of answer)
     → Call c (Bookings minutes hs) (wrote (record { returned = outcome_of answer; heights = hs' })) c
 lent-bookings-there c minutes hs hs' answer p =
     Call.lent_bookings {κs = ([], ([], ([], tt)))} {clock = lent c} {minutes = lent minutes} {before = written hs} {r = answer} (record { bound = λ w. tt; contract = kept _ _ p })
@@ -241,18 +238,22 @@ held-hourly-there c number buffer left r p plain =
 held-names-there : (c : Clock) (r : TableNames) → names_from r.bytes 0 r.count ≡ names_in (view c) → Call c Names (named (names_from r.bytes 0 r.count)) c
 held-names-there c r p = Call.held_hands {κs = ([], tt)} {clock = lent c} {r = r} (record { bound = λ w. tt; contract = kept _ _ p })
 
+-- a refusal at a place
+abbrev turned_down : {A : Type 0} → Refusal → ℕ → Result A Refused
+turned_down r place = Err (record { refusal = r; place = place })
+
 each-kind : (c : Clock) → NewPost c → Calls c each_kind each_refused c
 unfolding records_from names_from
 each-kind c p =
-    cards-there c c [] (Refused Ended 1) (no-cards c p)
-    then station-there c c a_station (Refused NoTable 0) (no-station c p a_station)
-    then date-there c c 1976 7 (Refused NoTable 0) (no-month c p 1976 7)
-    then height-there c 0 (height.Refused NoTable 0) (no-height c p 0)
-    then series-there c 0 1 (pos 5 ∷ []) (pos 5 ∷ []) (Refused NoTable 0) (no-series c p 0 1 (pos 5 ∷ []))
-    then turns-there c 0 1 (9 ∷ []) (9 ∷ []) (pos 5 ∷ []) (pos 5 ∷ []) (turns.Refused NoTable 0) (no-turns c p 0 1 (9 ∷ []) (pos 5 ∷ []))
-    then year-there c a_sheet (pos 3 ∷ []) (pos 3 ∷ []) (9 ∷ []) (9 ∷ []) (pos 5 ∷ []) (pos 5 ∷ []) (turns.Refused NoTable 0) (no-year c p a_sheet (pos 3 ∷ []) (9 ∷ []) (pos 5 ∷ []))
-    then bookings-there c (9 ∷ 0 ∷ []) (pos 5 ∷ []) (pos 5 ∷ []) (Refused NoTable 0) (no-bookings c p (9 ∷ 0 ∷ []) (pos 5 ∷ []))
-    then hourly-there c 100_000 (7 ∷ []) (7 ∷ []) (cards.Refused NoTable 0) (no-hourly c p 100_000 (7 ∷ []))
+    cards-there c c [] (turned_down Ended 1) (no-cards c p)
+    then station-there c c a_station (turned_down NoTable 0) (no-station c p a_station)
+    then date-there c c 1976 7 (turned_down NoTable 0) (no-month c p 1976 7)
+    then height-there c 0 (turned_down NoTable 0) (no-height c p 0)
+    then series-there c 0 1 (pos 5 ∷ []) (pos 5 ∷ []) (turned_down NoTable 0) (no-series c p 0 1 (pos 5 ∷ []))
+    then turns-there c 0 1 (9 ∷ []) (9 ∷ []) (pos 5 ∷ []) (pos 5 ∷ []) (turned_down NoTable 0) (no-turns c p 0 1 (9 ∷ []) (pos 5 ∷ []))
+    then year-there c a_sheet (pos 3 ∷ []) (pos 3 ∷ []) (9 ∷ []) (9 ∷ []) (pos 5 ∷ []) (pos 5 ∷ []) (turned_down NoTable 0) (no-year c p a_sheet (pos 3 ∷ []) (9 ∷ []) (pos 5 ∷ []))
+    then bookings-there c (9 ∷ 0 ∷ []) (pos 5 ∷ []) (pos 5 ∷ []) (turned_down NoTable 0) (no-bookings c p (9 ∷ 0 ∷ []) (pos 5 ∷ []))
+    then hourly-there c 100_000 (7 ∷ []) (7 ∷ []) (turned_down NoTable 0) (no-hourly c p 100_000 (7 ∷ []))
     then held-cards-there c c [] (verdict_of (refused 7 1)) (no-cards c p) refl
     then held-station-there c c a_station (verdict_of (refused 21 0)) (no-station c p a_station) refl
     then held-date-there c c 1976 7 (verdict_of (refused 21 0)) (no-month c p 1976 7) refl
@@ -262,9 +263,9 @@ each-kind c p =
     then held-year-there c a_sheet (pos 3 ∷ []) (pos 3 ∷ []) (9 ∷ []) (9 ∷ []) (pos 5 ∷ []) (pos 5 ∷ []) (turnings_of (refused 21 0)) (no-year c p a_sheet (pos 3 ∷ []) (9 ∷ []) (pos 5 ∷ [])) refl
     then held-bookings-there c (9 ∷ 0 ∷ []) (pos 5 ∷ []) (pos 5 ∷ []) (verdict_of (refused 21 0)) (no-bookings c p (9 ∷ 0 ∷ []) (pos 5 ∷ [])) refl
     then held-hourly-there c 100_000 (7 ∷ []) (7 ∷ []) (cards_told_of (refused 21 0)) (no-hourly c p 100_000 (7 ∷ [])) refl
-    then lent-height-there c 0 (height.Refused NoTable 0) (no-height c p 0)
-    then lent-bookings-there c (9 ∷ 0 ∷ []) (pos 5 ∷ []) (pos 5 ∷ []) (Refused NoTable 0) (no-bookings c p (9 ∷ 0 ∷ []) (pos 5 ∷ []))
-    then placing-there c c (pos 0) a_station.strides 0 no_rows (Refused NoTable 0) (no-station c p a_station)
+    then lent-height-there c 0 (turned_down NoTable 0) (no-height c p 0)
+    then lent-bookings-there c (9 ∷ 0 ∷ []) (pos 5 ∷ []) (pos 5 ∷ []) (turned_down NoTable 0) (no-bookings c p (9 ∷ 0 ∷ []) (pos 5 ∷ []))
+    then placing-there c c (pos 0) a_station.strides 0 no_rows (turned_down NoTable 0) (no-station c p a_station)
     then names-there c (record { count = 0; bytes = [] }) (sym (ap names_in p.leaves))
     then held-names-there c (record { count = 0; bytes = [] }) (sym (ap names_in p.leaves))
     then done

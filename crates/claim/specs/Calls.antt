@@ -1,7 +1,8 @@
 -- A list of calls of the clock. "The claim knows what a call gives and leaves only from that call's contract": from the clauses of the
 -- function's own module, as the built crates have them: clock, whose calls take a clock by value, and cuvalimodo_c, whose calls are lent one.
 -- Assumes nothing.
-use Rattle.std.specs.Prelude.{ℕ, List, [], ◌∷◌, ℤ}
+use Prim.{Unit}
+use Rattle.std.specs.Prelude.{ℕ, List, [], ◌∷◌, ℤ, Result}
 use seplogic.Ra.Ura.{Ura}
 use base.Logic.{SProp, ent}
 use prog.Memory.{Memory}
@@ -13,20 +14,18 @@ use Rattle.std.specs.Borrow.{Bor, MutBor}
 use denote.Triple.Clauses.{Ended, Clauses, ClausesAt, Lasts, at_exit}
 use borrow.Fn.World.{World, ArgsD, ResD}
 use Rattle.refusals.specs.Outcome.{outcome_of}
-use Rattle.refusals.specs.declared.Answer.{Answer}
+use Rattle.refusals.specs.declared.Refused.{Refused}
 use Rattle.columns.specs.Names.{names_from}
 use Rattle.station.specs.declared.records.Record.{Record}
 use Rattle.station.specs.declared.strides.Strides.{Strides}
 use Rattle.station.specs.Station.{station_lent}
 use Rattle.station.specs.declared.records.Rows.{Rows}
 use Rattle.station.specs.Records.{records_of}
-use Rattle.hourly.specs.declared.CardsAnswer.{CardsAnswer}
 use Rattle.hourly.specs.Answers.{cards_returned}
 use Rattle.calls.specs.declared.annual.Sheet.{Sheet}
 use Rattle.clock.specs.declared.Clock.{Clock}
 use Rattle.clock.specs.declared.After.{After}
-use Rattle.clock.specs.declared.HeightAnswer.{HeightAnswer}
-use Rattle.clock.specs.declared.TurnsAnswer.{TurnsAnswer}
+use Rattle.turns.specs.declared.search.Summary.{Summary}
 use Rattle.clock.specs.declared.TableNames.{TableNames}
 use Rattle.clock.specs.Returned.{height_returned, turns_returned}
 use Rattle.cuvalimodo_c.specs.declared.answers.Verdict.{Verdict}
@@ -106,22 +105,22 @@ pub data Call : Clock → Request → Gave → Clock → Type 2 where
   dates : {c : Clock} {year month : ℕ} {r : After}
       → Once date.ended (λ M 𝓤. date.clauses) tt (c, (year, (month, tt))) r (tt, (tt, (tt, tt)))
       → Call c (Date year month) (told (outcome_of r.answer)) r.clock
-  heights : {c : Clock} {minute : ℕ} {r : HeightAnswer}
+  heights : {c : Clock} {minute : ℕ} {r : Result ℤ Refused}
       → Once height.ended (λ M 𝓤. height.clauses) tt (c, (minute, tt)) r (tt, (tt, tt))
       → Call c (Height minute) (predicted (height_returned r)) c
-  serieses : {κs : Lfts 1} {c : Clock} {start step : ℕ} {before : MutBor (List ℤ)} {after : List ℤ} {r : Answer}
+  serieses : {κs : Lfts 1} {c : Clock} {start step : ℕ} {before : MutBor (List ℤ)} {after : List ℤ} {r : Result Unit Refused}
       → Once series.ended (λ M 𝓤. series.clauses) κs (c, (start, (step, (before, tt)))) r (tt, (tt, (tt, (after, tt))))
       → Call c (Series start step before.now) (wrote (record { returned = outcome_of r; heights = after })) c
-  searches : {κs : Lfts 2} {c : Clock} {first last : ℕ} {ms : MutBor (List ℕ)} {hs : MutBor (List ℤ)} {ms' : List ℕ} {hs' : List ℤ} {r : TurnsAnswer}
+  searches : {κs : Lfts 2} {c : Clock} {first last : ℕ} {ms : MutBor (List ℕ)} {hs : MutBor (List ℤ)} {ms' : List ℕ} {hs' : List ℤ} {r : Result Summary Refused}
       → Once turns.ended (λ M 𝓤. turns.clauses) κs (c, (first, (last, (ms, (hs, tt))))) r (tt, (tt, (tt, (ms', (hs', tt)))))
       → Call c (Turns first last ms.now hs.now) (found (record { returned = turns_returned r; minutes = ms'; heights = hs' })) c
-  years : {κs : Lfts 3} {c : Clock} {sheet : Sheet} {ss : MutBor (List ℤ)} {ms : MutBor (List ℕ)} {hs : MutBor (List ℤ)} {ss' : List ℤ} {ms' : List ℕ} {hs' : List ℤ} {r : TurnsAnswer}
+  years : {κs : Lfts 3} {c : Clock} {sheet : Sheet} {ss : MutBor (List ℤ)} {ms : MutBor (List ℕ)} {hs : MutBor (List ℤ)} {ss' : List ℤ} {ms' : List ℕ} {hs' : List ℤ} {r : Result Summary Refused}
       → Once year.ended (λ M 𝓤. year.clauses) κs (c, (sheet, (ss, (ms, (hs, tt))))) r (tt, (tt, (ss', (ms', (hs', tt)))))
       → Call c (Year sheet ss.now ms.now hs.now) (filled (record { returned = turns_returned r; series = ss'; minutes = ms'; heights = hs' })) c
-  bookings : {κs : Lfts 2} {c : Clock} {minutes : Bor (List ℕ)} {before : MutBor (List ℤ)} {after : List ℤ} {r : Answer}
+  bookings : {κs : Lfts 2} {c : Clock} {minutes : Bor (List ℕ)} {before : MutBor (List ℤ)} {after : List ℤ} {r : Result Unit Refused}
       → Once booking.ended (λ M 𝓤. booking.clauses) κs (c, (minutes, (before, tt))) r (tt, (tt, (after, tt)))
       → Call c (Bookings minutes.now before.now) (wrote (record { returned = outcome_of r; heights = after })) c
-  hourlies : {κs : Lfts 1} {c : Clock} {number : ℕ} {before : MutBor (List ℕ)} {after : List ℕ} {r : CardsAnswer}
+  hourlies : {κs : Lfts 1} {c : Clock} {number : ℕ} {before : MutBor (List ℕ)} {after : List ℕ} {r : Result ℕ Refused}
       → Once hourly.ended (λ M 𝓤. hourly.clauses) κs (c, (number, (before, tt))) r (tt, (tt, (after, tt)))
       → Call c (Hourly number before.now) (carded (record { returned = cards_returned r; buffer = after })) c
   hands : {c : Clock} {r : TableNames}
@@ -137,7 +136,7 @@ pub data Call : Clock → Request → Gave → Clock → Type 2 where
   held_dates : {κs : Lfts 1} {clock : MutBor Clock} {year month : ℕ} {r : Verdict} {left : Clock}
       → Once held_date.ended (λ M 𝓤. held_date.clauses) κs (clock, (year, (month, tt))) r (left, (tt, (tt, tt)))
       → Call clock.now (Date year month) (told (verdict_returned r)) left
-  lent_heights : {κs : Lfts 1} {clock : Bor Clock} {minute : ℕ} {r : HeightAnswer}
+  lent_heights : {κs : Lfts 1} {clock : Bor Clock} {minute : ℕ} {r : Result ℤ Refused}
       → Once height_lent.ended (λ M 𝓤. height_lent.clauses) κs (clock, (minute, tt)) r (tt, (tt, tt))
       → Call clock.now (Height minute) (predicted (height_returned r)) clock.now
   held_heights : {κs : Lfts 1} {clock : Bor Clock} {minute : ℕ} {r : Reading}
@@ -152,7 +151,7 @@ pub data Call : Clock → Request → Gave → Clock → Type 2 where
   held_years : {κs : Lfts 4} {clock : Bor Clock} {sheet : Sheet} {ss : MutBor (List ℤ)} {ms : MutBor (List ℕ)} {hs : MutBor (List ℤ)} {ss' : List ℤ} {ms' : List ℕ} {hs' : List ℤ} {r : Turnings}
       → Once held_year.ended (λ M 𝓤. held_year.clauses) κs (clock, (sheet.year, (sheet.start, (sheet.step, (sheet.first, (sheet.last, (ss, (ms, (hs, tt))))))))) r (tt, (tt, (tt, (tt, (tt, (tt, (ss', (ms', (hs', tt)))))))))
       → Call clock.now (Year sheet ss.now ms.now hs.now) (filled (record { returned = turnings_returned r; series = ss'; minutes = ms'; heights = hs' })) clock.now
-  lent_bookings : {κs : Lfts 3} {clock : Bor Clock} {minutes : Bor (List ℕ)} {before : MutBor (List ℤ)} {after : List ℤ} {r : Answer}
+  lent_bookings : {κs : Lfts 3} {clock : Bor Clock} {minutes : Bor (List ℕ)} {before : MutBor (List ℤ)} {after : List ℤ} {r : Result Unit Refused}
       → Once booking_lent.ended (λ M 𝓤. booking_lent.clauses) κs (clock, (minutes, (before, tt))) r (tt, (tt, (after, tt)))
       → Call clock.now (Bookings minutes.now before.now) (wrote (record { returned = outcome_of r; heights = after })) clock.now
   held_bookings : {κs : Lfts 3} {clock : Bor Clock} {minutes : Bor (List ℕ)} {before : MutBor (List ℤ)} {after : List ℤ} {r : Verdict}

@@ -2,21 +2,20 @@
 -- any values, any buffers and any lent clock; and there are lists with each kind of call in them. (proofs/Backed.antt. That the clock's own
 -- functions make such calls, accepted ones too, is shown of their runs: crate claim_runs.)
 -- Assumes nothing.
-use Rattle.std.specs.Prelude.{ℕ, List, [], ◌∷◌, ◌++◌, ◌≡◌, ℤ, pos}
+use Prim.{Unit}
+use Rattle.std.specs.Prelude.{ℕ, List, [], ◌∷◌, ◌++◌, ◌≡◌, ℤ, pos, Result}
 use Rattle.refusals.specs.Outcome.{refused, outcome_of}
-use Rattle.refusals.specs.declared.Answer.{Answer}
+use Rattle.refusals.specs.declared.Refused.{Refused}
 use Rattle.columns.specs.Names.{names_from}
 use Rattle.station.specs.declared.strides.Strides.{Strides}
 use Rattle.station.specs.declared.records.Rows.{Rows}
 use Rattle.station.specs.Records.{records_of}
 use Rattle.station.specs.Station as stations
 use Rattle.station.specs.Station.{station_lent}
-use Rattle.hourly.specs.declared.CardsAnswer.{CardsAnswer}
 use Rattle.hourly.specs.Answers.{cards_returned}
 use Rattle.calls.specs.declared.annual.Sheet.{Sheet}
 use Rattle.clock.specs.declared.Clock.{Clock}
-use Rattle.clock.specs.declared.HeightAnswer.{HeightAnswer}
-use Rattle.clock.specs.declared.TurnsAnswer.{TurnsAnswer}
+use Rattle.turns.specs.declared.search.Summary.{Summary}
 use Rattle.clock.specs.declared.TableNames.{TableNames}
 use Rattle.clock.specs.View.{view}
 use Rattle.calls.specs.Names.{names_in}
@@ -65,22 +64,22 @@ each_refused =
 
 pub record Controls : Type 2 where
   pub new : (c : Clock) → NewPost c → New c
-  pub cards : (c c' : Clock) (file : List ℕ) (answer : Answer) → CardsPost c file (outcome_of answer) c' → Call c (Cards file) (told (outcome_of answer)) c'
-  pub station : (c c' : Clock) (s : stations.Station) (answer : Answer) → StationPost c s (outcome_of answer) c'
+  pub cards : (c c' : Clock) (file : List ℕ) (answer : Result Unit Refused) → CardsPost c file (outcome_of answer) c' → Call c (Cards file) (told (outcome_of answer)) c'
+  pub station : (c c' : Clock) (s : stations.Station) (answer : Result Unit Refused) → StationPost c s (outcome_of answer) c'
       → Call c (Station s) (told (outcome_of answer)) c'
-  pub placing : (c c' : Clock) (latitude : ℤ) (strides : Strides) (n : ℕ) (rows : Rows) (answer : Answer) → StationPost c (station_lent latitude strides (records_of rows n)) (outcome_of answer) c'
+  pub placing : (c c' : Clock) (latitude : ℤ) (strides : Strides) (n : ℕ) (rows : Rows) (answer : Result Unit Refused) → StationPost c (station_lent latitude strides (records_of rows n)) (outcome_of answer) c'
       → Call c (Station (station_lent latitude strides (records_of rows n))) (told (outcome_of answer)) c'
-  pub date : (c c' : Clock) (year month : ℕ) (answer : Answer) → DatePost c year month (outcome_of answer) c' → Call c (Date year month) (told (outcome_of answer)) c'
-  pub height : (c : Clock) (minute : ℕ) (answer : HeightAnswer) → HeightPost c minute (height_returned answer) → Call c (Height minute) (predicted (height_returned answer)) c
-  pub series : (c : Clock) (start step : ℕ) (hs hs' : List ℤ) (answer : Answer) → SeriesPost c start step hs hs' (outcome_of answer)
+  pub date : (c c' : Clock) (year month : ℕ) (answer : Result Unit Refused) → DatePost c year month (outcome_of answer) c' → Call c (Date year month) (told (outcome_of answer)) c'
+  pub height : (c : Clock) (minute : ℕ) (answer : Result ℤ Refused) → HeightPost c minute (height_returned answer) → Call c (Height minute) (predicted (height_returned answer)) c
+  pub series : (c : Clock) (start step : ℕ) (hs hs' : List ℤ) (answer : Result Unit Refused) → SeriesPost c start step hs hs' (outcome_of answer)
       → Call c (Series start step hs) (wrote (record { returned = outcome_of answer; heights = hs' })) c
-  pub turns : (c : Clock) (first last : ℕ) (ms ms' : List ℕ) (hs hs' : List ℤ) (answer : TurnsAnswer) → TurnsPost c first last ms ms' hs hs' (turns_returned answer)
+  pub turns : (c : Clock) (first last : ℕ) (ms ms' : List ℕ) (hs hs' : List ℤ) (answer : Result Summary Refused) → TurnsPost c first last ms ms' hs hs' (turns_returned answer)
       → Call c (Turns first last ms hs) (found (record { returned = turns_returned answer; minutes = ms'; heights = hs' })) c
-  pub year : (c : Clock) (sheet : Sheet) (ss ss' : List ℤ) (ms ms' : List ℕ) (hs hs' : List ℤ) (answer : TurnsAnswer) → YearPost c sheet ss ss' ms ms' hs hs' (turns_returned answer)
+  pub year : (c : Clock) (sheet : Sheet) (ss ss' : List ℤ) (ms ms' : List ℕ) (hs hs' : List ℤ) (answer : Result Summary Refused) → YearPost c sheet ss ss' ms ms' hs hs' (turns_returned answer)
       → Call c (Year sheet ss ms hs) (filled (record { returned = turns_returned answer; series = ss'; minutes = ms'; heights = hs' })) c
-  pub bookings : (c : Clock) (minutes : List ℕ) (hs hs' : List ℤ) (answer : Answer) → BookingsPost c minutes hs hs' (outcome_of answer)
+  pub bookings : (c : Clock) (minutes : List ℕ) (hs hs' : List ℤ) (answer : Result Unit Refused) → BookingsPost c minutes hs hs' (outcome_of answer)
       → Call c (Bookings minutes hs) (wrote (record { returned = outcome_of answer; heights = hs' })) c
-  pub hourly : (c : Clock) (number : ℕ) (buffer left : List ℕ) (answer : CardsAnswer) → HourlyPost c number buffer left (cards_returned answer)
+  pub hourly : (c : Clock) (number : ℕ) (buffer left : List ℕ) (answer : Result ℕ Refused) → HourlyPost c number buffer left (cards_returned answer)
       → Call c (Hourly number buffer) (carded (record { returned = cards_returned answer; buffer = left })) c
   pub names : (c : Clock) (r : TableNames) → names_from r.bytes 0 r.count ≡ names_in (view c) → Call c Names (named (names_from r.bytes 0 r.count)) c
   -- with the clock lent: c is what is behind the reference
@@ -89,7 +88,7 @@ pub record Controls : Type 2 where
   pub held-station : (c c' : Clock) (s : stations.Station) (r : Verdict) → StationPost c s (verdict_returned r) c' → Plain r
       → Call c (Station s) (told (verdict_returned r)) c'
   pub held-date : (c c' : Clock) (year month : ℕ) (r : Verdict) → DatePost c year month (verdict_returned r) c' → Plain r → Call c (Date year month) (told (verdict_returned r)) c'
-  pub lent-height : (c : Clock) (minute : ℕ) (answer : HeightAnswer) → HeightPost c minute (height_returned answer) → Call c (Height minute) (predicted (height_returned answer)) c
+  pub lent-height : (c : Clock) (minute : ℕ) (answer : Result ℤ Refused) → HeightPost c minute (height_returned answer) → Call c (Height minute) (predicted (height_returned answer)) c
   pub held-height : (c : Clock) (minute : ℕ) (r : Reading) → HeightPost c minute (reading_returned r) → PlainReading r → Call c (Height minute) (predicted (reading_returned r)) c
   pub held-series : (c : Clock) (start step : ℕ) (hs hs' : List ℤ) (r : Verdict) → SeriesPost c start step hs hs' (verdict_returned r) → Plain r
       → Call c (Series start step hs) (wrote (record { returned = verdict_returned r; heights = hs' })) c
@@ -97,7 +96,7 @@ pub record Controls : Type 2 where
       → Call c (Turns first last ms hs) (found (record { returned = turnings_returned r; minutes = ms'; heights = hs' })) c
   pub held-year : (c : Clock) (sheet : Sheet) (ss ss' : List ℤ) (ms ms' : List ℕ) (hs hs' : List ℤ) (r : Turnings) → YearPost c sheet ss ss' ms ms' hs hs' (turnings_returned r) → PlainTurnings r
       → Call c (Year sheet ss ms hs) (filled (record { returned = turnings_returned r; series = ss'; minutes = ms'; heights = hs' })) c
-  pub lent-bookings : (c : Clock) (minutes : List ℕ) (hs hs' : List ℤ) (answer : Answer) → BookingsPost c minutes hs hs' (outcome_of answer)
+  pub lent-bookings : (c : Clock) (minutes : List ℕ) (hs hs' : List ℤ) (answer : Result Unit Refused) → BookingsPost c minutes hs hs' (outcome_of answer)
       → Call c (Bookings minutes hs) (wrote (record { returned = outcome_of answer; heights = hs' })) c
   pub held-bookings : (c : Clock) (minutes : List ℕ) (hs hs' : List ℤ) (r : Verdict) → BookingsPost c minutes hs hs' (verdict_returned r) → Plain r
       → Call c (Bookings minutes hs) (wrote (record { returned = verdict_returned r; heights = hs' })) c

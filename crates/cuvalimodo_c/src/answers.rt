@@ -5,9 +5,8 @@ ghost use Rattle.hourly.specs.Answers.{cards_returned};
 ghost use Rattle.clock.specs.Returned.{height_returned, turns_returned};
 ghost use Rattle.cuvalimodo_c.specs.Answers.{verdict_returned, reading_returned, turnings_returned, cards_told, Plain, PlainReading, PlainTurnings, PlainCards};
 
-use clock::{HeightAnswer, TurnsAnswer};
-use hourly::CardsAnswer;
-use refusals::Answer;
+use refusals::{Answer, Refused};
+use turns::Summary;
 
 // What a call says: number 0 where it is accepted, else the refusal's number and place.
 #[repr(C)]
@@ -57,49 +56,49 @@ pub fn told(answer: Answer) -> Verdict
     ensures { (verdict_returned result ≡ outcome_of answer) × Plain result }
 {
     match answer {
-        Answer::Accepted => Verdict {
+        Ok(_) => Verdict {
             number: 0,
             place: 0,
         },
-        Answer::Refused(refusal, place) => Verdict {
-            number: refusals::number_of(refusal),
-            place,
+        Err(refused) => Verdict {
+            number: refusals::number_of(refused.refusal),
+            place: refused.place,
         },
     }
 }
 
 // A height's answer in numbers.
-pub fn told_height(answer: HeightAnswer) -> Reading
+pub fn told_height(answer: Result<i64, Refused>) -> Reading
     ensures { (reading_returned result ≡ height_returned answer) × PlainReading result }
 {
     match answer {
-        HeightAnswer::Height(height) => Reading {
+        Ok(height) => Reading {
             number: 0,
             place: 0,
             height,
         },
-        HeightAnswer::Refused(refusal, place) => Reading {
-            number: refusals::number_of(refusal),
-            place,
+        Err(refused) => Reading {
+            number: refusals::number_of(refused.refusal),
+            place: refused.place,
             height: 0,
         },
     }
 }
 
 // A search's answer in numbers.
-pub fn told_turns(answer: TurnsAnswer) -> Turnings
+pub fn told_turns(answer: Result<Summary, Refused>) -> Turnings
     ensures { (turnings_returned result ≡ turns_returned answer) × PlainTurnings result }
 {
     match answer {
-        TurnsAnswer::Turns(count, high) => Turnings {
+        Ok(found) => Turnings {
             number: 0,
             place: 0,
-            count,
-            high,
+            count: found.count,
+            high: found.high,
         },
-        TurnsAnswer::Refused(refusal, place) => Turnings {
-            number: refusals::number_of(refusal),
-            place,
+        Err(refused) => Turnings {
+            number: refusals::number_of(refused.refusal),
+            place: refused.place,
             count: 0,
             high: false,
         },
@@ -107,18 +106,18 @@ pub fn told_turns(answer: TurnsAnswer) -> Turnings
 }
 
 // The answer of hourly cards in numbers.
-pub fn told_cards(answer: CardsAnswer) -> Cards
+pub fn told_cards(answer: Result<usize, Refused>) -> Cards
     ensures { (cards_told result ≡ cards_returned answer) × PlainCards result }
 {
     match answer {
-        CardsAnswer::Bytes(bytes) => Cards {
+        Ok(bytes) => Cards {
             number: 0,
             place: 0,
             bytes,
         },
-        CardsAnswer::Refused(refusal, place) => Cards {
-            number: refusals::number_of(refusal),
-            place,
+        Err(refused) => Cards {
+            number: refusals::number_of(refused.refusal),
+            place: refused.place,
             bytes: 0,
         },
     }

@@ -5,11 +5,11 @@ use borrow.Author.Rules.{rules}
 use Rattle.cuvalimodo_c.proofs.Numbers.{refusal-read}
 use Rattle.cuvalimodo_c.proofs.answers.told_cards.Goals as goal
 
-pub returns-in-Bytes : goal.returns-in-Bytes
-returns-in-Bytes c =
-    rw c.in-Bytes.is (refl, refl)
+pub returns-in-Ok : goal.returns-in-Ok
+returns-in-Ok c =
+    rw c.in-Ok.is (refl, refl)
 
-pub returns-in-Refused : goal.returns-in-Refused
-returns-in-Refused c =
-    let read = refusal-read c.in-Refused.refusal c.in-Refused.place _ in
-    rw (c.in-Refused.is, c.number_of.ensures) (read, ap cards_told_of (sym read))
+pub returns-in-Err : goal.returns-in-Err
+returns-in-Err c =
+    let read = refusal-read c.in-Err.refused.refusal c.in-Err.refused.place _ in
+    rw (c.in-Err.is, c.number_of.ensures) (read, ap cards_told_of (sym read))

@@ -8,12 +8,12 @@ use borrow.Author.Rules.{rules}
 use Rattle.cuvalimodo_c.proofs.Numbers.{refusal-read}
 use Rattle.cuvalimodo_c.proofs.answers.told_height.Goals as goal
 
-pub returns-in-Height : goal.returns-in-Height
-returns-in-Height c =
-    let fits : SFits w64 c.in-Height.height = search rules in
-    rw (c.in-Height.is, to_z-of_z w64 c.in-Height.height fits) (refl, refl)
+pub returns-in-Ok : goal.returns-in-Ok
+returns-in-Ok c =
+    let fits : SFits w64 c.in-Ok.height = search rules in
+    rw (c.in-Ok.is, to_z-of_z w64 c.in-Ok.height fits) (refl, refl)
 
-pub returns-in-Refused : goal.returns-in-Refused
-returns-in-Refused c =
-    let read = refusal-read c.in-Refused.refusal c.in-Refused.place _ in
-    rw (c.in-Refused.is, c.number_of.ensures) (read, ap reading_of (sym read))
+pub returns-in-Err : goal.returns-in-Err
+returns-in-Err c =
+    let read = refusal-read c.in-Err.refused.refusal c.in-Err.refused.place _ in
+    rw (c.in-Err.is, c.number_of.ensures) (read, ap reading_of (sym read))
