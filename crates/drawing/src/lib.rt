@@ -6,7 +6,7 @@
 ghost use Rattle.std.specs.Prelude.{◌≤◌};
 ghost use Rattle.clock.specs.View.{Made};
 
-use clock::{Clock, TurnsAnswer};
+use clock::Clock;
 use digits::dates;
 use drawing_picture::{picture, title, yearband};
 use drawing_plots::plots;
@@ -16,7 +16,7 @@ use output::pages::Page;
 use page::face::Face;
 use page::shown;
 use page::shown::{Date, TURNS, Waters};
-use refusals::{Answer, Refusal};
+use refusals::{Answer, Refused};
 use std::io;
 use swings::months;
 
@@ -99,8 +99,8 @@ fn write_month(
 }
 
 // Says that the clock refused the month's turns.
-fn say_turns(rt: HostRuntime, date: Date, refusal: Refusal) -> io::Result<()> {
-    messages::refused_turns(rt, b"month", date.month as u64, TURNS, refusal)
+fn say_turns(rt: HostRuntime, date: Date, refused: Refused) -> io::Result<()> {
+    messages::refused_turns(rt, b"month", date.month as u64, TURNS, refused.refusal)
 }
 
 // The drawing of a day whose heights are there.
@@ -113,10 +113,9 @@ fn day_turns(
 ) -> io::Result<()>
     requires { Made clock }
 {
-    let found = monthturns::turns_of(clock, shown::last_minute(date), face.ground.strides);
-    match found.answer {
-        Answer::Accepted => write_day(&rt, face, date, heights, found.turns.lent()),
-        Answer::Refused(refusal, _) => say_turns(rt, date, refusal),
+    match monthturns::turns_of(clock, shown::last_minute(date), face.ground.strides) {
+        Ok(turns) => write_day(&rt, face, date, heights, turns.lent()),
+        Err(refused) => say_turns(rt, date, refused),
     }
 }
 
@@ -127,13 +126,13 @@ pub fn day(rt: HostRuntime, clock: Clock, face: Face, date: Date) -> io::Result<
     let mut heights = [0i64; 289];
     let start = dates::minute_of_month(date.day, 0);
     match clock::series(clock, start, 5, &mut heights) {
-        Answer::Accepted => day_turns(rt, clock, face, date, &heights),
-        Answer::Refused(refusal, _) => {
+        Ok(()) => day_turns(rt, clock, face, date, &heights),
+        Err(refused) => {
             let month = Month {
                 year: date.year,
                 month: date.month,
             };
-            messages::refused_day(rt, month, date.day, refusal)
+            messages::refused_day(rt, month, date.day, refused.refusal)
         }
     }
 }
@@ -151,8 +150,8 @@ fn month_curve(
     let mut places = [0i64; 2_233];
     let heights = &mut places[..plots::month_count(days_of(date) as u32)];
     match clock::series(clock, 0, 20, heights) {
-        Answer::Accepted => write_month(&rt, face, date, heights, waters),
-        Answer::Refused(refusal, _) => messages::refused_month(rt, date.month, refusal),
+        Ok(()) => write_month(&rt, face, date, heights, waters),
+        Err(refused) => messages::refused_month(rt, date.month, refused.refusal),
     }
 }
 
@@ -160,10 +159,9 @@ fn month_curve(
 pub fn month(rt: HostRuntime, clock: Clock, face: Face, date: Date) -> io::Result<()>
     requires { Made clock }
 {
-    let found = monthturns::turns_of(clock, shown::last_minute(date), face.ground.strides);
-    match found.answer {
-        Answer::Accepted => month_curve(rt, clock, face, date, found.turns.lent()),
-        Answer::Refused(refusal, _) => say_turns(rt, date, refusal),
+    match monthturns::turns_of(clock, shown::last_minute(date), face.ground.strides) {
+        Ok(turns) => month_curve(rt, clock, face, date, turns.lent()),
+        Err(refused) => say_turns(rt, date, refused),
     }
 }
 
@@ -212,16 +210,16 @@ pub fn year(rt: HostRuntime, clock: Clock, face: Face, date: Date) -> io::Result
         &mut heights,
     );
     match answer {
-        TurnsAnswer::Turns(count, first) => {
+        Ok(found) => {
             let waters = Waters {
-                count,
-                first,
+                count: found.count,
+                first: found.high,
                 minutes: &minutes,
                 heights: &heights,
             };
             write_year(&rt, face, date, hourly, waters)?;
-            Ok(Answer::Accepted)
+            Ok(Ok(()))
         }
-        TurnsAnswer::Refused(refusal, place) => Ok(Answer::Refused(refusal, place)),
+        Err(refused) => Ok(Err(refused)),
     }
 }

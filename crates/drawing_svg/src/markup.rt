@@ -82,7 +82,7 @@ fn goes_on(text: &[u8], size: usize) -> bool
     is_second(text) && is_later(text, size, 2) && is_later(text, size, 3)
 }
 
-// The bytes of the character beyond ASCII with which a text begins; 0 where it begins with none.
+// The bytes of the character beyond ASCII with which a text begins; 0 where it begins with none (a count, as the definition `sequence_of` has it).
 #[tactic(auto, unfolding(crate::specs::Utf8::sequence_of))]
 pub fn sequence(text: &[u8]) -> usize
     ensures { result ≡ sequence_of text.now }

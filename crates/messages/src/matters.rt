@@ -7,6 +7,8 @@ use calls::reasons;
 use calls::reasons::Reason;
 use refusals::Refusal;
 
+// Three questions by the same test, each with its own number in specs/Matters.antt: `of_minutes`, `of_strides`, `of_room`.
+
 // Whether a refusal is that of minutes.
 pub fn of_minutes(refusal: Refusal) -> bool
     ensures { result ≡ of_minutes refusal }
@@ -38,7 +40,13 @@ pub fn lacks_day(refusal: Refusal, month: Month, day: u32) -> bool
 
 // The question of 9 that turns down a series of so many heights in a month; none where the refusal is another.
 #[tactic(auto, unfolding(crate::specs::Matters::series_matter))]
-pub fn series_matter(refusal: Refusal, month: Month, start: u32, step: u32, places: usize) -> Option<Reason>
+pub fn series_matter(
+    refusal: Refusal,
+    month: Month,
+    start: u32,
+    step: u32,
+    places: usize,
+) -> Option<Reason>
     ensures { result ≡ series_matter refusal month.year month.month start step places }
 {
     if of_minutes(refusal) {

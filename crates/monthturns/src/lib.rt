@@ -14,21 +14,15 @@ mod widths; // how wide the searches at the end are
 pub mod yearturns; // the turns of a year
 
 use crate::widths::{Widths, widest_first};
-use clock::{Clock, TurnsAnswer};
+use clock::Clock;
 use limits::STRIDE;
 use page::shown::{TURNS, Turn, Turns, Waters};
-use refusals::Answer;
+use refusals::Refused;
 use station::strides::Strides;
+use turns::Summary;
 
 // The most turns that so short a search finds: one at each minute of the widest stride.
 const ENDS: usize = STRIDE as usize;
-
-// So many turns in two rows, and whether the first is high.
-#[derive(Clone, Copy)]
-struct Known {
-    count: usize,
-    first: bool,
-}
 
 // The last turns of three searches, the widest first, where they find any.
 #[derive(Clone, Copy)]
@@ -38,21 +32,14 @@ struct Ends {
     end: Option<Turn>,
 }
 
-// Whether a month's turns were found, or the clock's refusal; and the turns, none where it refuses.
-#[derive(Clone, Copy)]
-pub struct Found {
-    pub answer: Answer,
-    pub turns: Turns,
-}
-
 // The last of turns in two rows.
-fn last_of(known: Known, minutes: &[u32], heights: &[i64]) -> Option<Turn> {
+fn last_of(known: Summary, minutes: &[u32], heights: &[i64]) -> Option<Turn> {
     if known.count == 0 {
         return None;
     }
     let waters = Waters {
         count: known.count,
-        first: known.first,
+        first: known.high,
         minutes,
         heights,
     };
@@ -60,7 +47,7 @@ fn last_of(known: Known, minutes: &[u32], heights: &[i64]) -> Option<Turn> {
 }
 
 // The last turn of a search up to the last minute from so many minutes before it on, or from the first where there are not so many; none where it is refused.
-fn turn_at_end<F: Fn(u32, &mut [u32], &mut [i64]) -> TurnsAnswer>(
+fn turn_at_end<F: Fn(u32, &mut [u32], &mut [i64]) -> Result<Summary, Refused>>(
     search: &F,
     last: u32,
     width: u32,
@@ -70,13 +57,13 @@ fn turn_at_end<F: Fn(u32, &mut [u32], &mut [i64]) -> TurnsAnswer>(
     let mut minutes = [0u32; ENDS];
     let mut heights = [0i64; ENDS];
     match search(last.saturating_sub(width), &mut minutes, &mut heights) {
-        TurnsAnswer::Turns(count, first) => last_of(Known { count, first }, &minutes, &heights),
-        TurnsAnswer::Refused(_, _) => None,
+        Ok(found) => last_of(found, &minutes, &heights),
+        Err(_) => None,
     }
 }
 
 // The last turns of searches up to the last minute, as wide as each width.
-fn ends_of<F: Fn(u32, &mut [u32], &mut [i64]) -> TurnsAnswer>(
+fn ends_of<F: Fn(u32, &mut [u32], &mut [i64]) -> Result<Summary, Refused>>(
     search: F,
     last: u32,
     widths: Widths,
@@ -111,22 +98,22 @@ fn put_turn(at: usize, turn: Turn, minutes: &mut [u32], heights: &mut [i64]) -> 
 }
 
 // Turns, and one more that was put behind them.
-fn counted(known: Known, high: bool) -> Known
+fn counted(known: Summary, high: bool) -> Summary
     ensures { (known.count ≤ result.count) × (result.count ≤ known.count + 1) }
 {
-    Known {
+    Summary {
         count: known.count.saturating_add(1),
-        first: if known.count == 0 { high } else { known.first },
+        high: if known.count == 0 { high } else { known.high },
     }
 }
 
 // Turns and one more, where it may follow the last of them.
 fn with_turn(
-    known: Known,
+    known: Summary,
     turn: Option<Turn>,
     minutes: &mut [u32],
     heights: &mut [i64],
-) -> Known
+) -> Summary
     ensures count_le_count { (known.count ≤ result.count) × (result.count ≤ known.count + 1) }
     ensures kept { Kept known.count minutes.old minutes.new heights.old heights.new }
 {
@@ -143,7 +130,7 @@ fn with_turn(
 }
 
 // Turns and the three that may stand at the end.
-fn with_ends(known: Known, ends: Ends, minutes: &mut [u32], heights: &mut [i64]) -> Known
+fn with_ends(known: Summary, ends: Ends, minutes: &mut [u32], heights: &mut [i64]) -> Summary
     ensures count_le_count { (known.count ≤ result.count) × (result.count ≤ known.count + 3) }
     ensures kept { Kept known.count minutes.old minutes.new heights.old heights.new }
 {
@@ -160,52 +147,32 @@ fn month_turns(
     widths: Widths,
     minutes: &mut [u32],
     heights: &mut [i64],
-) -> TurnsAnswer
+) -> Result<Summary, Refused>
     requires { Made clock }
     ensures { MonthTurns clock last minutes.old minutes.new heights.old heights.new result }
 {
-    let answer = clock::turns(clock, 0, last, minutes, heights);
-    match answer {
-        TurnsAnswer::Turns(count, first) => {
-            let ends = ends_of(
-                |from, m, h| clock::turns(clock, from, last, m, h),
-                last,
-                widths,
-            );
-            let known = with_ends(Known { count, first }, ends, minutes, heights);
-            TurnsAnswer::Turns(known.count, known.first)
-        }
-        TurnsAnswer::Refused(refusal, place) => TurnsAnswer::Refused(refusal, place),
-    }
+    let found = clock::turns(clock, 0, last, minutes, heights)?;
+    let ends = ends_of(
+        |from, m, h| clock::turns(clock, from, last, m, h),
+        last,
+        widths,
+    );
+    Ok(with_ends(found, ends, minutes, heights))
 }
 
 // The turns of the month that a clock has prepared, whose last minute is given, at a station with these strides, or the clock's refusal.
-pub fn turns_of(clock: Clock, last: u32, strides: Strides) -> Found
+pub fn turns_of(clock: Clock, last: u32, strides: Strides) -> Result<Turns, Refused>
     requires { Made clock }
     ensures { FoundTurns clock last result }
 {
     let widths = widest_first(strides);
     let mut minutes = [0u32; TURNS];
     let mut heights = [0i64; TURNS];
-    let answer = month_turns(clock, last, widths, &mut minutes, &mut heights);
-    match answer {
-        TurnsAnswer::Turns(count, first) => Found {
-            answer: Answer::Accepted,
-            turns: Turns {
-                count,
-                first,
-                minutes,
-                heights,
-            },
-        },
-        TurnsAnswer::Refused(refusal, place) => Found {
-            answer: Answer::Refused(refusal, place),
-            turns: Turns {
-                count: 0,
-                first: false,
-                minutes,
-                heights,
-            },
-        },
-    }
+    let found = month_turns(clock, last, widths, &mut minutes, &mut heights)?;
+    Ok(Turns {
+        count: found.count,
+        first: found.high,
+        minutes,
+        heights,
+    })
 }

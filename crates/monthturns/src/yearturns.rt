@@ -5,10 +5,12 @@ ghost use Rattle.clock.specs.View.{Made};
 ghost use Rattle.monthturns.specs.Year.{YearTurns};
 
 use crate::widths::widest_first;
-use crate::{Known, ends_of, with_ends};
+use crate::{ends_of, with_ends};
 use calls::annual::Sheet;
-use clock::{Clock, TurnsAnswer};
+use clock::Clock;
+use refusals::Refused;
 use station::strides::Strides;
+use turns::Summary;
 
 // The turns of a year at a station with these strides, from the front of the buffers, and the heights of a series from its first minute on, so many minutes
 // apart: the clock's own year, and what searches as wide as the strides find behind the last one at the year's end. A refusal is the clock's.
@@ -20,7 +22,7 @@ pub fn turns_of(
     series: &mut [i64],
     minutes: &mut [u32],
     heights: &mut [i64],
-) -> TurnsAnswer
+) -> Result<Summary, Refused>
     requires { Made clock }
     ensures { YearTurns clock year step series.old series.new minutes.old minutes.new heights.old heights.new result }
 {
@@ -33,26 +35,20 @@ pub fn turns_of(
         first: 0,
         last,
     };
-    let answer = clock::year(clock, sheet, series, minutes, heights);
-    match answer {
-        TurnsAnswer::Turns(count, first) => {
-            let ends = ends_of(
-                |from, m, h| {
-                    let end = Sheet {
-                        year,
-                        start: 0,
-                        step: 1,
-                        first: from,
-                        last,
-                    };
-                    clock::year(clock, end, &mut [], m, h)
-                },
+    let found = clock::year(clock, sheet, series, minutes, heights)?;
+    let ends = ends_of(
+        |from, m, h| {
+            let end = Sheet {
+                year,
+                start: 0,
+                step: 1,
+                first: from,
                 last,
-                widths,
-            );
-            let known = with_ends(Known { count, first }, ends, minutes, heights);
-            TurnsAnswer::Turns(known.count, known.first)
-        }
-        TurnsAnswer::Refused(refusal, place) => TurnsAnswer::Refused(refusal, place),
-    }
+            };
+            clock::year(clock, end, &mut [], m, h)
+        },
+        last,
+        widths,
+    );
+    Ok(with_ends(found, ends, minutes, heights))
 }

@@ -8,7 +8,8 @@ pub const TURNS: usize = 512;
 
 pub const YEAR_TURNS: usize = 6_144;
 
-// A day of a month, or day 0 for the whole month; month 0 for the whole year.
+// A day of a month, or day 0 for the whole month; month 0 for the whole year. (Not Options: a month's and a day's views need the plain numbers, as
+// `calendar::month_days(date.year, date.month)`, and would have to take apart what they were asked for.)
 #[derive(Clone, Copy)]
 pub struct Date {
     pub year: u32,

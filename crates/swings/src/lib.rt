@@ -1,4 +1,5 @@
-// How far the water moves from turn to turn, and which turns stand on a day. Turns are lent as two rows, their minutes and their heights.
+// How far the water moves from turn to turn, and which turns stand on a day. Turns are lent as two rows, their minutes and their heights, with their
+// count beside (not cut to it: what `turn_from`, `day_end` and `largest_swing` promise holds of any count).
 #![tactic(auto)]
 
 ghost use Rattle.std.specs.Prelude.{◌≡◌, ◌+◌, ◌-◌, ◌≤◌};

@@ -1,14 +1,13 @@
 -- Line n of a text, walked to line by line. Assumes nothing.
-use Prim.Native.Nat.{ℕ, zero, suc, ◌+◌, ◌-◌, ◌<◌}
+use Prim.Native.Nat.{ℕ, ◌+◌, ◌-◌, ◌<◌}
 use mathlib.Core.Path.{◌≡◌, refl}
 use mathlib.Core.List.{List, [], ◌∷◌}
 use native.Mathlib.Numerals.{add-one}
 use native.Mathlib.Omega.{arith}
-use lib.ListN.{length, drop}
-use lib.Seq.{drop-length}
+use lib.ListN.{length}
 use Rattle.columns.specs.Bytes.{leading}
 use Rattle.columns.specs.Lines.{lines_of, first_line, rest_lines}
-use Rattle.columns.proofs.Lines.{lines_next, lines_none}
+use Rattle.columns.proofs.Lines.{lines_next}
 use Rattle.messages.specs.Lines.{line_at}
 
 -- what is behind the first line has the next line one nearer; behind the end is nothing
