@@ -73,6 +73,7 @@ pub fn read_main(
 {
     let m = here.mains;
     let first = here.satellites;
+    // No `?`: `has-the-clock` of claim_runs cannot have std's code.
     match next_main(line, &table.names, table.frequencies, cards, m, first) {
         Ok(Some(main)) => {
             put_main(cards, angles, m, first, main);
@@ -96,6 +97,7 @@ pub fn read_satellites(
     ensures satellites_stored { SatellitesStored result (mains_over cards.new sat.new ratios.new) (mains_over cards.old sat.old ratios.old) here.mains due line.now }
     ensures grown { Grown result cards.new cards.old here.mains here.satellites due × (length cards.new ≡ 3 * most_mains) × SatelliteRoom sat.new ratios.new }
 {
+    // No `?`: `has-the-clock` of claim_runs cannot have std's code.
     match satellite_card(line, here.satellites, due, sat, ratios) {
         Ok(()) => {
             add_satellites(cards, here.mains, at_most_three(due) as u16);

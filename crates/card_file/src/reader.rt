@@ -33,6 +33,7 @@ fn shallows_and(file: &[u8], from: Reached, table: Table) -> Result<Parsed, Misr
     requires { WithinFile file.now from × (table.frequencies ≤ most_frequencies) × (table.mains ≤ most_mains) }
     ensures { parsed_gives file.now result ≡ shallows_and (table_of table) (lines_of (drop from.at file.now)) from.line }
 {
+    // No `?`: `has-the-clock` of claim_runs cannot have std's code.
     match read_shallows(file, from, &table) {
         Ok(read) => {
             let Shallows {
@@ -78,6 +79,7 @@ fn mains_and(file: &[u8], from: Reached, table: Table) -> Result<Parsed, Misread
         mains: 0,
         satellites: 0,
     };
+    // No `?`: `has-the-clock` of claim_runs cannot have std's code.
     match constituent_reader(file, here, &table, &mut rows) {
         Ok(read) => {
             let MainRows {
@@ -105,6 +107,7 @@ fn longitudes_and(file: &[u8], from: Reached, table: Table) -> Result<Parsed, Mi
     requires { WithinFile file.now from × (table.frequencies ≤ most_frequencies) }
     ensures { parsed_gives file.now result ≡ longitudes_and (table_of table) (lines_of (drop from.at file.now)) from.line }
 {
+    // No `?`: `has-the-clock` of claim_runs cannot have std's code.
     match read_five(file, from, FiveCard::Longitudes) {
         Ok(first) => match read_five(file, first.reached, FiveCard::Increases) {
             Ok(second) => {
@@ -127,6 +130,7 @@ fn longitudes_and(file: &[u8], from: Reached, table: Table) -> Result<Parsed, Mi
 pub fn parse_cards(file: &[u8]) -> Result<Parsed, Misread>
     ensures { parsed_gives file.now result ≡ read_cards file.now }
 {
+    // No `?`: `has-the-clock` of claim_runs cannot have std's code.
     match read_frequencies(file) {
         Ok(read) => {
             let Frequencies {

@@ -26,6 +26,7 @@ fn part(line: &[u8], j: usize, sizes: u64, table: &Table) -> Result<PartRead, Fa
     requires { (j < 4) × (sizes ≤ most_sizes) × (table.now.frequencies ≤ most_frequencies) × (table.now.mains ≤ most_mains) }
     ensures { card_gives part_in result ≡ shallows.part (names_from table.now.names 0 table.now.frequencies) (places_in 3 table.now.maincards table.now.mains) sizes line.now j }
 {
+    // No `?`: `has-the-clock` of claim_runs cannot have std's code.
     match coefficient_field(line, j, sizes) {
         Ok(coefficient) => {
             let names = &table.names;
@@ -61,6 +62,7 @@ pub fn parts_on(line: &[u8], place: u16, count: u16, table: &Table) -> Result<Sh
     let mut coefficients = [0i8; 4];
     let mut sizes = 0;
     for j in 0..count as usize {
+        // No `?`: `has-the-clock` of claim_runs cannot have std's code.
         match part(line, j, sizes, table) {
             Ok(p) => {
                 card[2 + j] = p.main;

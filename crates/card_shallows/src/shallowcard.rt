@@ -26,6 +26,7 @@ fn own_place(line: &[u8], table: &Table, before: &Shallows) -> Result<u16, Fault
     requires { (table.now.frequencies ≤ most_frequencies) × (table.now.mains ≤ most_mains) × (before.now.count ≤ most_shallows) }
     ensures { card_gives (λ p. p) result ≡ new_place (names_from table.now.names 0 table.now.frequencies) (places_in 3 table.now.maincards table.now.mains ++ places_in 6 before.now.cards before.now.count) (columns line.now shallow_name 5) }
 {
+    // No `?`: `has-the-clock` of claim_runs cannot have std's code.
     match place_named(line, SHALLOW_NAME, &table.names, table.frequencies) {
         Ok(place) => {
             if is_among(place, &table.maincards, 3, table.mains) {
@@ -45,6 +46,7 @@ fn shallow_card(line: &[u8], table: &Table, before: &Shallows) -> Result<Shallow
     requires { (table.now.frequencies ≤ most_frequencies) × (table.now.mains ≤ most_mains) × (before.now.count ≤ most_shallows) }
     ensures { card_gives in_row result ≡ shallow_card (names_from table.now.names 0 table.now.frequencies) (places_in 3 table.now.maincards table.now.mains) (places_in 6 before.now.cards before.now.count) line.now }
 {
+    // No `?`: `has-the-clock` of claim_runs cannot have std's code.
     match own_place(line, table, before) {
         Ok(place) => match natural_field(line, formats::part_count()) {
             Ok(parts) => parts_on(line, place, parts as u16, table),
@@ -63,6 +65,7 @@ pub fn next_shallow(
     requires { (table.now.frequencies ≤ most_frequencies) × (table.now.mains ≤ most_mains) × (before.now.count ≤ most_shallows) }
     ensures { next_gives in_row result ≡ next_shallow (names_from table.now.names 0 table.now.frequencies) (places_in 3 table.now.maincards table.now.mains) (places_in 6 before.now.cards before.now.count) line.now }
 {
+    // No `?`: `has-the-clock` of claim_runs cannot have std's code.
     match begins(line, before.count, SHALLOWS, Trouble::TooManyShallows) {
         Ok(Opening::Ends) => Ok(None),
         Ok(Opening::Fields) => match shallow_card(line, table, before) {

@@ -6,24 +6,23 @@ ghost use Rattle.station_file.specs.Faults.{record_fault, station_fault};
 use card::faults;
 use card::faults::{Fault, Trouble, What};
 use limits::RECORDS;
-use refusals::{Refusal, number_of};
+use refusals::Refusal;
 use station::records::Rows;
 
 // By the refusal, of a record with this amplitude.
 fn record_fault(refusal: Refusal, amplitude: u32) -> Fault
     ensures { result ≡ record_fault (number_of refusal) amplitude }
 {
-    let number = number_of(refusal);
-    if number == number_of(Refusal::Missing) {
-        return faults::only(What::Name, Trouble::NoFrequency);
+    match refusal {
+        Refusal::Missing => faults::only(What::Name, Trouble::NoFrequency),
+        Refusal::BadName => faults::only(What::Name, Trouble::Twice),
+        _ => {
+            if station::amplitude_outside(amplitude) {
+                return faults::only(What::Amplitude, Trouble::OutOfRange);
+            }
+            faults::only(What::PhaseLag, Trouble::OutOfRange)
+        }
     }
-    if number == number_of(Refusal::BadName) {
-        return faults::only(What::Name, Trouble::Twice);
-    }
-    if station::amplitude_outside(amplitude) {
-        return faults::only(What::Amplitude, Trouble::OutOfRange);
-    }
-    faults::only(What::PhaseLag, Trouble::OutOfRange)
 }
 
 // By the refusal and its place: 0 is the latitude, a place past the last record is one record too many.
