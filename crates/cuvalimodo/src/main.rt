@@ -119,8 +119,7 @@ fn with_files(rt: HostRuntime, asking: &Asking, lent: Lent) -> io::Result<()> {
         }
     };
     let strides = asking.request.strides;
-    let placed =
-        clock::place_station(tabled.clock, read.latitude, strides, read.count, read.rows);
+    let placed = clock::place_station(tabled.clock, read.latitude, strides, read.count, read.rows);
     if let Err(refused) = placed.answer {
         return say_station(rt, asking, read.rows, refused);
     }
