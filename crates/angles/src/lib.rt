@@ -17,7 +17,8 @@ pub const CENTIDEGREE: u64 = 21_900_000_000;
 
 pub const ARC_MINUTE: u64 = 36_500_000_000;
 
-// How far a lies from 0, or from -1 where it is negative.
+// How far a lies from 0, or from -1 where it is negative. (`unsigned_abs`, `div_euclid` and `rem_euclid` call std's code, which `has-the-clock` of
+// claim_runs can't have: so `size`, `floor_div` and `mod_turn` are written by this.)
 fn distance(a: i64) -> u64
     ensures value { result ≡ mag a }
     ensures upper_bound { result < 2 ^ 63 }

@@ -101,7 +101,7 @@ pub fn bad_line(line: &[u8]) -> Fault
     only(What::Card, Trouble::BadByte)
 }
 
-// The refusal that a trouble earns.
+// The refusal that a trouble earns. (No `From`: the definition of the same name has the row of 01's table for each trouble.)
 pub fn refusal_for(trouble: Trouble) -> Refusal
     ensures { result ≡ refusal_for trouble }
 {

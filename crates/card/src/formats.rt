@@ -192,7 +192,7 @@ pub fn mark_column(j: usize) -> usize
     11 + 23 * j + 21
 }
 
-// A row of small numbers: a main's six Doodson numbers, or the three differences of a card's satellite.
+// A row of small numbers, and no closure for its fields, as the definition `row_field` has it: a main's six Doodson numbers, or the three differences of a card's satellite.
 #[derive(Clone, Copy)]
 pub enum Row {
     Doodson,

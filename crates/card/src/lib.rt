@@ -37,6 +37,7 @@ fn number(line: &[u8], f: NumberField) -> Result<i64, Fault>
 }
 
 // The number in a field whose range eight bits hold.
+// (Not one with `natural_field` by `TryFrom`: `has-the-clock` of claim_runs cannot have std's code.)
 pub fn small_field(line: &[u8], f: NumberField) -> Result<i8, Fault>
     requires { IsSmall f }
     ensures { card_gives (λ v. v) result ≡ number line.now f }

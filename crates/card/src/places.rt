@@ -56,6 +56,7 @@ fn not_main(j: usize) -> Fault
 }
 
 // The main with a place, by its position, for part j.
+// (A loop of its own beside `is_among`: a search for both would be a third function, with two more to turn its answer.)
 pub fn main_at(j: usize, place: u16, cards: &[u16], count: usize) -> Result<u16, Fault>
     requires { (j < 4) × (count ≤ most_frequencies) }
     ensures { card_gives (λ p. p) result ≡ main_at j place (places_in 3 cards.now count) 0 }

@@ -12,6 +12,7 @@ use card::lines::{Misread, Reached, after_line, line_at};
 use card::{formats, natural_field};
 
 // The numbers of a card (5F13.10).
+// (A loop of its own beside `small_row`: one for both would take each field's reader as a closure and say by its clauses what one line says here.)
 pub fn five_card(line: &[u8], card: FiveCard) -> Result<[u64; 5], Fault>
     ensures { card_gives (λ values. values) result ≡ five_card (five_field card) line.now }
 {

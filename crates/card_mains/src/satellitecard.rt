@@ -53,7 +53,7 @@ fn satellites_on(
     Ok(())
 }
 
-// How many satellites stand on the next card.
+// How many satellites stand on the next card. (No `min`: `has-the-clock` of claim_runs cannot have std's code.)
 pub fn at_most_three(count: usize) -> usize
     ensures { result ≡ min count satellites_a_card }
 {

@@ -11,34 +11,32 @@ use mir.Syntax.{w8, w64}
 use mir.Val.{Val, vunit, vint, of_list}
 use mir.ValLaws.{to_z-of_z}
 use denote.Laws.{Is}
+use denote.RattleType.{RattleType}
+use denote.Param.Laws.{Laws, Told, of_field, field_told}
+use denote.Param.Shared.{copy_shared}
+use denote.Struct.Field.{unit-field, i64-field, usize-field}
+use denote.Struct.Laws.{unit-laws, unit-copy, i64-laws, i64-copy, usize-laws, usize-copy}
+use Prim.{Unit}
+use Rattle.std.specs.Prelude.{Result, Ok, Err}
+use Rattle.std.specs.contracts.result.Result as ResultType
+use Rattle.std.proofs.result.Result.TheLaws as ResultLaws
 use Rattle.columns.specs.Names.{names_from}
 use Rattle.refusals.specs.Outcome.{Outcome, accepted, refused, number_of, outcome_of}
-use Rattle.refusals.specs.declared.Answer.{Answer}
-use Rattle.refusals.specs.declared.Answer.TheVariants as answer
+use Rattle.refusals.specs.declared.Refused.{Refused}
+use Rattle.refusals.specs.contracts.Refused as RefusedType
+use Rattle.refusals.proofs.Refused.TheLaws as RefusedLaws
 use Rattle.refusals.specs.declared.Refusal.{Refusal}
 use Rattle.refusals.specs.declared.Refusal.TheVariants.{BadLine, Malformed, OutOfRange, BadName, Missing, TooMany, Ended, BadDate, BadMinutes, TooManyTurns, TooLarge, NoTable, NoStation, NoMonth, UnequalBuffers, BadStationNumber, BadHeight, ShortBuffer, BadStride}
-use Rattle.refusals.specs.contracts.Answer as AnswerType
-use Rattle.refusals.proofs.Answer.TheLaws as AnswerLaws
-use Rattle.refusals.proofs.Refusal.TheLaws as RefusalLaws
-use Rattle.hourly.specs.declared.CardsAnswer.{CardsAnswer}
-use Rattle.hourly.specs.declared.CardsAnswer.TheVariants as cards
 use Rattle.hourly.specs.Answers.{cards_returned}
-use Rattle.hourly.specs.contracts.CardsAnswer as CardsAnswerType
-use Rattle.hourly.proofs.CardsAnswer.TheLaws as CardsAnswerLaws
+use Rattle.turns.specs.declared.search.Summary.{Summary}
+use Rattle.turns.specs.contracts.search.Summary as SummaryType
+use Rattle.turns.proofs.search.Summary.TheLaws as SummaryLaws
 use Rattle.clock.specs.declared.After.{After}
-use Rattle.clock.specs.declared.HeightAnswer.{HeightAnswer}
-use Rattle.clock.specs.declared.HeightAnswer.TheVariants as height
-use Rattle.clock.specs.declared.TurnsAnswer.{TurnsAnswer}
-use Rattle.clock.specs.declared.TurnsAnswer.TheVariants as turns
 use Rattle.clock.specs.Returned.{height_returned, turns_returned}
 use Rattle.clock.specs.contracts.Clock as ClockType
 use Rattle.clock.proofs.Clock.TheLaws as ClockLaws
 use Rattle.clock.specs.contracts.After as AfterType
 use Rattle.clock.proofs.After.TheLaws as AfterLaws
-use Rattle.clock.specs.contracts.HeightAnswer as HeightAnswerType
-use Rattle.clock.proofs.HeightAnswer.TheLaws as HeightAnswerLaws
-use Rattle.clock.specs.contracts.TurnsAnswer as TurnsAnswerType
-use Rattle.clock.proofs.TurnsAnswer.TheLaws as TurnsAnswerLaws
 use Rattle.clock.specs.declared.TableNames.{TableNames}
 use Rattle.clock.specs.contracts.TableNames as NamesType
 use Rattle.clock.proofs.TableNames.TheLaws as NamesLaws
@@ -56,61 +54,93 @@ use Rattle.cuvalimodo_c.specs.contracts.answers.Reading as ReadingType
 use Rattle.cuvalimodo_c.proofs.answers.Reading.TheLaws as ReadingLaws
 use Rattle.cuvalimodo_c.specs.contracts.answers.Turnings as TurningsType
 use Rattle.cuvalimodo_c.proofs.answers.Turnings.TheLaws as TurningsLaws
-use Rattle.claim_runs.specs.Values.{part_in, number_in, refusal_numbers, answer_in, height_in, turns_in, cards_in, numbers_in, table_names_in, answer_part, clock_in, verdict_in, reading_in, turnings_in, held_cards_in}
+use Rattle.claim_runs.specs.Values.{part_in, number_in, refused_in, answer_in, height_in, turns_in, cards_in, numbers_in, table_names_in, answer_part, clock_in, verdict_in, reading_in, turnings_in, held_cards_in}
 
 -- the first of the machine's values
 abbrev pub first : List Val → Val
 first [] = vunit
 first (v ∷ vs) = v
 
-refusal-reads : (r : Refusal) → get_or refusal_numbers (number_in (part_in 0 (RefusalLaws.lowered r))) 0 ≡ number_of r
-refusal-reads BadLine = refl
-refusal-reads Malformed = refl
-refusal-reads OutOfRange = refl
-refusal-reads BadName = refl
-refusal-reads Missing = refl
-refusal-reads TooMany = refl
-refusal-reads Ended = refl
-refusal-reads BadDate = refl
-refusal-reads BadMinutes = refl
-refusal-reads TooManyTurns = refl
-refusal-reads TooLarge = refl
-refusal-reads NoTable = refl
-refusal-reads NoStation = refl
-refusal-reads NoMonth = refl
-refusal-reads UnequalBuffers = refl
-refusal-reads BadStationNumber = refl
-refusal-reads BadHeight = refl
-refusal-reads ShortBuffer = refl
-refusal-reads BadStride = refl
+-- ---- a Result of a refusal with its place, or of what a type's values are
 
-answer-lowered : (r : Answer) → answer_in (AnswerLaws.lowered r) ≡ outcome_of r
-answer-lowered answer.Accepted = refl
-answer-lowered (answer.Refused r place) = ap (λ (n : ℕ). refused n place) (refusal-reads r)
+module _ (T : RattleType) (l : Laws T) (told : Told T) where
+  abbrev row : RattleType
+  row = ResultType.the_row T RefusedType.the_row
 
-pub answer-reads : (r : Answer) (v : Val) → Is AnswerType.the_row r (v ∷ []) → answer_in v ≡ outcome_of r
-answer-reads r v is = ap (λ (vs : List Val). answer_in (first vs)) ((AnswerLaws.lowers).val_is r (v ∷ []) is) ∙ answer-lowered r
+  abbrev lowered : Result T.Denot Refused → Val
+  lowered = ResultLaws.lowered T RefusedType.the_row l RefusedLaws.the_row_laws told RefusedLaws.the_told
 
-height-lowered : (r : HeightAnswer) (v : Val) → Is HeightAnswerType.the_row r (v ∷ []) → height_in (HeightAnswerLaws.lowered r) ≡ height_returned r
-height-lowered (height.Height h) v is = ap accepted (to_z-of_z w64 h (record { sfits = is.1.1.1.1.0.1 }))
-height-lowered (height.Refused r place) v is = ap (λ (n : ℕ). refused n place) (refusal-reads r)
+  is-lowered : (r : Result T.Denot Refused) (v : Val) → Is row r (v ∷ []) → (v ∷ []) ≡ (lowered r ∷ [])
+  is-lowered r v is = (ResultLaws.lowers T RefusedType.the_row l RefusedLaws.the_row_laws told RefusedLaws.the_told).val_is r (v ∷ []) is
 
-pub height-reads : (r : HeightAnswer) (v : Val) → Is HeightAnswerType.the_row r (v ∷ []) → height_in v ≡ height_returned r
-height-reads r v is = ap (λ (vs : List Val). height_in (first vs)) ((HeightAnswerLaws.lowers).val_is r (v ∷ []) is) ∙ height-lowered r v is
+  refusal-reads : {A : Type 0} (r : Refusal) (place : ℕ) → refused_in {A = A} (lowered (Err (record { refusal = r; place = place }))) ≡ refused (number_of r) place
+  refusal-reads BadLine place = refl
+  refusal-reads Malformed place = refl
+  refusal-reads OutOfRange place = refl
+  refusal-reads BadName place = refl
+  refusal-reads Missing place = refl
+  refusal-reads TooMany place = refl
+  refusal-reads Ended place = refl
+  refusal-reads BadDate place = refl
+  refusal-reads BadMinutes place = refl
+  refusal-reads TooManyTurns place = refl
+  refusal-reads TooLarge place = refl
+  refusal-reads NoTable place = refl
+  refusal-reads NoStation place = refl
+  refusal-reads NoMonth place = refl
+  refusal-reads UnequalBuffers place = refl
+  refusal-reads BadStationNumber place = refl
+  refusal-reads BadHeight place = refl
+  refusal-reads ShortBuffer place = refl
+  refusal-reads BadStride place = refl
 
-turns-lowered : (r : TurnsAnswer) → turns_in (TurnsAnswerLaws.lowered r) ≡ turns_returned r
-turns-lowered (turns.Turns count high) = refl
-turns-lowered (turns.Refused r place) = ap (λ (n : ℕ). refused n place) (refusal-reads r)
+-- nothing, a height, a number
 
-pub turns-reads : (r : TurnsAnswer) (v : Val) → Is TurnsAnswerType.the_row r (v ∷ []) → turns_in v ≡ turns_returned r
-turns-reads r v is = ap (λ (vs : List Val). turns_in (first vs)) ((TurnsAnswerLaws.lowers).val_is r (v ∷ []) is) ∙ turns-lowered r
+abbrev unit-lent : Laws unit-field.row
+unit-lent = of_field unit-field unit-laws refl (copy_shared unit-field unit-copy)
 
-cards-lowered : (r : CardsAnswer) → cards_in (CardsAnswerLaws.lowered r) ≡ cards_returned r
-cards-lowered (cards.Bytes count) = refl
-cards-lowered (cards.Refused r place) = ap (λ (n : ℕ). refused n place) (refusal-reads r)
+abbrev unit-told : Told unit-field.row
+unit-told = field_told unit-field unit-laws
 
-pub cards-read : (r : CardsAnswer) (v : Val) → Is CardsAnswerType.the_row r (v ∷ []) → cards_in v ≡ cards_returned r
-cards-read r v is = ap (λ (vs : List Val). cards_in (first vs)) ((CardsAnswerLaws.lowers).val_is r (v ∷ []) is) ∙ cards-lowered r
+abbrev i64-lent : Laws i64-field.row
+i64-lent = of_field i64-field i64-laws refl (copy_shared i64-field i64-copy)
+
+abbrev i64-told : Told i64-field.row
+i64-told = field_told i64-field i64-laws
+
+abbrev usize-lent : Laws usize-field.row
+usize-lent = of_field usize-field usize-laws refl (copy_shared usize-field usize-copy)
+
+abbrev usize-told : Told usize-field.row
+usize-told = field_told usize-field usize-laws
+
+answer-lowered : (r : Result Unit Refused) → answer_in (lowered unit-field.row unit-lent unit-told r) ≡ outcome_of r
+answer-lowered (Ok tt) = refl
+answer-lowered (Err e) = refusal-reads unit-field.row unit-lent unit-told e.refusal e.place
+
+pub answer-reads : (r : Result Unit Refused) (v : Val) → Is (ResultType.the_row unit-field.row RefusedType.the_row) r (v ∷ []) → answer_in v ≡ outcome_of r
+answer-reads r v is = ap (λ (vs : List Val). answer_in (first vs)) (is-lowered unit-field.row unit-lent unit-told r v is) ∙ answer-lowered r
+
+height-lowered : (r : Result ℤ Refused) (v : Val) → Is (ResultType.the_row i64-field.row RefusedType.the_row) r (v ∷ []) → height_in (lowered i64-field.row i64-lent i64-told r) ≡ height_returned r
+height-lowered (Ok h) v is = ap accepted (to_z-of_z w64 h (record { sfits = is.1.1.1.1.0.1 }))
+height-lowered (Err e) v is = refusal-reads i64-field.row i64-lent i64-told e.refusal e.place
+
+pub height-reads : (r : Result ℤ Refused) (v : Val) → Is (ResultType.the_row i64-field.row RefusedType.the_row) r (v ∷ []) → height_in v ≡ height_returned r
+height-reads r v is = ap (λ (vs : List Val). height_in (first vs)) (is-lowered i64-field.row i64-lent i64-told r v is) ∙ height-lowered r v is
+
+turns-lowered : (r : Result Summary Refused) → turns_in (lowered SummaryType.the_row SummaryLaws.the_row_laws SummaryLaws.the_told r) ≡ turns_returned r
+turns-lowered (Ok found) = refl
+turns-lowered (Err e) = refusal-reads SummaryType.the_row SummaryLaws.the_row_laws SummaryLaws.the_told e.refusal e.place
+
+pub turns-reads : (r : Result Summary Refused) (v : Val) → Is (ResultType.the_row SummaryType.the_row RefusedType.the_row) r (v ∷ []) → turns_in v ≡ turns_returned r
+turns-reads r v is = ap (λ (vs : List Val). turns_in (first vs)) (is-lowered SummaryType.the_row SummaryLaws.the_row_laws SummaryLaws.the_told r v is) ∙ turns-lowered r
+
+cards-lowered : (r : Result ℕ Refused) → cards_in (lowered usize-field.row usize-lent usize-told r) ≡ cards_returned r
+cards-lowered (Ok count) = refl
+cards-lowered (Err e) = refusal-reads usize-field.row usize-lent usize-told e.refusal e.place
+
+pub cards-read : (r : Result ℕ Refused) (v : Val) → Is (ResultType.the_row usize-field.row RefusedType.the_row) r (v ∷ []) → cards_in v ≡ cards_returned r
+cards-read r v is = ap (λ (vs : List Val). cards_in (first vs)) (is-lowered usize-field.row usize-lent usize-told r v is) ∙ cards-lowered r
 
 pub after-reads : (r : After) (v : Val) → Is AfterType.the_row r (v ∷ []) → answer_in (answer_part v) ≡ outcome_of r.answer
 after-reads r v is = ap (λ (vs : List Val). answer_in (answer_part (first vs))) ((AfterLaws.lowers).val_is r (v ∷ []) is) ∙ answer-lowered r.answer

@@ -1,5 +1,5 @@
 -- The machine's values for what the clock's calls return, read: a struct by its fields, an enum by its tag, which stands first, and the
--- fields behind it; and what lies in a memory, as the machine loads it.
+-- fields behind it, a Result too; and what lies in a memory, as the machine loads it.
 -- Assumes nothing.
 use Prim.{Unit}
 use Rattle.std.specs.Prelude.{ℕ, zero, suc, ◌+◌, true, false, cond, List, [], ◌∷◌, eqb, ℤ, get_or, replicate}
@@ -32,13 +32,15 @@ number_in v = as_int 0 v (λ w n. n)
 abbrev pub by_tag : {A : Type 0} → Val → A → A → A
 by_tag v first second = cond (eqb (number_in (part_in 0 v)) 0) first second
 
+-- ---- a Result: tag 0 and what is given, or tag 1 and the refusal with its place
+
 -- the tags of the refusals are their places in 01's two tables, and then 02's: "a new number joins 01's table"
 abbrev pub refusal_numbers : List ℕ
 refusal_numbers = 1 ∷ 2 ∷ 3 ∷ 4 ∷ 5 ∷ 6 ∷ 7 ∷ 8 ∷ 9 ∷ 10 ∷ 11 ∷ 21 ∷ 22 ∷ 23 ∷ 31 ∷ 32 ∷ 33 ∷ 34 ∷ 35 ∷ []
 
 -- "A refusal returns its number and a place"
 abbrev pub refused_in : {A : Type 0} → Val → Outcome A
-refused_in v = refused (get_or refusal_numbers (number_in (part_in 0 (part_in 1 v))) 0) (number_in (part_in 2 v))
+refused_in v = refused (get_or refusal_numbers (number_in (part_in 0 (part_in 0 (part_in 1 v)))) 0) (number_in (part_in 1 (part_in 1 v)))
 
 abbrev pub answer_in : Val → Outcome Unit
 answer_in v = by_tag v (accepted tt) (refused_in v)
@@ -48,7 +50,7 @@ height_in v = by_tag v (accepted (to_z w64 (number_in (part_in 1 v)))) (refused_
 
 -- "returned: how many, and whether the first is high"
 abbrev pub turns_in : Val → Outcome TurnsFound
-turns_in v = by_tag v (accepted (record { count = number_in (part_in 1 v); high = as_bool false (part_in 2 v) (λ t. t) })) (refused_in v)
+turns_in v = by_tag v (accepted (record { count = number_in (part_in 0 (part_in 1 v)); high = as_bool false (part_in 1 (part_in 1 v)) (λ t. t) })) (refused_in v)
 
 -- "return how many bytes they take"
 abbrev pub cards_in : Val → Outcome ℕ

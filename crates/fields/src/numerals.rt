@@ -41,6 +41,7 @@ fn numeral(field: &[u8], k: usize, end: usize, before: u64) -> u64
 }
 
 // The number that n zeros write behind `before`, capped.
+// (Not one with `numeral`: an iterator of digits for both would call std's code, which `has-the-clock` of claim_runs cannot have.)
 fn zeros(before: u64, n: usize) -> u64
     requires { before ≤ cap }
     ensures { result ≡ min cap (number.numeral before (replicate n 48)) }

@@ -7,6 +7,7 @@ use Rattle.heights.proofs.TheLink as link
 use Rattle.heights.proofs.bookings.heights_at.Symbol as bookings-heights_at
 use Rattle.heights.proofs.height.Symbol as height
 use Rattle.heights.proofs.minuteangle.angle_at.Symbol as minuteangle-angle_at
+use Rattle.heights.proofs.months.LentMonths.month.Symbol as months-LentMonths-month
 use Rattle.heights.proofs.months.height.Symbol as months-height
 use Rattle.heights.proofs.months.series.Symbol as months-series
 use Rattle.heights.proofs.series.series.Symbol as series-series
@@ -26,6 +27,9 @@ linked-height = link.linked-heights::height
 
 pub linked-minuteangle-angle_at : (W : World) → Holds W "heights" table → Below W → HasT (in_world W) true minuteangle-angle_at.code
 linked-minuteangle-angle_at = link.linked-heights::minuteangle::angle_at
+
+pub linked-months-LentMonths-month : (W : World) → Holds W "heights" table → Below W → HasT (in_world W) true months-LentMonths-month.code
+linked-months-LentMonths-month = link.linked-heights::months::LentMonths::month
 
 pub linked-months-height : (W : World) → Holds W "heights" table → Below W → HasT (in_world W) true months-height.code
 linked-months-height = link.linked-heights::months::height

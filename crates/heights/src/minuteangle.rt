@@ -16,20 +16,12 @@ pub const LAP: u64 = TURN / ADVANCE;
 // Minutes from the month's start to its instant.
 const INSTANT: u64 = 21_600;
 
-// A number of 16 bits, wider.
-fn wide(x: u16) -> u64
-    ensures value { result ≡ x }
-    ensures upper_bound { result < 65_536 }
-{
-    x as u64
-}
-
 // A constituent's angle at a minute, of a V below a turn and a frequency that a card can have: one division.
 fn angle_of_card(argument: u64, lag: u16, frequency: u64, minute: u64) -> u64
     requires { (argument < turn) × ((frequency ≤ most_frequency) × (minute ≤ most_minutes)) }
     ensures { result ≡ angle argument lag frequency minute }
 {
-    let start = argument + (200 * TURN - wide(lag) * CENTIDEGREE);
+    let start = argument + (200 * TURN - lag as u64 * CENTIDEGREE);
     let back = frequency * (ADVANCE * INSTANT);
     (start + frequency * (ADVANCE * minute) - back) % TURN
 }
@@ -44,5 +36,5 @@ pub fn angle_at(argument: u64, lag: u16, frequency: u64, minute: u64) -> u64
     }
     let f = frequency % LAP;
     let laps = f * minute + (LAP - f) * INSTANT;
-    (argument % TURN + (2 * TURN - wide(lag) * CENTIDEGREE) + laps % LAP * ADVANCE) % TURN
+    (argument % TURN + (2 * TURN - lag as u64 * CENTIDEGREE) + laps % LAP * ADVANCE) % TURN
 }

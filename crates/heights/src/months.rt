@@ -74,7 +74,7 @@ pub fn series(lent: LentMonths, start: u64, step: u64, out: &mut [i64])
     ensures { out.new ≡ series_of (height_over (months_lent lent.entry)) start step (length out.old) }
 {
     let mut n: usize = 0;
-    // it goes on by a month's places, not by one
+    // no `for`: it goes on by the places of a month, as many as these are
     while n < out.len() {
         let own = owner(lent.months, start + n as u64 * step);
         let end = n + places_in(lent.months, own, step, out.len() - n);

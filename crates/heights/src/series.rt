@@ -74,6 +74,7 @@ fn weights_of(row: &[i32]) -> [i32; RECORDS]
     ensures { result ≡ row.now }
 {
     let mut weights = [0i32; RECORDS];
+    // (no `copy_from_slice`: it calls std's code, which `has-the-clock` of claim_runs can't have)
     for k in 0..RECORDS {
         weights[k] = row[k];
     }

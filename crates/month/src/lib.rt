@@ -67,6 +67,7 @@ fn prepare_records(
         let found = find(&mains, table.mains, &shallows, table.shallows, place);
         work_mains(found, cosines, &table, given, &mut kept);
         let w = from_mains(found, &kept, &table);
+        // (no `?`: it calls std's code, which `has-the-clock` of claim_runs can't have)
         let Some(xy) = w.corrected else {
             return Err(Refused {
                 refusal: Refusal::TooLarge,

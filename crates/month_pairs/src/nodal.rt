@@ -13,7 +13,7 @@ ghost use Rattle.month_pairs.specs.inner.Rows.{pairs_of};
 use crate::pairs::{check, times_part};
 use limits::MAINS;
 use month_arguments::KEPT;
-use month_satellites::satellites::{Pair, index};
+use month_satellites::satellites::Pair;
 use table::Table;
 use table::entries::entry_at;
 
@@ -42,7 +42,7 @@ fn times_row_part<'a>(
     ensures result_value { corrected_of result ≡ times_part (pairs_of kept.now) (pair_of p) (part_of (naturals 6 table.now.shallowcards k) (integers 4 table.now.coefficients k) j) }
     ensures small { Small result }
 {
-    let main = index(*entry_at(&table.shallowcards, 6, k, 2 + j, &0));
+    let main = *entry_at(&table.shallowcards, 6, k, 2 + j, &0) as usize;
     times_part(
         p,
         pair_at(kept, main),
@@ -55,9 +55,10 @@ pub fn shallow_pair<'a>(kept: &'a [i64; KEPT], table: &'a Table, k: usize) -> Op
     ensures result_value { corrected_of result ≡ pair_from_parts (pairs_of kept.now) (shallow_of table.now.shallowcards table.now.coefficients k) }
     ensures small { Small result }
 {
-    let count = index(*entry_at(&table.shallowcards, 6, k, 1, &0));
+    let count = *entry_at(&table.shallowcards, 6, k, 1, &0) as usize;
     let mut p = Pair { x: 1_048_576, y: 0 };
     for j in 0..count {
+        // (no `?`: it calls std's code, which `has-the-clock` of claim_runs can't have)
         let Some(q) = times_row_part(kept, table, k, j, p) else {
             return None;
         };

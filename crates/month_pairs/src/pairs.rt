@@ -75,20 +75,13 @@ fn times_often(start: Pair, by: Pair, n: u64) -> Option<Pair>
 {
     let mut p = start;
     for _ in 0..n {
+        // (no `?`: it calls std's code, which `has-the-clock` of claim_runs can't have)
         let Some(q) = check(multiplied(p, by)) else {
             return None;
         };
         p = q;
     }
     Some(p)
-}
-
-// The same number in 64 bits.
-fn widened(n: i8) -> i64
-    ensures value { result ≡ n }
-    ensures result_bound { nat_abs result ≤ 2 ^ 7 }
-{
-    n as i64
 }
 
 // A pair multiplied by a part's, as often as the coefficient's size.
@@ -98,8 +91,9 @@ pub fn times_part(p: Pair, main: Option<Pair>, coefficient: i8) -> Option<Pair>
     ensures result_value { corrected_of result ≡ times_main (pair_of p) (corrected_of main) coefficient }
     ensures small_2 { Small result }
 {
+    // (no `?`: it calls std's code, which `has-the-clock` of claim_runs can't have)
     let Some(q) = main else {
         return None;
     };
-    times_often(p, turn(coefficient, q), size(widened(coefficient)))
+    times_often(p, turn(coefficient, q), size(coefficient as i64))
 }

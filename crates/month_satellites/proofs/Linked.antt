@@ -5,7 +5,6 @@ use mathlib.Core.Bool.{true}
 use prog.LinkedThreads.{HasT}
 use Rattle.month_satellites.proofs.TheLink as link
 use Rattle.month_satellites.proofs.latitude.latitude_factors.Symbol as latitude-latitude_factors
-use Rattle.month_satellites.proofs.satellites.index.Symbol as satellites-index
 use Rattle.month_satellites.proofs.satellites.main_sum.Symbol as satellites-main_sum
 
 abbrev pub table : Tree
@@ -16,9 +15,6 @@ Below = link.Below
 
 pub linked-latitude-latitude_factors : (W : World) → Holds W "month_satellites" table → Below W → HasT (in_world W) true latitude-latitude_factors.code
 linked-latitude-latitude_factors = link.linked-month_satellites::latitude::latitude_factors
-
-pub linked-satellites-index : (W : World) → Holds W "month_satellites" table → Below W → HasT (in_world W) true satellites-index.code
-linked-satellites-index = link.linked-month_satellites::satellites::index
 
 pub linked-satellites-main_sum : (W : World) → Holds W "month_satellites" table → Below W → HasT (in_world W) true satellites-main_sum.code
 linked-satellites-main_sum = link.linked-month_satellites::satellites::main_sum

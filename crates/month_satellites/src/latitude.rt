@@ -15,19 +15,11 @@ pub struct Factors {
     pub semidiurnal: i64,
 }
 
-// The same number in 64 bits.
-fn wide(a: i32) -> i64
-    ensures value { result ≡ a }
-    ensures result_bound { nat_abs result ≤ 2 ^ 31 }
-{
-    a as i64
-}
-
 // The latitude's size in minutes.
 fn minutes(latitude: i32) -> u64
     ensures { result ≡ latitude_size latitude }
 {
-    let m = angles::size(wide(latitude));
+    let m = angles::size(latitude as i64);
     if m < 300 {
         return 300;
     }

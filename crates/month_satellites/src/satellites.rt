@@ -94,14 +94,6 @@ fn marked_term(mark: u32, term: i64, g: Factors) -> i64
     term
 }
 
-// A card's number, to count by.
-pub fn index(n: u16) -> usize
-    ensures value { result ≡ n }
-    ensures upper_bound { result < 2 ^ 16 }
-{
-    n as usize
-}
-
 // Satellite k of the table.
 fn satellite_at(table: &Table, k: usize) -> Satellite
     requires { k < 2 ^ 32 }
@@ -149,8 +141,8 @@ pub fn main_sum<'a>(
     ensures result_value { pair_of result ≡ main_pair (factors_of g) (longitudes_of l) (listed (satellite_of table.now.satelliteangles table.now.satelliteratios) first count) }
     ensures sized { Sized sum_most result }
 {
-    let start = index(first);
-    let end = start + index(count);
+    let start = first as usize;
+    let end = start + count as usize;
     let mut x: i64 = 1_048_576;
     let mut y: i64 = 0;
     for k in start..end {

@@ -19,7 +19,7 @@ use month_arguments::KEPT;
 use month_arguments::arguments::{argument_at, main_argument};
 use month_arguments::astronomy::Longitudes;
 use month_satellites::latitude::Factors;
-use month_satellites::satellites::{Nodal, Pair, index, main_sum};
+use month_satellites::satellites::{Nodal, Pair, main_sum};
 use table::entries::entry_at;
 use table::{MAIN_ANGLES, Table};
 
@@ -121,9 +121,9 @@ pub fn work_parts<'a>(
     requires kept_by { KeptBy given table.now kept.old }
     ensures { WithParts (argument_by given table.now) (corrected_by given table.now) (naturals 6 table.now.shallowcards row) kept.new }
 {
-    let count = index(*entry_at(&table.shallowcards, 6, row, 1, &0));
+    let count = *entry_at(&table.shallowcards, 6, row, 1, &0) as usize;
     for j in 0..count {
-        let main = index(*entry_at(&table.shallowcards, 6, row, 2 + j, &0));
+        let main = *entry_at(&table.shallowcards, 6, row, 2 + j, &0) as usize;
         work_main(cosines, table, main, given, kept);
     }
 }

@@ -1,3 +1,2 @@
 -- What ties the code to the definitions beside this folder. Only inner contracts cite it.
-pub mod Cards
 pub mod File

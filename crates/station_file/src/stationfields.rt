@@ -4,38 +4,17 @@ ghost use Rattle.limits.specs.Limits.{most_frequencies};
 ghost use Rattle.columns.specs.Bytes.{blank};
 ghost use Rattle.columns.specs.Names.{names_from};
 ghost use Rattle.fields.specs.Number.{signed};
-ghost use Rattle.card.specs.Card.{opened, read_fields};
+ghost use Rattle.card.specs.inner.Answers.{card_gives};
+ghost use Rattle.card.specs.inner.Lines.{next_gives};
 ghost use Rattle.station_file.specs.Cards.{south_letter, north_letter, mark_good, minus_before, south_mark, side_of, is_south, in_minutes, latitude_fields, station_card, record_fields, next_record};
-ghost use Rattle.station_file.specs.inner.Cards.{side_gives, latitude_gives, record_gives};
 
 use crate::formats;
 use card::faults::{Fault, Trouble, What};
 use card::lines::{Opening, begins};
-use card::{Natural, Small, faults, natural_field, small_field};
+use card::{faults, natural_field, small_field};
 use columns::names;
 use limits::{FREQUENCIES, RECORDS};
-
-// Whether the latitude is south, or what is wrong with its mark.
-#[derive(Clone, Copy)]
-enum Side {
-    South(bool),
-    Bad(Fault),
-}
-
-// The station card's latitude in minutes, or what is wrong with the card.
-#[derive(Clone, Copy)]
-pub enum Latitude {
-    At(i32),
-    Bad(Fault),
-}
-
-// What the next constituent card comes to: the end, a record's place, amplitude and phase lag, or what is wrong with it.
-#[derive(Clone, Copy)]
-pub enum RecordStep {
-    Ends,
-    Gives(u8, u32, u32),
-    Fails(Fault),
-}
+use station::records::Record;
 
 // Whether a byte is a blank.
 fn is_blank(byte: u8) -> bool
@@ -111,28 +90,28 @@ fn has_south_letter(first: u8, second: u8) -> bool
 }
 
 // South by a minus or by a letter, not by both.
-fn side_of(minus: bool, letter: bool) -> Side
-    ensures { side_gives result ≡ side_of minus letter }
+fn side_of(minus: bool, letter: bool) -> Result<bool, Fault>
+    ensures { card_gives (λ south. south) result ≡ side_of minus letter }
 {
     if minus {
         if letter {
-            return Side::Bad(faults::only(What::Mark, Trouble::SouthTwice));
+            return Err(faults::only(What::Mark, Trouble::SouthTwice));
         }
-        return Side::South(true);
+        return Ok(true);
     }
-    Side::South(letter)
+    Ok(letter)
 }
 
 // Whether the latitude on a station card is south.
-fn side_on(line: &[u8]) -> Side
-    ensures { side_gives result ≡ is_south line.now }
+fn side_on(line: &[u8]) -> Result<bool, Fault>
+    ensures { card_gives (λ south. south) result ≡ is_south line.now }
 {
     let first = columns::column(line, formats::MARK);
     let second = columns::column(line, formats::SECOND_MARK);
     if is_mark(first, second) {
         return side_of(is_minus_before(line), has_south_letter(first, second));
     }
-    Side::Bad(faults::only(What::Mark, Trouble::BadMark))
+    Err(faults::only(What::Mark, Trouble::BadMark))
 }
 
 // The size of the degrees.
@@ -155,68 +134,59 @@ fn minutes_of(south: bool, degrees: u64, minutes: u64) -> i32
     size
 }
 
-// The latitude on a station card whose line is as it should be.
-fn latitude_fields(line: &[u8]) -> Latitude
-    ensures { latitude_gives result ≡ latitude_fields line.now }
+// The latitude on a station card whose line is as it should be, in minutes.
+fn latitude_fields(line: &[u8]) -> Result<i32, Fault>
+    ensures { card_gives (λ minutes. minutes) result ≡ latitude_fields line.now }
 {
-    match small_field(line, formats::degrees()) {
-        Small::Value(d) => match natural_field(line, formats::minutes()) {
-            Natural::Value(m) => match side_on(line) {
-                Side::South(south) => Latitude::At(minutes_of(south, size_of(d), m)),
-                Side::Bad(fault) => Latitude::Bad(fault),
-            },
-            Natural::Bad(fault) => Latitude::Bad(fault),
-        },
-        Small::Bad(fault) => Latitude::Bad(fault),
-    }
+    let degrees = small_field(line, formats::degrees())?;
+    let minutes = natural_field(line, formats::minutes())?;
+    let south = side_on(line)?;
+    Ok(minutes_of(south, size_of(degrees), minutes))
 }
 
-// The station card.
-pub fn station_card(line: &[u8]) -> Latitude
-    ensures { latitude_gives result ≡ station_card line.now }
+// The station card: its latitude in minutes, or what is wrong with it.
+pub fn station_card(line: &[u8]) -> Result<i32, Fault>
+    ensures { card_gives (λ minutes. minutes) result ≡ station_card line.now }
 {
     if columns::line_good(line) {
         return latitude_fields(line);
     }
-    Latitude::Bad(faults::bad_line(line))
+    Err(faults::bad_line(line))
 }
 
 // The record on a constituent card: name, amplitude, phase lag.
-fn record_fields(line: &[u8], names: &[u8], frequencies: usize) -> RecordStep
+fn record_fields(line: &[u8], names: &[u8], frequencies: usize) -> Result<Record, Fault>
     requires { frequencies ≤ most_frequencies }
-    ensures { record_gives result ≡ opened read_fields (record_fields (names_from names.now 0 frequencies) line.now) }
+    ensures { card_gives (λ r. r) result ≡ record_fields (names_from names.now 0 frequencies) line.now }
 {
     let name = names::name_part(line, formats::CONSTITUENT_NAME);
-    match names::find_name(name, names, frequencies) {
-        names::Found::At(place) => match natural_field(line, formats::amplitude()) {
-            Natural::Value(amplitude) => match natural_field(line, formats::phase_lag()) {
-                Natural::Value(phase) => {
-                    RecordStep::Gives(place as u8, amplitude as u32, phase as u32)
-                }
-                Natural::Bad(fault) => RecordStep::Fails(fault),
-            },
-            Natural::Bad(fault) => RecordStep::Fails(fault),
-        },
-        names::Found::Nothing => {
-            RecordStep::Fails(faults::only(What::Name, Trouble::NoFrequency))
+    let Some(place) = names::find_name(name, names, frequencies) else {
+        return Err(faults::only(What::Name, Trouble::NoFrequency));
+    };
+    let amplitude = natural_field(line, formats::amplitude())?;
+    let phase = natural_field(line, formats::phase_lag())?;
+    Ok(Record {
+        place: place as u8,
+        amplitude: amplitude as u32,
+        phase: phase as u32,
+    })
+}
+
+// The next constituent card, after `count` of them; none where it ends them. The names are rows of five bytes, one for each frequency of the card
+// file, which has no more than 160.
+pub fn record_card(
+    line: &[u8],
+    names: &[u8],
+    frequencies: usize,
+    count: usize,
+) -> Result<Option<Record>, Fault>
+    ensures { next_gives (λ r. r) result ≡ next_record (names_from names.now 0 (min frequencies most_frequencies)) count line.now }
+{
+    match begins(line, count, RECORDS, Trouble::TooManyRecords)? {
+        Opening::Ends => Ok(None),
+        Opening::Fields => {
+            let record = record_fields(line, names, frequencies.min(FREQUENCIES))?;
+            Ok(Some(record))
         }
-    }
-}
-
-// At most 160 frequencies: a card file has no more.
-fn at_most(n: usize) -> usize
-    ensures { result ≡ min n most_frequencies }
-{
-    if n < FREQUENCIES { n } else { FREQUENCIES }
-}
-
-// The next constituent card, after `count` of them. The names are rows of five bytes, one for each frequency of the card file.
-pub fn record_card(line: &[u8], names: &[u8], frequencies: usize, count: usize) -> RecordStep
-    ensures { record_gives result ≡ next_record (names_from names.now 0 (min frequencies most_frequencies)) count line.now }
-{
-    match begins(line, count, RECORDS, Trouble::TooManyRecords) {
-        Opening::Ends => RecordStep::Ends,
-        Opening::Fields => record_fields(line, names, at_most(frequencies)),
-        Opening::Fails(fault) => RecordStep::Fails(fault),
     }
 }

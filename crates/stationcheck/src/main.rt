@@ -6,11 +6,12 @@ ghost use Rattle.card.specs.inner.Fields.{IsNatural};
 
 use card::faults::What;
 use card::formats::NumberField;
-use card::{Natural, natural_field};
+use card::lines::Misread;
+use card::natural_field;
 use fields::Format;
 use files::checksum;
 use limits::RECORDS;
-use refusals::Answer;
+use refusals::Refused;
 use station::records::Rows;
 use station_file::stationfile::StationCards;
 use station_file::{stationcards, stationfile};
@@ -28,27 +29,20 @@ fn put_number(rt: &impl Print, n: u64) -> io::Result<()> {
 
 // PLACE AMPLITUDE PHASE
 fn put_record(rt: &impl Print, place: u8, amplitude: u32, phase: u32) -> io::Result<()> {
-    put_number(rt, place as u64)?;
+    put_number(rt, u64::from(place))?;
     put(rt, b" ")?;
-    put_number(rt, amplitude as u64)?;
+    put_number(rt, u64::from(amplitude))?;
     put(rt, b" ")?;
-    put_number(rt, phase as u64)?;
+    put_number(rt, u64::from(phase))?;
     put(rt, b"\n")
 }
 
 // The records, a line each.
 fn put_records(rt: &impl Print, count: usize, rows: Rows) -> io::Result<()> {
-    let mut k = 0;
-    while k < RECORDS && k < count {
+    for k in 0..count.min(RECORDS) {
         put_record(rt, rows.places[k], rows.amplitudes[k], rows.phases[k])?;
-        k += 1;
     }
     Ok(())
-}
-
-// A latitude as a wider number.
-fn widened(latitude: i32) -> i64 {
-    latitude as i64
 }
 
 // latitude MINUTES
@@ -57,29 +51,27 @@ fn put_latitude(rt: &impl Print, latitude: i32) -> io::Result<()> {
     if latitude < 0 {
         put(rt, b"-")?;
     }
-    put_number(rt, angles::size(widened(latitude)))?;
+    put_number(rt, angles::size(i64::from(latitude)))?;
     put(rt, b"\n")
 }
 
 // refused NUMBER LINE
-fn put_refused(rt: &impl Print, number: u32, line: usize) -> io::Result<()> {
+fn put_refused(rt: &impl Print, refused: Refused) -> io::Result<()> {
     put(rt, b"refused ")?;
-    put_number(rt, number as u64)?;
+    put_number(rt, u64::from(refusals::number_of(refused.refusal)))?;
     put(rt, b" ")?;
-    put_number(rt, line as u64)?;
+    put_number(rt, refused.place as u64)?;
     put(rt, b"\n")
 }
 
 // The latitude and the records, or the refusal.
-fn put_station(rt: &impl Print, told: StationCards) -> io::Result<()> {
-    let answer = told.answer;
-    match answer {
-        Answer::Accepted => {
-            put_latitude(rt, told.latitude)?;
-            let rows = told.rows;
-            put_records(rt, told.count, rows)
+fn put_station(rt: &impl Print, read: Result<StationCards, Misread>) -> io::Result<()> {
+    match read {
+        Ok(cards) => {
+            put_latitude(rt, cards.latitude)?;
+            put_records(rt, cards.count, cards.rows)
         }
-        Answer::Refused(r, line) => put_refused(rt, refusals::number_of(r), line),
+        Err(misread) => put_refused(rt, stationfile::refusal_of(misread)),
     }
 }
 
@@ -93,9 +85,9 @@ fn put_text<'a>(rt: &impl Print, word: &'a [u8], text: &'a [u8]) -> io::Result<(
 // Checksums, name and time zone.
 fn put_face<'a>(rt: &impl Print, names: &'a [u8], station: &'a [u8]) -> io::Result<()> {
     put(rt, b"crc ")?;
-    put_number(rt, checksum::crc32(names) as u64)?;
+    put_number(rt, u64::from(checksum::crc32(names)))?;
     put(rt, b" ")?;
-    put_number(rt, checksum::crc32(station) as u64)?;
+    put_number(rt, u64::from(checksum::crc32(station)))?;
     put(rt, b"\n")?;
     put_text(rt, b"name ", stationcards::station_name(station))?;
     put_text(rt, b"zone ", stationcards::time_zone(station))
@@ -120,14 +112,14 @@ fn size_field() -> NumberField
 fn put_input(rt: &impl Print, input: &[u8]) -> io::Result<()> {
     let rest = columns::rest_lines(input);
     match natural_field(columns::first_line(input), size_field()) {
-        Natural::Value(bytes) => {
+        Ok(bytes) => {
             let k = bytes as usize;
             let names = columns::part(rest, 0, k);
             let station = columns::part(rest, k, 65_536);
             put_face(rt, names, station)?;
             put_station(rt, stationfile::read_station(station, names, k / 5))
         }
-        Natural::Bad(_) => Ok(()),
+        Err(_) => Ok(()),
     }
 }
 

@@ -37,6 +37,7 @@ fn put_minutes(kept: &[u32], minutes: &mut [u32])
     requires { length kept.now ≤ length minutes.old }
     ensures { minutes.new ≡ from_front kept.now minutes.old }
 {
+    // (no `copy_from_slice`: it calls std's code, which `has-the-clock` of claim_runs can't have)
     for (i, minute) in kept.iter().enumerate() {
         minutes[i] = *minute;
     }

@@ -45,7 +45,7 @@ fn next_turn(lent: LentMonths, reach: Reach, minute: u64, here: i64) -> Option<N
     let last = reach.last;
     let mut from = minute;
     let mut behind = here;
-    // it goes on by a stride, from a minute that a turn gave
+    // no `for`: `step_by` calls std's code, which `has-the-clock` of claim_runs can't have; and the strides count minutes, not places
     while from + stride <= last {
         let to = from + stride;
         let ahead = slope(lent, to);
@@ -70,7 +70,7 @@ fn next_turn(lent: LentMonths, reach: Reach, minute: u64, here: i64) -> Option<N
     None
 }
 
-// Whether a turn is high, or false where there is none.
+// Whether a turn is high, or false where there is none. (`is_some_and` calls std's code.)
 fn is_high(turn: Option<Next>) -> bool
     ensures { MatchOption turn (result ≡ false) (λ n. result ≡ n.high) }
 {

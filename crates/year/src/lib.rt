@@ -49,6 +49,7 @@ fn put_month(
     ensures sines { qs.new ≡ paste qs.old (m * most_records) month.now.qs most_records }
 {
     let from = m * RECORDS;
+    // (no `copy_from_slice`, for the same reason as no `?` below)
     for k in 0..RECORDS {
         arguments[from + k] = month.arguments[k];
         ps[from + k] = month.ps[k];
@@ -72,6 +73,7 @@ pub fn prepare(
     ensures { PreparedPost table station year frequencies.new arguments.new ps.new qs.new result }
 {
     for m in 0..MONTHS {
+        // (no `?`: it calls std's code, which `has-the-clock` of claim_runs can't have)
         match month::prepare(cosines, table, station, year, m as u32 + 1) {
             Ok(month) => {
                 *frequencies = month.frequencies;

@@ -7,31 +7,31 @@ use mir.Syntax.{w64}
 use mir.Val.{SFits}
 use mir.ValLaws.{to_z-of_z}
 use Rattle.limits.specs.Limits.{most_minutes}
-use Rattle.table.specs.inner.View.{table_of}
-use Rattle.station.specs.inner.Station.{station_of}
 use Rattle.calls.proofs.asked.Passed.{height-within}
 use Rattle.calls.proofs.Posed.{height-refused, height-given}
-use Rattle.clock.specs.View.{view, month_in}
+use Rattle.clock.specs.View.{constituents_in}
+use Rattle.clock.proofs.Lent.{parts-made, from_parts}
 use Rattle.clock.proofs.height_lent.Goals as goal
 
 pub height-requires : goal.height-requires
 height-requires c =
     let k = c.args.lent.now in
     let w = height-within k.tabled k.stationed k.dated k.last c.args.minute (sym (rw c.there.ensures at c.in_default.ensures)) in
-    let sound = c.requires w.0 in
-    let within : c.args.minute ≤ most_minutes = omega (arith, w.1, sound.last) in
-    record { lent = c.lent.ensures.lent sound; minute_bound = within }
+    let made = parts-made k c.requires in
+    let parts = made w.0 in
+    let within : c.args.minute ≤ most_minutes = omega (arith, w.1, parts.1.1) in
+    record { lent = c.lent.ensures.lent made w.0; minute_bound = within }
 
 pub returns-in-Err : goal.returns-in-Err
-unfolding view
 returns-in-Err c =
     let k = c.args.lent.now in
-    record { returns = height-refused k.tabled (table_of k.table) k.stationed (station_of k.station) k.dated (month_in k) c.args.minute _ _ (sym (rw c.there.ensures at c.in-Err.ensures)) }
+    from_parts k c.args.minute _
+    (record { returns = λ t st year month. height-refused k.tabled t k.stationed st k.dated (record { year = year; month = month; prepared = record { last = k.last; constituents = constituents_in k } }) c.args.minute _ _ (sym (rw c.there.ensures at c.in-Err.ensures)) })
 
 pub returns : goal.returns
-unfolding view
 returns c =
     let k = c.args.lent.now in
     let fits : SFits w64 c.height.result = search rules in
     rw (to_z-of_z w64 c.height.result fits, c.height.ensures.value, c.lent.ensures.constituents)
-    (record { returns = height-given k.tabled (table_of k.table) k.stationed (station_of k.station) k.dated (month_in k) c.args.minute (sym (rw c.there.ensures at c.in_default.ensures)) })
+    (from_parts k c.args.minute _
+    (record { returns = λ t st year month. height-given k.tabled t k.stationed st k.dated (record { year = year; month = month; prepared = record { last = k.last; constituents = constituents_in k } }) c.args.minute (sym (rw c.there.ensures at c.in_default.ensures)) }))

@@ -4,12 +4,13 @@ use Rattle.table.specs.inner.View.{table_of}
 use Rattle.station.specs.inner.Station.{station_of}
 use Rattle.calls.proofs.Carded.{cards-refused, cards-given, hourly-tabled}
 use Rattle.clock.specs.View.{view, month_in}
+use Rattle.clock.proofs.Lent.{parts-made}
 use Rattle.clock.proofs.hourly.Goals as goal
 
 pub cards-requires : goal.cards-requires
 cards-requires c =
     let k = c.args.clock in
-    c.lent.ensures.lent (c.requires (hourly-tabled k.tabled k.stationed k.dated c.args.number (sym (rw c.there.ensures at c.in_default.ensures))))
+    c.lent.ensures.lent (parts-made k c.requires) (hourly-tabled k.tabled k.stationed k.dated c.args.number (sym (rw c.there.ensures at c.in_default.ensures)))
 
 pub returns-in-Err : goal.returns-in-Err
 unfolding view

@@ -1,14 +1,18 @@
 -- Only inner contracts cite this: what the steps of the calls promise.
 -- Assumes nothing.
 use Prim.{Unit}
-use Rattle.std.specs.Prelude.{ℕ, Bool, List, ◌≡◌, ℤ, Result}
+use Rattle.std.specs.Prelude.{ℕ, ◌≤◌, Bool, true, List, ◌≡◌, ℤ, Result}
+use Rattle.limits.specs.Limits.{most_minutes, most_records}
 use Rattle.refusals.specs.Outcome.{Outcome, outcome_of, answered, on_accepted}
 use Rattle.refusals.specs.declared.Refused.{Refused}
 use Rattle.cosine.specs.Fixed.{IsTable}
 use Rattle.table.specs.inner.View.{table_of}
 use Rattle.table.specs.declared.Table as declared
+use Rattle.table.specs.Table.{Table}
+use Rattle.station.specs.Station.{Station}
 use Rattle.station.specs.Strides.{usual_strides}
 use Rattle.station.specs.inner.Station.{station_of}
+use Rattle.month_prepared.specs.inner.View.{constituents_from}
 use Rattle.month_prepared.specs.inner.Rows.{last_of}
 use Rattle.calendar.specs.Calendar.{month_minutes}
 use Rattle.month.specs.Month.{month_of}
@@ -25,8 +29,10 @@ use Rattle.turns.specs.inner.Search.{Reaches}
 use Rattle.station.specs.declared.Station as declared_station
 use Rattle.calls.specs.declared.annual.Sheet.{Sheet}
 use Rattle.calls.specs.Year.{sheet_over, year_gives}
+use Rattle.calls.specs.Bookings.{bookings_gives}
 use Rattle.calls.specs.State.{Maybe, some, Dated}
-use Rattle.calls.specs.inner.Flags.{tabled_only}
+use Rattle.calls.specs.Calls.{height_returns}
+use Rattle.calls.specs.inner.Flags.{state_of, tabled_only}
 use Rattle.clock.specs.View.{view, Sound, constituents_in}
 use Rattle.clock.specs.declared.Clock.{Clock}
 
@@ -50,9 +56,22 @@ pub record PreparedPost (c : Clock) (year month : ℕ) (answer : Result (Unit {0
     month = some (record { year = year; month = month; prepared = record { last = month_minutes year month; constituents = constituents } });
   }) (view c)
 
+-- what a height and bookings ask of the parts of a clock that has a table
+abbrev pub PartsMade : Bool → List ℕ → ℕ → ℕ → Type 0
+PartsMade tabled cosines count last = tabled ≡ true → IsTable cosines × ((count ≤ most_records) × (last ≤ most_minutes))
+
+-- a height from the parts of a clock, whatever table, station and date it has
+pub record HeightFrom (tabled stationed dated : Bool) (last count : ℕ) (arguments lags frequencies : List ℕ) (ps qs : List ℤ) (minute : ℕ) (returned : Outcome ℤ) : Type 0 where
+  pub returns : (t : Table) (s : Station) (year month : ℕ) → returned ≡ height_returns (state_of tabled t stationed s dated (record { year = year; month = month; prepared = record { last = last; constituents = constituents_from arguments lags frequencies ps qs count } })) minute
+
+-- bookings from the parts of a clock, whatever table, station and date it has
+pub record BookingsFrom (tabled stationed dated : Bool) (last count : ℕ) (arguments lags frequencies : List ℕ) (ps qs : List ℤ) (minutes : List ℕ) (heights left : List ℤ) (returned : Outcome Unit) : Type 0 where
+  pub gives : (t : Table) (s : Station) (year month : ℕ) → record { returned = returned; heights = left }
+      ≡ bookings_gives (state_of tabled t stationed s dated (record { year = year; month = month; prepared = record { last = last; constituents = constituents_from arguments lags frequencies ps qs count } })) minutes heights
+
 -- the constituents of a clock's month, as they are lent
 pub record LentBy (c : Clock) (l : Lent) : Type 0 where
-  pub lent : Sound c → IsLent l
+  pub lent : PartsMade c.tabled c.cosines c.count c.last → c.tabled ≡ true → IsLent l
   pub constituents : constituents_lent l ≡ constituents_in c
 
 -- its month, as the single one of months that follow one another

@@ -27,9 +27,9 @@ named {x} {a} {b} {A} k e = record { is = k.is ∙ e; size = rw e at k.size }
 pub pair-product : (a b : ℤ) → nat_abs a ≤ 2 ^ 22 → nat_abs b ≤ 2 ^ 22 → Known (held a *ℤ held b) (a *ℤ b) (2 ^ 44)
 pair-product a b h k = times (read a h (lit< tt)) (read b k (lit< tt))
 
--- the size of a number of another width, by way of 64 bits
-pub size-through : (w : Width) (n z : ℤ) (k : ℕ) {A : ℕ} → A < 2 ^ 63 → SFits w n → (z ≡ to_z w (of_z w n)) × (nat_abs z ≤ A) → k ≡ nat_abs (held z) → k ≡ nat_abs n
-size-through w n z k l f e d = d ∙ ap nat_abs ((read z e.1 l).is ∙ e.0 ∙ to_z-of_z w n f)
+-- the size of a number of another width, widened to 64 bits
+pub size-widened : (w : Width) (n : ℤ) (k : ℕ) {A : ℕ} → A < 2 ^ 63 → SFits w n → nat_abs n ≤ A → k ≡ nat_abs (held (to_z w (of_z w n))) → k ≡ nat_abs n
+size-widened w n k l f h e = e ∙ ap nat_abs (ap held (to_z-of_z w n f) ∙ (read n h l).is)
 
 -- what a call gave: the floor of what was known
 pub floored : {r x a : ℤ} {A : ℕ} (m n : ℕ) → r ≡ floor_div x n → Known x a A → zero < n → A ≤ m * n → Known r (floor_div a n) m

@@ -27,8 +27,9 @@ use Rattle.station.specs.inner.Rows.{put_row}
 use Rattle.station.specs.Records.{records_of}
 use Rattle.station.proofs.records.Copies.{records-length}
 use Rattle.station_file.specs.Cards.{station_card, record_fields, next_record}
-use Rattle.station_file.specs.inner.Cards.{record_gives}
-use Rattle.station_file.specs.declared.stationfields.RecordStep.{RecordStep}
+use Rattle.std.specs.Prelude.{Option, Result}
+use Rattle.card.specs.declared.faults.Fault.{Fault}
+use Rattle.card.specs.inner.Lines.{next_gives}
 use Rattle.station_file.specs.Station.{given, refused, onward, records_on, behind_card, station_lines, station_file}
 
 -- a card that gives a record had room
@@ -38,9 +39,9 @@ record-room names count line r e = had-room most_records TooManyRecords count li
 
 -- the cards from byte `at` on, after the first `count` records of the rows: the card there, or none left
 module _ (latitude : ℤ) (names : List (List ℕ)) (file : List ℕ) (at : ℕ) (rows : Rows) (count : ℕ) where
-  pub records-here : (line : List ℕ) (r : RecordStep) → at < length file → line ≡ first_line (drop at file) → record_gives r ≡ next_record names count line
+  pub records-here : (line : List ℕ) (r : Result (Option Record) Fault) → at < length file → line ≡ first_line (drop at file) → next_gives (λ r. r) r ≡ next_record names count line
       → records_on latitude names (lines_of (drop at file)) (count + 2) (records_of rows count)
-      ≡ onward (record_gives r) (count + 2) (given latitude (records_of rows count))
+      ≡ onward (next_gives (λ r. r) r) (count + 2) (given latitude (records_of rows count))
       (λ r. records_on latitude names (lines_of (rest_lines (drop at file))) (count + 1 + 2) (records_of rows count ++ (r ∷ [])))
   unfolding records_on
   records-here line r h first card =

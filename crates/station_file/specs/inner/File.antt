@@ -1,18 +1,17 @@
 -- Only inner contracts cite this: what the code's answer stands for.
 -- Assumes nothing.
-use Rattle.std.specs.Prelude.{◌≤◌, ◌≡◌, pos}
+use Rattle.std.specs.Prelude.{◌≤◌, ◌≡◌, Result, Ok, Err, IfOk}
 use Rattle.limits.specs.Limits.{most_records}
-use Rattle.refusals.specs.Outcome.{outcome_of}
 use Rattle.station.specs.Records.{records_of}
-use Rattle.station_file.specs.Station.{StationFile, given, refused, file_outcome}
+use Rattle.card.specs.declared.lines.Misread.{Misread}
+use Rattle.station_file.specs.Station.{StationFile, given, refused}
 use Rattle.station_file.specs.declared.stationfile.StationCards.{StationCards}
 
--- what a file gives is told: the first `count` records of the rows are its own; what is wrong with a refused one is told, and it leaves latitude 0
--- and no records
-abbrev pub Holds : StationFile → StationCards → Type 0
-Holds (given latitude records) s = (s.latitude ≡ latitude) × (records_of s.rows s.count ≡ records)
-Holds (refused fault line) s = (s.fault ≡ fault) × (s.latitude ≡ pos 0) × (s.count ≡ 0)
+-- the first `count` records of the rows are the file's own; what is wrong with a refused one is told
+abbrev pub file_read : Result StationCards Misread → StationFile
+file_read (Ok s) = given s.latitude (records_of s.rows s.count)
+file_read (Err e) = refused e.fault e.line
 
--- and 01's answer with it
-abbrev pub Told : StationFile → StationCards → Type 0
-Told file s = (outcome_of s.answer ≡ file_outcome file) × Holds file s × (s.count ≤ most_records)
+-- what a file gives is told
+abbrev pub Told : StationFile → Result StationCards Misread → Type 0
+Told file read = (file_read read ≡ file) × IfOk read (λ s. s.count ≤ most_records)

@@ -11,6 +11,6 @@ returns c =
     let ps : length c.args.self.now.ps ≡ most_records = search rules in
     let qs : length c.args.self.now.qs ≡ most_records = search rules in
     record {
-      lent = λ sound. record { table = sound.cosines; count = sound.count; row = record { arguments = vs; cosines = ps; sines = qs } };
+      lent = λ made tabled. record { table = (made tabled).0; count = (made tabled).1.0; row = record { arguments = vs; cosines = ps; sines = qs } };
       constituents = refl;
     }

@@ -1,10 +1,9 @@
 -- `heights::minuteangle::angle_at` meets its contract: `angle-is`. Assumes nothing.
 use Prim.Native.Nat.{ℕ, ◌*◌, ◌%◌, ◌≤◌}
-use mathlib.Core.Path.{sym, ap, ◌∙◌}
+use mathlib.Core.Path.{sym}
 use native.Mathlib.Omega.{arith}
 use native.Mathlib.Nat.{mul-le-mul}
 use Rattle.limits.specs.Limits.{most_minutes}
-use Rattle.heights.specs.Angle.{angle}
 use Rattle.heights.proofs.minuteangle.Turning.{lap, angle-is}
 use Rattle.heights.proofs.minuteangle.angle_at.Goals as goal
 
@@ -22,4 +21,4 @@ overflow_add-laps c =
 
 pub returns : goal.returns
 returns c =
-    sym (angle-is c.args.argument c.wide.result c.args.frequency c.args.minute (omega arith)) ∙ ap (λ (n : ℕ). angle c.args.argument n c.args.frequency c.args.minute) c.wide.ensures.value
+    sym (angle-is c.args.argument c.args.lag c.args.frequency c.args.minute (omega arith))

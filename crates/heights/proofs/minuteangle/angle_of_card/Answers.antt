@@ -1,10 +1,9 @@
 -- `heights::minuteangle::angle_of_card` meets its contract: `angle-of-card`. Assumes nothing.
 use Prim.Native.Nat.{ℕ, ◌*◌, ◌≤◌}
-use mathlib.Core.Path.{sym, ap, ◌∙◌}
+use mathlib.Core.Path.{sym}
 use native.Mathlib.Omega.{arith}
 use native.Mathlib.Nat.{mul-le-mul}
 use Rattle.limits.specs.Limits.{most_minutes}
-use Rattle.heights.specs.Angle.{angle}
 use Rattle.heights.proofs.minuteangle.Turning.{angle-of-card}
 use Rattle.heights.proofs.minuteangle.angle_of_card.Goals as goal
 
@@ -23,4 +22,4 @@ overflow_add-result c =
 pub returns : goal.returns
 returns c =
     let more = within c.args.frequency c.args.minute c.requires.1.0 c.requires.1.1 in
-    sym (angle-of-card c.args.argument c.wide.result c.args.frequency c.args.minute _ (omega (arith, more))) ∙ ap (λ (n : ℕ). angle c.args.argument n c.args.frequency c.args.minute) c.wide.ensures.value
+    sym (angle-of-card c.args.argument c.args.lag c.args.frequency c.args.minute _ (omega (arith, more)))

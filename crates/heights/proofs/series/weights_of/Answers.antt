@@ -1,8 +1,8 @@
 -- `heights::series::weights_of` meets its contract: the places below k are right, and lists with the same places are the same.
 use borrow.Author.Rules.{rules}
-use Prim.Native.Nat.{ℕ, ◌-◌, ◌≤◌, ◌<◌}
+use Prim.Native.Nat.{◌<◌}
 use native.Mathlib.Omega.{arith}
-use mathlib.Core.Path.{◌≡◌, refl, sym, ◌∙◌}
+use mathlib.Core.Path.{refl, sym, ◌∙◌}
 use lib.IntN.{pos}
 use lib.ListN.{length, get_or, length-set}
 use lib.Seq.{ext_get_or}
@@ -10,7 +10,6 @@ use borrow.Author.Count.{below_none}
 use mir.Syntax.{w32}
 use mir.Val.{SFits, to_z, of_z}
 use mir.ValLaws.{to_z-of_z}
-use Rattle.limits.specs.Limits.{most_records}
 use Rattle.heights.proofs.series.Filling.{filled_more}
 use Rattle.heights.proofs.series.weights_of.Goals as goal
 

@@ -16,19 +16,19 @@ pub loop-j-init : goal.loop-j-init
 unfolding pair_from_parts shallow_of
 loop-j-init c =
     record {
-      same = rw (sub-zero, c.index-count.ensures.value ∙ c.entry_at.ensures);
+      same = rw (sub-zero, c.entry_at.ensures);
       sized = record { x = lit≤ tt; y = lit≤ tt };
     }
 
 pub times_row_part-requires : goal.times_row_part-requires
 times_row_part-requires c =
-    (omega (arith, c.index-count.ensures.upper_bound, c.loop-j-test.true), c.loop-j.invariant.sized)
+    (omega (arith, c.loop-j-test.true), c.loop-j.invariant.sized)
 
 pub returns-in_default : goal.returns-in_default
 returns-in_default c =
     record {
       result_value = parts_next (pairs_of c.args.kept.now) (part_of (naturals 6 c.args.table.now.shallowcards c.args.k) (integers 4 c.args.table.now.coefficients c.args.k))
-          c.loop-j.j c.index-count.result (pair_of c.loop-j.p) (bad 11) c.loop-j-test.true (sym (ap corrected_of c.in_default.is) ∙ c.times_row_part.ensures.result_value) ∙ c.loop-j.invariant.same;
+          c.loop-j.j c.entry_at.result.now (pair_of c.loop-j.p) (bad 11) c.loop-j-test.true (sym (ap corrected_of c.in_default.is) ∙ c.times_row_part.ensures.result_value) ∙ c.loop-j.invariant.same;
       small = tt;
     }
 
@@ -36,13 +36,13 @@ pub loop-j-preserved : goal.loop-j-preserved
 loop-j-preserved c =
     record {
       same = parts_next (pairs_of c.args.kept.now) (part_of (naturals 6 c.args.table.now.shallowcards c.args.k) (integers 4 c.args.table.now.coefficients c.args.k))
-          c.loop-j.j c.index-count.result (pair_of c.loop-j.p) (good (pair_of c.in-Some.q)) c.loop-j-test.true c.in-Some.ensures.result_value ∙ c.loop-j.invariant.same;
+          c.loop-j.j c.entry_at.result.now (pair_of c.loop-j.p) (good (pair_of c.in-Some.q)) c.loop-j-test.true c.in-Some.ensures.result_value ∙ c.loop-j.invariant.same;
       sized = c.in-Some.ensures.small;
     }
 
 pub returns : goal.returns
 returns c =
     record {
-      result_value = parts_none (pairs_of c.args.kept.now) (part_of (naturals 6 c.args.table.now.shallowcards c.args.k) (integers 4 c.args.table.now.coefficients c.args.k)) c.loop-j.j c.index-count.result (pair_of c.loop-j.p) c.loop-j-test.false ∙ c.loop-j.invariant.same;
+      result_value = parts_none (pairs_of c.args.kept.now) (part_of (naturals 6 c.args.table.now.shallowcards c.args.k) (integers 4 c.args.table.now.coefficients c.args.k)) c.loop-j.j c.entry_at.result.now (pair_of c.loop-j.p) c.loop-j-test.false ∙ c.loop-j.invariant.same;
       small = c.loop-j.invariant.sized;
     }

@@ -27,7 +27,7 @@ part-is mains P c m z i card numbers j ec em ei ez = rw (ec, em, ei, ez)
 pub returns : goal.returns
 returns c =
     let f : SFits w8 c.entry_at-2.result.now = search rules in record {
-      result_value = part-is (pairs_of c.args.kept.now) (pair_of c.args.p) _ _ _ c.index-main.result (naturals 6 c.args.table.now.shallowcards c.args.k) (integers 4 c.args.table.now.coefficients c.args.k) c.args.j
-          c.times_part.ensures.result_value c.pair_at.ensures.result_value (c.index-main.ensures.value ∙ c.entry_at.ensures) (to_z-of_z w8 c.entry_at-2.result.now f ∙ c.entry_at-2.ensures);
+      result_value = part-is (pairs_of c.args.kept.now) (pair_of c.args.p) _ _ _ c.entry_at.result.now (naturals 6 c.args.table.now.shallowcards c.args.k) (integers 4 c.args.table.now.coefficients c.args.k) c.args.j
+          c.times_part.ensures.result_value c.pair_at.ensures.result_value c.entry_at.ensures (to_z-of_z w8 c.entry_at-2.result.now f ∙ c.entry_at-2.ensures);
       small = c.times_part.ensures.small_2;
     }

@@ -1,8 +1,9 @@
 -- `month_pairs::pairs::times_part` meets its contract: the part's pair, turned, as often as the coefficient's size.
 use mathlib.Core.Path.{sym, ◌∙◌, ap, ap₂, subst}
-use Prim.Native.Nat.{ℕ}
+use borrow.Author.Rules.{rules}
+use Prim.Native.Nat.{ℕ, ◌^◌, ◌≤◌}
 use lib.Dec.{lit<}
-use lib.IntN.{ℤ}
+use lib.IntN.{ℤ, nat_abs}
 use mir.Syntax.{w8}
 use mir.ValLaws.{to_z-of_z}
 use Rattle.month_satellites.specs.Satellites.{Pair}
@@ -10,7 +11,7 @@ use Rattle.month_pairs.specs.Pairs.{times_often, turned, times_main}
 use Rattle.month_pairs.specs.inner.Ranges.{Small}
 use Rattle.month_satellites.specs.inner.View.{pair_of}
 use Rattle.month_pairs.specs.inner.Corrected.{corrected_of}
-use Rattle.month_satellites.proofs.latitude.Sizes.{size-through}
+use Rattle.month_satellites.proofs.latitude.Sizes.{size-widened}
 use Rattle.month_pairs.proofs.pairs.times_part.Goals as goal
 
 pub turn-requires : goal.turn-requires
@@ -28,7 +29,8 @@ pub returns : goal.returns
 returns c =
     let P = pair_of c.args.p in
     let here = to_z-of_z w8 c.args.coefficient c.ranges.coefficient in
-    let often = size-through w8 c.args.coefficient c.widened.result c.size.result (lit< tt) c.ranges.coefficient (c.widened.ensures.value, c.widened.ensures.result_bound) c.size.ensures in
+    let h : nat_abs c.args.coefficient ≤ 2 ^ 7 = search rules in
+    let often = size-widened w8 c.args.coefficient c.size.result (lit< tt) c.ranges.coefficient h c.size.ensures in
     let by = c.turn.ensures.result_value ∙ ap (λ (z : ℤ). turned z (pair_of c.in-Some.q)) here in record {
       result_value = c.times_often.ensures.result_value ∙ ap₂ (λ (k : ℕ) (p : Pair). times_often k P p) often by
           ∙ sym (ap (λ m. times_main P (corrected_of m) c.args.coefficient) c.in-Some.is);

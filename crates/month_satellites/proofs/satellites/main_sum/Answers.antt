@@ -1,5 +1,5 @@
 -- `month_satellites::satellites::main_sum` meets its contract. The invariant is a running sum for X and one for Y (`Running`); what is left of the satellites falls.
-use mathlib.Core.Path.{◌≡◌, ◌∙◌, ap}
+use mathlib.Core.Path.{◌≡◌, refl, ◌∙◌, ap}
 use mathlib.Core.List.{List}
 use Prim.Native.Nat.{ℕ, ◌+◌, ◌-◌, ◌^◌}
 use native.Mathlib.Omega.{arith}
@@ -50,8 +50,8 @@ loop-k-preserved c = record {
 pub returns : goal.returns
 returns c =
     record {
-      result_value = pair_is (factors_of c.args.g) (longitudes_of c.args.l) (satellite_of c.args.table.now.satelliteangles c.args.table.now.satelliteratios) (to_z w64 c.loop-k.x-bits) (to_z w64 c.loop-k.y-bits) c.index-start.result c.index.result c.args.first c.args.count
-          (done _ _ _ _ _ c.loop-k.k (to_z w64 c.loop-k.x-bits) c.loop-k-test.false c.loop-k.invariant.x) (done _ _ _ _ _ c.loop-k.k (to_z w64 c.loop-k.y-bits) c.loop-k-test.false c.loop-k.invariant.y) c.index-start.ensures.value c.index.ensures.value;
+      result_value = pair_is (factors_of c.args.g) (longitudes_of c.args.l) (satellite_of c.args.table.now.satelliteangles c.args.table.now.satelliteratios) (to_z w64 c.loop-k.x-bits) (to_z w64 c.loop-k.y-bits) c.args.first c.args.count c.args.first c.args.count
+          (done _ _ _ _ _ c.loop-k.k (to_z w64 c.loop-k.x-bits) c.loop-k-test.false c.loop-k.invariant.x) (done _ _ _ _ _ c.loop-k.k (to_z w64 c.loop-k.y-bits) c.loop-k-test.false c.loop-k.invariant.y) refl refl;
       sized = record {
         x = le_trans (room _ _ _ _ _ c.loop-k.k (to_z w64 c.loop-k.x-bits) (omega arith) (omega arith) c.loop-k.invariant.x) (lit≤ tt);
         y = le_trans (room _ _ _ _ _ c.loop-k.k (to_z w64 c.loop-k.y-bits) (omega arith) (omega arith) c.loop-k.invariant.y) (lit≤ tt);

@@ -1,5 +1,4 @@
 -- `month_workings::workings::work_parts` meets its contract. The invariant: the mains of the parts so far are worked out.
-use mathlib.Core.Path.{◌∙◌}
 use native.Mathlib.Nat.{not-suc-le-zero}
 use native.Mathlib.Omega.{arith}
 use Rattle.table.specs.inner.View.{naturals}
@@ -20,13 +19,13 @@ work_main-requires c =
 
 pub loop-j-preserved : goal.loop-j-preserved
 loop-j-preserved c =
-    let main = c.index-main.ensures.value ∙ c.entry_at-in-loop-j.ensures in
+    let main = c.entry_at-in-loop-j.ensures in
     record {
       kept = c.work_main.ensures.kept;
-      has = one-part-more _ _ c.index-main.result c.loop-j.kept _ (naturals 6 c.args.table.now.shallowcards c.args.row) c.loop-j.j main c.loop-j.invariant.has c.work_main.ensures;
+      has = one-part-more _ _ c.entry_at-in-loop-j.result.now c.loop-j.kept _ (naturals 6 c.args.table.now.shallowcards c.args.row) c.loop-j.j main c.loop-j.invariant.has c.work_main.ensures;
     }
 
 pub returns : goal.returns
 returns c =
-    let count = c.index-count.ensures.value ∙ c.entry_at.ensures in
+    let count = c.entry_at.ensures in
     record { kept = c.loop-j.invariant.kept; has = λ j h. c.loop-j.invariant.has j (omega (arith, h, count, c.loop-j-test.false)) }

@@ -2,6 +2,7 @@
 use borrow.Author.Rules.{rules}
 use mathlib.Core.Path.{refl, sym}
 use Prim.Native.Nat.{◌≤◌, ◌<◌}
+use Rattle.std.proofs.lemmas.Result.{err_from_is_err_and}
 use Rattle.card.proofs.places.Defined.{place-within}
 use Rattle.station_file.specs.Cards.{record_fields}
 use Rattle.station_file.proofs.stationfields.record_fields.Goals as goal
@@ -10,41 +11,43 @@ pub natural_field-requires : goal.natural_field-requires
 natural_field-requires c =
     rw c.amplitude.ensures refl
 
-pub natural_field-requires-in-Value : goal.natural_field-requires-in-Value
-natural_field-requires-in-Value c =
+pub natural_field-requires-2 : goal.natural_field-requires-2
+natural_field-requires-2 c =
     rw c.phase_lag.ensures refl
 
 pub overflow_cast-result : goal.overflow_cast-result
 overflow_cast-result c =
-    let h : c.in-At.place < c.args.frequencies = place-within _ c.args.names.now c.args.frequencies _ (sym (rw c.in-At.is at c.find_name.ensures)) in
+    let h : c.in-Some.place < c.args.frequencies = place-within _ c.args.names.now c.args.frequencies _ (sym c.in-Some.ensures) in
     search rules
 
-pub overflow_cast-result-in-Value-natural_field : goal.overflow_cast-result-in-Value-natural_field
-overflow_cast-result-in-Value-natural_field c =
-    let h : c.in-Value.amplitude ≤ 4_294_967_295 = rw (c.in-Value.is, c.amplitude.ensures) at c.natural_field.ensures.natural_within in
+pub overflow_cast-result-2 : goal.overflow_cast-result-2
+overflow_cast-result-2 c =
+    let h : c.in_ok-amplitude.amplitude ≤ 4_294_967_295 = rw c.amplitude.ensures at c.in_ok-amplitude.ensures.natural_within in
     search rules
 
-pub overflow_cast-result-in-Value-natural_field-2 : goal.overflow_cast-result-in-Value-natural_field-2
-overflow_cast-result-in-Value-natural_field-2 c =
-    let h : c.in-Value-natural_field.phase ≤ 4_294_967_295 = rw (c.in-Value-natural_field.is, c.phase_lag.ensures) at c.natural_field-in-Value.ensures.natural_within in
+pub overflow_cast-result-3 : goal.overflow_cast-result-3
+overflow_cast-result-3 c =
+    let h : c.in_ok-phase.phase ≤ 4_294_967_295 = rw c.phase_lag.ensures at c.in_ok-phase.ensures.natural_within in
     search rules
 
-pub returns-in-Value-natural_field : goal.returns-in-Value-natural_field
+pub returns-in_default : goal.returns-in_default
 unfolding record_fields
-returns-in-Value-natural_field c =
-    rw (← c.name_part-name.ensures.result_value_2, ← c.find_name.ensures, c.in-At.is, ← (rw c.amplitude.ensures at c.natural_field.ensures.result_value), c.in-Value.is, ← (rw c.phase_lag.ensures at c.natural_field-in-Value.ensures.result_value), c.in-Value-natural_field.is)
+returns-in_default c =
+    rw (c.only.ensures, ← c.name_part-name.ensures.result_value_2, ← c.find_name.ensures, c.in_default.is) refl
 
-pub returns-in-Bad-natural_field : goal.returns-in-Bad-natural_field
+pub returns-in_err-amplitude : goal.returns-in_err-amplitude
 unfolding record_fields
-returns-in-Bad-natural_field c =
-    rw (← c.name_part-name.ensures.result_value_2, ← c.find_name.ensures, c.in-At.is, ← (rw c.amplitude.ensures at c.natural_field.ensures.result_value), c.in-Value.is, ← (rw c.phase_lag.ensures at c.natural_field-in-Value.ensures.result_value), c.in-Bad-natural_field.is)
+returns-in_err-amplitude c =
+    let p = err_from_is_err_and c.from_residual.result c.from_residual.ensures.1 in
+    rw (p.1, p.2, ← c.name_part-name.ensures.result_value_2, ← c.in-Some.ensures, ← (rw c.amplitude.ensures at c.in_err-amplitude.ensures.result_value))
 
-pub returns-in-Bad : goal.returns-in-Bad
+pub returns-in_err-phase : goal.returns-in_err-phase
 unfolding record_fields
-returns-in-Bad c =
-    rw (← c.name_part-name.ensures.result_value_2, ← c.find_name.ensures, c.in-At.is, ← (rw c.amplitude.ensures at c.natural_field.ensures.result_value), c.in-Bad.is)
+returns-in_err-phase c =
+    let p = err_from_is_err_and c.from_residual-in_err-phase.result c.from_residual-in_err-phase.ensures.1 in
+    rw (p.1, p.2, ← c.name_part-name.ensures.result_value_2, ← c.in-Some.ensures, ← (rw c.amplitude.ensures at c.in_ok-amplitude.ensures.result_value), ← (rw c.phase_lag.ensures at c.in_err-phase.ensures.result_value))
 
-pub returns-in-Nothing : goal.returns-in-Nothing
+pub returns : goal.returns
 unfolding record_fields
-returns-in-Nothing c =
-    rw (c.only.ensures, ← c.name_part-name.ensures.result_value_2, ← c.find_name.ensures, c.in-Nothing.is) refl
+returns c =
+    rw (← c.name_part-name.ensures.result_value_2, ← c.in-Some.ensures, ← (rw c.amplitude.ensures at c.in_ok-amplitude.ensures.result_value), ← (rw c.phase_lag.ensures at c.in_ok-phase.ensures.result_value))

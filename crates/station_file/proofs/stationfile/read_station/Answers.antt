@@ -19,13 +19,13 @@ pub read_records-requires : goal.read_records-requires
 read_records-requires c =
     c.next_line.ensures.1
 
-pub returns-in-At : goal.returns-in-At
-returns-in-At c =
-    let fits : SFits w32 c.in-At.latitude = search rules in
+pub returns-in-Ok : goal.returns-in-Ok
+returns-in-Ok c =
+    let fits : SFits w32 c.in-Ok.latitude = search rules in
     let some : 0 < length c.args.file.now = omega arith in
-    rw (file-here (names_from c.args.names.now 0 (min c.args.frequencies most_frequencies)) c.args.file.now some, ← c.next_line.ensures.2, ← c.first_line.ensures, ← c.station_card.ensures, c.in-At.is) (rw (to_z-of_z w32 c.in-At.latitude fits) at c.read_records.ensures)
+    rw (file-here (names_from c.args.names.now 0 (min c.args.frequencies most_frequencies)) c.args.file.now some, ← c.next_line.ensures.2, ← c.first_line.ensures, ← c.station_card.ensures, c.in-Ok.is) (rw (to_z-of_z w32 c.in-Ok.latitude fits) at c.read_records.ensures)
 
-pub returns-in-Bad : goal.returns-in-Bad
-returns-in-Bad c =
+pub returns-in-Err : goal.returns-in-Err
+returns-in-Err c =
     let some : 0 < length c.args.file.now = omega arith in
-    rw (file-here (names_from c.args.names.now 0 (min c.args.frequencies most_frequencies)) c.args.file.now some, ← c.first_line.ensures, ← c.station_card.ensures, c.in-Bad.is) c.refused-in-Bad.ensures
+    rw (file-here (names_from c.args.names.now 0 (min c.args.frequencies most_frequencies)) c.args.file.now some, ← c.first_line.ensures, ← c.station_card.ensures, c.in-Err.is) c.refused-in-Err.ensures
