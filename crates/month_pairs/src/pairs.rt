@@ -92,8 +92,8 @@ pub fn times_part(p: Pair, main: Option<Pair>, coefficient: i8) -> Option<Pair>
     ensures small_2 { Small result }
 {
     // (no `?`: it calls std's code, which `has-the-clock` of claim_runs can't have)
-    let Some(q) = main else {
-        return None;
-    };
-    times_often(p, turn(coefficient, q), size(coefficient as i64))
+    match main {
+        Some(q) => times_often(p, turn(coefficient, q), size(coefficient as i64)),
+        None => None,
+    }
 }

@@ -18,15 +18,15 @@ pub turn-requires : goal.turn-requires
 turn-requires c =
     subst Small c.in-Some.is c.requires.small
 
-pub returns-in_default : goal.returns-in_default
-returns-in_default c =
+pub returns-in-None : goal.returns-in-None
+returns-in-None c =
     record {
-      result_value = sym (ap (λ m. times_main (pair_of c.args.p) (corrected_of m) c.args.coefficient) c.in_default.is);
+      result_value = sym (ap (λ m. times_main (pair_of c.args.p) (corrected_of m) c.args.coefficient) c.in-None.is);
       small_2 = tt;
     }
 
-pub returns : goal.returns
-returns c =
+pub returns-in-Some : goal.returns-in-Some
+returns-in-Some c =
     let P = pair_of c.args.p in
     let here = to_z-of_z w8 c.args.coefficient c.ranges.coefficient in
     let h : nat_abs c.args.coefficient ≤ 2 ^ 7 = search rules in
