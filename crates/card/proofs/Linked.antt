@@ -4,6 +4,7 @@ use prog.Linked.{Tree, World, Holds, in_world}
 use mathlib.Core.Bool.{true}
 use prog.LinkedThreads.{HasT}
 use Rattle.card.proofs.TheLink as link
+use Rattle.card.proofs.faults.TroubleFromFieldError.from.Symbol as faults-TroubleFromFieldError-from
 use Rattle.card.proofs.faults.bad_line.Symbol as faults-bad_line
 use Rattle.card.proofs.faults.only.Symbol as faults-only
 use Rattle.card.proofs.faults.refusal_for.Symbol as faults-refusal_for
@@ -33,6 +34,9 @@ table = link.table
 
 abbrev pub Below : World → Type 0
 Below = link.Below
+
+pub linked-faults-TroubleFromFieldError-from : (W : World) → Holds W "card" table → Below W → HasT (in_world W) true faults-TroubleFromFieldError-from.code
+linked-faults-TroubleFromFieldError-from = link.linked-card::faults::TroubleFromFieldError::from
 
 pub linked-faults-bad_line : (W : World) → Holds W "card" table → Below W → HasT (in_world W) true faults-bad_line.code
 linked-faults-bad_line = link.linked-card::faults::bad_line

@@ -147,7 +147,7 @@ card-there : Holds crates "card" card.table
 card-there = refl
 
 card-below : card.Below crates
-card-below = (columns.linked-first_line crates columns-there columns-below, (columns.linked-is_blank crates columns-there columns-below, (columns.linked-line_good crates columns-there columns-below, (columns.linked-names-find_name crates columns-there columns-below, (columns.linked-names-name_blank crates columns-there columns-below, (columns.linked-names-name_part crates columns-there columns-below, (columns.linked-rest_lines crates columns-there columns-below, (fields.linked-narrow_field crates fields-there fields-below, (fields.linked-ranged_field crates fields-there fields-below, (table.linked-at_u16 crates table-there table-below, tt))))))))))
+card-below = (columns.linked-first_line crates columns-there columns-below, (columns.linked-is_blank crates columns-there columns-below, (columns.linked-line_good crates columns-there columns-below, (columns.linked-names-find_name crates columns-there columns-below, (columns.linked-names-name_blank crates columns-there columns-below, (columns.linked-names-name_part crates columns-there columns-below, (columns.linked-rest_lines crates columns-there columns-below, (fields.linked-narrow_field crates fields-there fields-below, (fields.linked-ranged_field crates fields-there fields-below, (table.linked-at crates table-there table-below, tt))))))))))
 
 card-frequencies-there : Holds crates "card_frequencies" card_frequencies.table
 card-frequencies-there = refl
@@ -171,43 +171,43 @@ card-shallows-there : Holds crates "card_shallows" card_shallows.table
 card-shallows-there = refl
 
 card-shallows-below : card_shallows.Below crates
-card-shallows-below = (angles.linked-size crates angles-there angles-below, (card.linked-faults-only crates card-there card-below, (card.linked-field_on crates card-there card-below, (card.linked-formats-coefficient crates card-there card-below, (card.linked-formats-fault_in crates card-there card-below, (card.linked-formats-part_count crates card-there card-below, (card.linked-lines-after_line crates card-there card-below, (card.linked-lines-begins crates card-there card-below, (card.linked-lines-line_at crates card-there card-below, (card.linked-natural_field crates card-there card-below, (card.linked-places-is_among crates card-there card-below, (card.linked-places-main_named crates card-there card-below, (card.linked-places-place_named crates card-there card-below, (table.linked-put_i8 crates table-there table-below, (table.linked-put_u16 crates table-there table-below, tt)))))))))))))))
+card-shallows-below = (angles.linked-size crates angles-there angles-below, (card.linked-faults-TroubleFromFieldError-from crates card-there card-below, (card.linked-faults-only crates card-there card-below, (card.linked-field_on crates card-there card-below, (card.linked-formats-coefficient crates card-there card-below, (card.linked-formats-fault_in crates card-there card-below, (card.linked-formats-part_count crates card-there card-below, (card.linked-lines-after_line crates card-there card-below, (card.linked-lines-begins crates card-there card-below, (card.linked-lines-line_at crates card-there card-below, (card.linked-natural_field crates card-there card-below, (card.linked-places-is_among crates card-there card-below, (card.linked-places-main_named crates card-there card-below, (card.linked-places-place_named crates card-there card-below, (table.linked-put_i8 crates table-there table-below, (table.linked-put_u16 crates table-there table-below, tt))))))))))))))))
 
 card-file-there : Holds crates "card_file" card_file.table
 card-file-there = refl
 
 card-file-below : card_file.Below crates
-card-file-below = (card.linked-faults-only crates card-there card-below, (card.linked-faults-refusal_for crates card-there card-below, (card.linked-places-is_among crates card-there card-below, (card_constituents.linked-constituents-constituent_reader crates card-constituents-there card-constituents-below, (card_frequencies.linked-frequencies-read_frequencies crates card-frequencies-there card-frequencies-below, (card_frequencies.linked-longitudes-read_five crates card-frequencies-there card-frequencies-below, (card_shallows.linked-shallows-read_shallows crates card-shallows-there card-shallows-below, (refusals.linked-number_of crates refusals-there refusals-below, (table.linked-no_cards crates table-there table-below, tt)))))))))
+card-file-below = (card.linked-faults-only crates card-there card-below, (card.linked-faults-refusal_for crates card-there card-below, (card.linked-places-is_among crates card-there card-below, (card_constituents.linked-constituents-constituent_reader crates card-constituents-there card-constituents-below, (card_frequencies.linked-frequencies-read_frequencies crates card-frequencies-there card-frequencies-below, (card_frequencies.linked-longitudes-read_five crates card-frequencies-there card-frequencies-below, (card_shallows.linked-shallows-read_shallows crates card-shallows-there card-shallows-below, (refusals.linked-Refusal-at crates refusals-there refusals-below, (refusals.linked-number_of crates refusals-there refusals-below, (table.linked-no_cards crates table-there table-below, tt))))))))))
 
 station-there : Holds crates "station" station.table
 station-there = refl
 
 station-below : station.Below crates
-station-below = tt
+station-below = (refusals.linked-Refusal-at crates refusals-there refusals-below, tt)
 
 month-arguments-there : Holds crates "month_arguments" month_arguments.table
 month-arguments-there = refl
 
 month-arguments-below : month_arguments.Below crates
-month-arguments-below = (angles.linked-mod_turn crates angles-there angles-below, (angles.linked-size crates angles-there angles-below, (table.linked-entries-integer_at crates table-there table-below, (table.linked-entries-natural_at crates table-there table-below, tt))))
+month-arguments-below = (angles.linked-mod_turn crates angles-there angles-below, (angles.linked-size crates angles-there angles-below, (table.linked-entries-entry_at crates table-there table-below, tt)))
 
 month-satellites-there : Holds crates "month_satellites" month_satellites.table
 month-satellites-there = refl
 
 month-satellites-below : month_satellites.Below crates
-month-satellites-below = (angles.linked-floor_div crates angles-there angles-below, (angles.linked-mod_turn crates angles-there angles-below, (angles.linked-size crates angles-there angles-below, (cosine.linked-wave crates cosine-there cosine-below, (table.linked-at_i8 crates table-there table-below, (table.linked-at_u32 crates table-there table-below, tt))))))
+month-satellites-below = (angles.linked-floor_div crates angles-there angles-below, (angles.linked-mod_turn crates angles-there angles-below, (angles.linked-size crates angles-there angles-below, (cosine.linked-wave crates cosine-there cosine-below, (table.linked-at crates table-there table-below, tt)))))
 
 month-pairs-there : Holds crates "month_pairs" month_pairs.table
 month-pairs-there = refl
 
 month-pairs-below : month_pairs.Below crates
-month-pairs-below = (angles.linked-floor_div crates angles-there angles-below, (angles.linked-size crates angles-there angles-below, (month_satellites.linked-satellites-index crates month-satellites-there month-satellites-below, (table.linked-entries-integer_at crates table-there table-below, (table.linked-entries-natural_at crates table-there table-below, tt)))))
+month-pairs-below = (angles.linked-floor_div crates angles-there angles-below, (angles.linked-size crates angles-there angles-below, (table.linked-entries-entry_at crates table-there table-below, tt)))
 
 month-workings-there : Holds crates "month_workings" month_workings.table
 month-workings-there = refl
 
 month-workings-below : month_workings.Below crates
-month-workings-below = (month_arguments.linked-arguments-argument_at crates month-arguments-there month-arguments-below, (month_arguments.linked-arguments-main_argument crates month-arguments-there month-arguments-below, (month_arguments.linked-arguments-shallow_argument crates month-arguments-there month-arguments-below, (month_pairs.linked-nodal-pair_at crates month-pairs-there month-pairs-below, (month_pairs.linked-nodal-shallow_pair crates month-pairs-there month-pairs-below, (month_satellites.linked-satellites-index crates month-satellites-there month-satellites-below, (month_satellites.linked-satellites-main_sum crates month-satellites-there month-satellites-below, (table.linked-entries-natural_at crates table-there table-below, tt))))))))
+month-workings-below = (month_arguments.linked-arguments-argument_at crates month-arguments-there month-arguments-below, (month_arguments.linked-arguments-main_argument crates month-arguments-there month-arguments-below, (month_arguments.linked-arguments-shallow_argument crates month-arguments-there month-arguments-below, (month_pairs.linked-nodal-pair_at crates month-pairs-there month-pairs-below, (month_pairs.linked-nodal-shallow_pair crates month-pairs-there month-pairs-below, (month_satellites.linked-satellites-main_sum crates month-satellites-there month-satellites-below, (table.linked-entries-entry_at crates table-there table-below, tt)))))))
 
 month-prepared-there : Holds crates "month_prepared" month_prepared.table
 month-prepared-there = refl
@@ -219,7 +219,7 @@ month-there : Holds crates "month" month.table
 month-there = refl
 
 month-below : month.Below crates
-month-below = (angles.linked-floor_div crates angles-there angles-below, (calendar.linked-day_count crates calendar-there calendar-below, (month_arguments.linked-astronomy-longitudes_on crates month-arguments-there month-arguments-below, (month_prepared.linked-held crates month-prepared-there month-prepared-below, (month_prepared.linked-no_constituents crates month-prepared-there month-prepared-below, (month_satellites.linked-latitude-latitude_factors crates month-satellites-there month-satellites-below, (month_workings.linked-worked-from_mains crates month-workings-there month-workings-below, (month_workings.linked-worked-work_mains crates month-workings-there month-workings-below, (month_workings.linked-workings-none_kept crates month-workings-there month-workings-below, (table.linked-at_u64 crates table-there table-below, (table.linked-definitions-find crates table-there table-below, (table.linked-definitions-first_rows crates table-there table-below, tt))))))))))))
+month-below = (angles.linked-floor_div crates angles-there angles-below, (calendar.linked-day_count crates calendar-there calendar-below, (month_arguments.linked-astronomy-longitudes_on crates month-arguments-there month-arguments-below, (month_prepared.linked-held crates month-prepared-there month-prepared-below, (month_prepared.linked-no_constituents crates month-prepared-there month-prepared-below, (month_satellites.linked-latitude-latitude_factors crates month-satellites-there month-satellites-below, (month_workings.linked-worked-from_mains crates month-workings-there month-workings-below, (month_workings.linked-worked-work_mains crates month-workings-there month-workings-below, (month_workings.linked-workings-none_kept crates month-workings-there month-workings-below, (table.linked-at crates table-there table-below, (table.linked-definitions-find crates table-there table-below, (table.linked-definitions-first_rows crates table-there table-below, tt))))))))))))
 
 year-there : Holds crates "year" year.table
 year-there = refl
@@ -237,25 +237,25 @@ turns-there : Holds crates "turns" turns.table
 turns-there = refl
 
 turns-below : turns.Below crates
-turns-below = (angles.linked-size crates angles-there angles-below, (columns.linked-names-find_name crates columns-there columns-below, (cosine.linked-wave crates cosine-there cosine-below, (heights.linked-minuteangle-angle_at crates heights-there heights-below, (heights.linked-months-height crates heights-there heights-below, (heights.linked-shares-weigh crates heights-there heights-below, (month_prepared.linked-held crates month-prepared-there month-prepared-below, (month_prepared.linked-months-owner crates month-prepared-there month-prepared-below, tt))))))))
+turns-below = (angles.linked-size crates angles-there angles-below, (columns.linked-names-find_name crates columns-there columns-below, (cosine.linked-wave crates cosine-there cosine-below, (heights.linked-minuteangle-angle_at crates heights-there heights-below, (heights.linked-months-LentMonths-month crates heights-there heights-below, (heights.linked-months-height crates heights-there heights-below, (heights.linked-shares-weigh crates heights-there heights-below, (month_prepared.linked-held crates month-prepared-there month-prepared-below, (month_prepared.linked-months-owner crates month-prepared-there month-prepared-below, tt)))))))))
 
 hourly-there : Holds crates "hourly" hourly.table
 hourly-there = refl
 
 hourly-below : hourly.Below crates
-hourly-below = (angles.linked-floor_div crates angles-there angles-below, (angles.linked-size crates angles-there angles-below, tt))
+hourly-below = (angles.linked-floor_div crates angles-there angles-below, (angles.linked-size crates angles-there angles-below, (refusals.linked-Refusal-at crates refusals-there refusals-below, tt)))
 
 calls-there : Holds crates "calls" calls.table
 calls-there = refl
 
 calls-below : calls.Below crates
-calls-below = (calendar.linked-in_range crates calendar-there calendar-below, (calendar.linked-year_in_range crates calendar-there calendar-below, (calendar.linked-year_minutes crates calendar-there calendar-below, (station.linked-no_station crates station-there station-below, (station.linked-take_station crates station-there station-below, tt)))))
+calls-below = (calendar.linked-in_range crates calendar-there calendar-below, (calendar.linked-year_in_range crates calendar-there calendar-below, (calendar.linked-year_minutes crates calendar-there calendar-below, (refusals.linked-Refusal-at crates refusals-there refusals-below, (station.linked-take_station crates station-there station-below, tt)))))
 
 clock-there : Holds crates "clock" clock.table
 clock-there = refl
 
 clock-below : clock.Below crates
-clock-below = (calendar.linked-month_days crates calendar-there calendar-below, (calendar.linked-month_minutes crates calendar-there calendar-below, (calls.linked-annual-sheet_outside crates calls-there calls-below, (calls.linked-annual-year_answer crates calls-there calls-below, (calls.linked-asked-height_answer crates calls-there calls-below, (calls.linked-asked-series_answer crates calls-there calls-below, (calls.linked-asked-turns_answer crates calls-there calls-below, (calls.linked-bookings-bookings_answer crates calls-there calls-below, (calls.linked-hourcards-hourly_answer crates calls-there calls-below, (calls.linked-settings-date_answer crates calls-there calls-below, (calls.linked-settings-month_answer crates calls-there calls-below, (calls.linked-settings-station_answer crates calls-there calls-below, (card_file.linked-reader-read_cards crates card-file-there card-file-below, (cosine.linked-cosines crates cosine-there cosine-below, (heights.linked-bookings-heights_at crates heights-there heights-below, (heights.linked-height crates heights-there heights-below, (heights.linked-months-series crates heights-there heights-below, (heights.linked-series-series crates heights-there heights-below, (hourly.linked-write_cards crates hourly-there hourly-below, (month.linked-prepare crates month-there month-below, (month_prepared.linked-held crates month-prepared-there month-prepared-below, (month_prepared.linked-months-one_month crates month-prepared-there month-prepared-below, (station.linked-no_station crates station-there station-below, (station.linked-records-rows_of crates station-there station-below, (station.linked-strides-usual crates station-there station-below, (table.linked-no_cards crates table-there table-below, (turns.linked-strides-station_stride crates turns-there turns-below, (turns.linked-turns crates turns-there turns-below, (year.linked-months_of crates year-there year-below, (year.linked-prepare crates year-there year-below, tt))))))))))))))))))))))))))))))
+clock-below = (calendar.linked-month_days crates calendar-there calendar-below, (calendar.linked-month_minutes crates calendar-there calendar-below, (calls.linked-annual-sheet_outside crates calls-there calls-below, (calls.linked-annual-year_answer crates calls-there calls-below, (calls.linked-asked-height_answer crates calls-there calls-below, (calls.linked-asked-series_answer crates calls-there calls-below, (calls.linked-asked-turns_answer crates calls-there calls-below, (calls.linked-bookings-bookings_answer crates calls-there calls-below, (calls.linked-hourcards-hourly_answer crates calls-there calls-below, (calls.linked-settings-date_answer crates calls-there calls-below, (calls.linked-settings-station_answer crates calls-there calls-below, (card_file.linked-reader-read_cards crates card-file-there card-file-below, (cosine.linked-cosines crates cosine-there cosine-below, (heights.linked-bookings-heights_at crates heights-there heights-below, (heights.linked-height crates heights-there heights-below, (heights.linked-months-series crates heights-there heights-below, (heights.linked-series-series crates heights-there heights-below, (hourly.linked-write_cards crates hourly-there hourly-below, (month.linked-prepare crates month-there month-below, (month_prepared.linked-held crates month-prepared-there month-prepared-below, (month_prepared.linked-months-one_month crates month-prepared-there month-prepared-below, (refusals.linked-Refusal-at crates refusals-there refusals-below, (station.linked-no_station crates station-there station-below, (station.linked-records-rows_of crates station-there station-below, (station.linked-strides-usual crates station-there station-below, (table.linked-no_cards crates table-there table-below, (turns.linked-strides-station_stride crates turns-there turns-below, (turns.linked-turns crates turns-there turns-below, (year.linked-months_of crates year-there year-below, (year.linked-prepare crates year-there year-below, tt))))))))))))))))))))))))))))))
 
 cuvalimodo-c-there : Holds crates "cuvalimodo_c" cuvalimodo_c.table
 cuvalimodo-c-there = refl

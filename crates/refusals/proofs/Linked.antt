@@ -4,6 +4,7 @@ use prog.Linked.{Tree, World, Holds, in_world}
 use mathlib.Core.Bool.{true}
 use prog.LinkedThreads.{HasT}
 use Rattle.refusals.proofs.TheLink as link
+use Rattle.refusals.proofs.Refusal.at.Symbol as Refusal-at
 use Rattle.refusals.proofs.number_of.Symbol as number_of
 
 abbrev pub table : Tree
@@ -11,6 +12,9 @@ table = link.table
 
 abbrev pub Below : World → Type 0
 Below = link.Below
+
+pub linked-Refusal-at : (W : World) → Holds W "refusals" table → Below W → HasT (in_world W) true Refusal-at.code
+linked-Refusal-at = link.linked-refusals::Refusal::at
 
 pub linked-number_of : (W : World) → Holds W "refusals" table → Below W → HasT (in_world W) true number_of.code
 linked-number_of = link.linked-refusals::number_of
