@@ -74,6 +74,7 @@ difference_field j i = within 9 Difference (Some (j + 1)) (satellite_column j + 
 abbrev pub satellite_phase_field : ℕ → NumberField
 satellite_phase_field j = within 100 SatellitePhase (Some (j + 1)) (satellite_column j + 9) 4 (Fixed 2)
 
+-- 02, No. 2: "it never passes 20,000 ten-thousandths"
 abbrev pub ratio_field : ℕ → NumberField
 ratio_field j = up_to 20_000 Ratio (Some (j + 1)) (satellite_column j + 13) 7 (Fixed 4)
 

@@ -15,7 +15,6 @@ use crate::rows::{Here, MainRows, read_main, read_satellites};
 use card::faults::{Fault, Trouble, What, only};
 use card::lines::{Misread, Reached, after_line, line_at};
 use limits::SATELLITES_A_CARD;
-use table::Table;
 
 // The file ended here.
 fn ended(here: Here) -> Misread
@@ -59,16 +58,17 @@ fn with_more(here: Here, mains: usize, satellites: usize) -> Here
     }
 }
 
-// The constituent card here, and what follows it; or the line that is wrong. The table has the names of part 1.
+// The constituent card here, and what follows it; or the line that is wrong. The first `known` names are those of part 1.
 #[cycle(constituent_reader_satellite_reader)]
 pub fn constituent_reader(
     file: &[u8],
     here: Here,
-    table: &Table,
+    names: &[u8],
+    known: usize,
     rows: &mut MainRows,
 ) -> Result<Here, Misread>
-    requires { (here.reached.at ≤ length file.now) × (here.reached.line ≤ here.reached.at + 1) × (table.now.frequencies ≤ most_frequencies) × (here.mains ≤ most_mains) × (here.satellites ≤ most_satellites) × Stored rows.old.cards here.mains here.satellites × Room rows.old × StoredCounted rows.old here.mains here.satellites }
-    ensures mains_after { reading_gives file.now (λ r. r.reached) (λ r. mains_of rows.new r.mains) result ≡ mains_from (names_from table.now.names 0 table.now.frequencies) (lines_of (drop here.reached.at file.now)) here.reached.line (mains_of rows.old here.mains) }
+    requires { (here.reached.at ≤ length file.now) × (here.reached.line ≤ here.reached.at + 1) × (known ≤ most_frequencies) × (here.mains ≤ most_mains) × (here.satellites ≤ most_satellites) × Stored rows.old.cards here.mains here.satellites × Room rows.old × StoredCounted rows.old here.mains here.satellites }
+    ensures mains_after { reading_gives file.now (λ r. r.reached) (λ r. mains_of rows.new r.mains) result ≡ mains_from (names_from names.now 0 known) (lines_of (drop here.reached.at file.now)) here.reached.line (mains_of rows.old here.mains) }
     ensures within_file { IfOk result (λ r. WithinFile file.now r.reached × (r.mains ≤ most_mains)) }
 {
     let at = here.reached.at;
@@ -77,13 +77,13 @@ pub fn constituent_reader(
     }
     let line = line_at(file, at);
     let next = next_card(file, here, line.len());
-    match read_main(line, here, table, &mut rows.cards, &mut rows.angles) {
+    match read_main(line, here, names, known, &mut rows.cards, &mut rows.angles) {
         Ok(None) => Ok(next),
         Ok(Some(count)) => {
             if count == 0 {
-                constituent_reader(file, with_more(next, 1, 0), table, rows)
+                constituent_reader(file, with_more(next, 1, 0), names, known, rows)
             } else {
-                satellite_reader(file, next, count as usize, table, rows)
+                satellite_reader(file, next, count as usize, names, known, rows)
             }
         }
         Err(fault) => Err(refused(fault, here)),
@@ -96,11 +96,12 @@ pub fn satellite_reader(
     file: &[u8],
     here: Here,
     due: usize,
-    table: &Table,
+    names: &[u8],
+    known: usize,
     rows: &mut MainRows,
 ) -> Result<Here, Misread>
-    requires { (here.reached.at ≤ length file.now) × (here.reached.line ≤ here.reached.at + 1) × (table.now.frequencies ≤ most_frequencies) × (here.mains < most_mains) × (here.satellites + due ≤ most_satellites) × (satellites_end rows.old.cards here.mains ≡ here.satellites) × Stored rows.old.cards here.mains here.satellites × Room rows.old × StoredCounted rows.old (here.mains + 1) here.satellites }
-    ensures mains_after { reading_gives file.now (λ r. r.reached) (λ r. mains_of rows.new r.mains) result ≡ satellites_from (names_from table.now.names 0 table.now.frequencies) (lines_of (drop here.reached.at file.now)) here.reached.line (mains_of rows.old here.mains) (last_main rows.old here.mains) due }
+    requires { (here.reached.at ≤ length file.now) × (here.reached.line ≤ here.reached.at + 1) × (known ≤ most_frequencies) × (here.mains < most_mains) × (here.satellites + due ≤ most_satellites) × (satellites_end rows.old.cards here.mains ≡ here.satellites) × Stored rows.old.cards here.mains here.satellites × Room rows.old × StoredCounted rows.old (here.mains + 1) here.satellites }
+    ensures mains_after { reading_gives file.now (λ r. r.reached) (λ r. mains_of rows.new r.mains) result ≡ satellites_from (names_from names.now 0 known) (lines_of (drop here.reached.at file.now)) here.reached.line (mains_of rows.old here.mains) (last_main rows.old here.mains) due }
     ensures within_file { IfOk result (λ r. WithinFile file.now r.reached × (r.mains ≤ most_mains)) }
 {
     let at = here.reached.at;
@@ -119,10 +120,10 @@ pub fn satellite_reader(
     ) {
         Ok(()) => {
             if due <= SATELLITES_A_CARD {
-                constituent_reader(file, with_more(next, 1, due), table, rows)
+                constituent_reader(file, with_more(next, 1, due), names, known, rows)
             } else {
                 let more = with_more(next, 0, SATELLITES_A_CARD);
-                satellite_reader(file, more, due - SATELLITES_A_CARD, table, rows)
+                satellite_reader(file, more, due - SATELLITES_A_CARD, names, known, rows)
             }
         }
         Err(fault) => Err(refused(fault, here)),

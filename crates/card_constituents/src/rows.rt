@@ -12,7 +12,7 @@ use card::faults::Fault;
 use card::lines::Reached;
 use card_mains::mains::{MainRead, next_main};
 use card_mains::satellitecard::{at_most_three, satellite_card};
-use table::{MAIN_ANGLES, MAIN_CARDS, SATELLITE_ANGLES, SATELLITE_RATIOS, Table};
+use table::{MAIN_ANGLES, MAIN_CARDS, SATELLITE_ANGLES, SATELLITE_RATIOS};
 
 // Where part 3 is read, and how many mains and satellites are stored.
 #[derive(Clone, Copy)]
@@ -58,23 +58,24 @@ fn add_satellites(cards: &mut [u16; MAIN_CARDS], m: usize, more: u16)
 }
 
 // The constituent card on the line, behind the mains stored: its main's row, with no satellite yet, and how many are to come; none where it ends
-// the part. The table has the names of part 1.
+// the part. The first `known` names are those of part 1.
 pub fn read_main(
     line: &[u8],
     here: Here,
-    table: &Table,
+    names: &[u8],
+    known: usize,
     cards: &mut [u16; MAIN_CARDS],
     angles: &mut [i8; MAIN_ANGLES],
 ) -> Result<Option<u16>, Fault>
-    requires { (table.now.frequencies ≤ most_frequencies) × (here.mains ≤ most_mains) × (here.satellites ≤ most_satellites) × Stored cards.old here.mains here.satellites × MainRoom cards.old angles.old }
-    ensures main_stored { MainStored result cards.new angles.new here.mains (next_main (names_from table.now.names 0 table.now.frequencies) (places_in 3 cards.old here.mains) here.satellites line.now) }
+    requires { (known ≤ most_frequencies) × (here.mains ≤ most_mains) × (here.satellites ≤ most_satellites) × Stored cards.old here.mains here.satellites × MainRoom cards.old angles.old }
+    ensures main_stored { MainStored result cards.new angles.new here.mains (next_main (names_from names.now 0 known) (places_in 3 cards.old here.mains) here.satellites line.now) }
     ensures mains_kept { MainsKept cards.new angles.new cards.old angles.old here.mains }
     ensures begun { Begun result cards.new here.mains here.satellites × MainRoom cards.new angles.new }
 {
     let m = here.mains;
     let first = here.satellites;
     // No `?`: `has-the-clock` of claim_runs cannot have std's code.
-    match next_main(line, &table.names, table.frequencies, cards, m, first) {
+    match next_main(line, names, known, cards, m, first) {
         Ok(Some(main)) => {
             put_main(cards, angles, m, first, main);
             Ok(Some(main.count))

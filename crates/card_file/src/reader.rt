@@ -80,7 +80,7 @@ fn mains_and(file: &[u8], from: Reached, table: Table) -> Result<Parsed, Misread
         satellites: 0,
     };
     // No `?`: `has-the-clock` of claim_runs cannot have std's code.
-    match constituent_reader(file, here, &table, &mut rows) {
+    match constituent_reader(file, here, &table.names, table.frequencies, &mut rows) {
         Ok(read) => {
             let MainRows {
                 cards,

@@ -19,7 +19,7 @@ use Rattle.card_constituents.proofs.constituents.+constituent_reader_satellite_r
 pub constituent_reader-returns-then-file-at : goal.constituent_reader-returns-then-file-at
 constituent_reader-returns-then-file-at t c =
     record {
-      mains_after = rw c.ended.ensures (sym (mains-end (names_from c.args.table.now.names 0 c.args.table.now.frequencies) c.args.file.now c.args.here.reached.at c.args.here.reached.line (mains_in c.args.rows.now.cards c.args.rows.now.angles c.args.rows.now.sat c.args.rows.now.ratios c.args.here.mains) c.if-file-at.true));
+      mains_after = rw c.ended.ensures (sym (mains-end (names_from c.args.names.now 0 c.args.known) c.args.file.now c.args.here.reached.at c.args.here.reached.line (mains_in c.args.rows.now.cards c.args.rows.now.angles c.args.rows.now.sat c.args.rows.now.ratios c.args.here.mains) c.if-file-at.true));
       within_file = tt;
     }
 
@@ -63,7 +63,7 @@ constituent_reader-satellite_reader-requires t c =
 pub constituent_reader-returns-in-Ok-None : goal.constituent_reader-returns-in-Ok-None
 constituent_reader-returns-in-Ok-None t c =
     let told : c.read_main.result ≡ Ok None = rw c.in-Ok-None.field-0-is at c.in-Ok-None.is in record {
-      mains_after = rw (c.next_card-next.ensures.n_value.0, c.next_card-next.ensures.n_value.1) (sym (rw told at (mains-step (names_from c.args.table.now.names 0 c.args.table.now.frequencies) c.args.file.now c.args.here.reached.at c.next_card-next.result.reached.at c.args.here.reached.line c.line_at-line.result.now c.if-file-at.false c.line_at-line.ensures c.next_card-next.ensures.at_lt_at.2 c.args.here.mains c.args.here.satellites
+      mains_after = rw (c.next_card-next.ensures.n_value.0, c.next_card-next.ensures.n_value.1) (sym (rw told at (mains-step (names_from c.args.names.now 0 c.args.known) c.args.file.now c.args.here.reached.at c.next_card-next.result.reached.at c.args.here.reached.line c.line_at-line.result.now c.if-file-at.false c.line_at-line.ensures c.next_card-next.ensures.at_lt_at.2 c.args.here.mains c.args.here.satellites
           c.read_main.new.cards c.args.rows.now.cards c.read_main.new.angles c.args.rows.now.angles c.args.rows.now.sat c.args.rows.now.ratios c.read_main.result c.read_main.ensures.main_stored c.read_main.ensures.mains_kept c.requires.7)));
       within_file = rw (c.next_card-next.ensures.n_value.0, c.next_card-next.ensures.n_value.1) ((c.next_card-next.ensures.at_lt_at.1, omega (arith, c.requires.1, c.next_card-next.ensures.at_lt_at.0)), c.requires.3);
     }
@@ -73,7 +73,7 @@ constituent_reader-returns-then-count-eq0 t c =
     let told : c.read_main.result ≡ Ok (Some c.in-Ok-Some.count) = rw c.in-Ok-Some.field-0-is at c.in-Ok-Some.is in
     let none : c.in-Ok-Some.count ≡ 0 = rw c.in-Ok-Some.field-0-is at c.if-count-eq0.true in record {
       mains_after = c.constituent_reader.ensures.mains_after ∙ rw (c.with_more.ensures, c.next_card-next.ensures.n_value.0, c.next_card-next.ensures.n_value.1, one_more (main_of c.read_main.new.cards c.read_main.new.angles c.args.rows.now.sat c.args.rows.now.ratios) (main_of c.args.rows.now.cards c.args.rows.now.angles c.args.rows.now.sat c.args.rows.now.ratios) c.args.here.mains (c.read_main.ensures.mains_kept c.args.rows.now.sat c.args.rows.now.ratios))
-          (sym (rw (told, eq-eqb _ 0 none) at (mains-step (names_from c.args.table.now.names 0 c.args.table.now.frequencies) c.args.file.now c.args.here.reached.at c.next_card-next.result.reached.at c.args.here.reached.line c.line_at-line.result.now c.if-file-at.false c.line_at-line.ensures c.next_card-next.ensures.at_lt_at.2 c.args.here.mains c.args.here.satellites
+          (sym (rw (told, eq-eqb _ 0 none) at (mains-step (names_from c.args.names.now 0 c.args.known) c.args.file.now c.args.here.reached.at c.next_card-next.result.reached.at c.args.here.reached.line c.line_at-line.result.now c.if-file-at.false c.line_at-line.ensures c.next_card-next.ensures.at_lt_at.2 c.args.here.mains c.args.here.satellites
           c.read_main.new.cards c.args.rows.now.cards c.read_main.new.angles c.args.rows.now.angles c.args.rows.now.sat c.args.rows.now.ratios c.read_main.result c.read_main.ensures.main_stored c.read_main.ensures.mains_kept c.requires.7)));
       within_file = c.constituent_reader.ensures.within_file;
     }
@@ -82,7 +82,7 @@ pub constituent_reader-returns-else-count-eq0 : goal.constituent_reader-returns-
 constituent_reader-returns-else-count-eq0 t c =
     let told : c.read_main.result ≡ Ok (Some c.in-Ok-Some.count) = rw c.in-Ok-Some.field-0-is at c.in-Ok-Some.is in
     let some : c.in-Ok-Some.count ≡ 0 → ⊥ = rw c.in-Ok-Some.field-0-is at c.if-count-eq0.false in record {
-      mains_after = c.satellite_reader.ensures.mains_after ∙ rw (c.in-Ok-Some.field-0-is, c.next_card-next.ensures.n_value.0, c.next_card-next.ensures.n_value.1) (sym (rw (told, ne_eqb _ 0 some) at (mains-step (names_from c.args.table.now.names 0 c.args.table.now.frequencies) c.args.file.now c.args.here.reached.at c.next_card-next.result.reached.at c.args.here.reached.line c.line_at-line.result.now c.if-file-at.false c.line_at-line.ensures c.next_card-next.ensures.at_lt_at.2 c.args.here.mains c.args.here.satellites
+      mains_after = c.satellite_reader.ensures.mains_after ∙ rw (c.in-Ok-Some.field-0-is, c.next_card-next.ensures.n_value.0, c.next_card-next.ensures.n_value.1) (sym (rw (told, ne_eqb _ 0 some) at (mains-step (names_from c.args.names.now 0 c.args.known) c.args.file.now c.args.here.reached.at c.next_card-next.result.reached.at c.args.here.reached.line c.line_at-line.result.now c.if-file-at.false c.line_at-line.ensures c.next_card-next.ensures.at_lt_at.2 c.args.here.mains c.args.here.satellites
           c.read_main.new.cards c.args.rows.now.cards c.read_main.new.angles c.args.rows.now.angles c.args.rows.now.sat c.args.rows.now.ratios c.read_main.result c.read_main.ensures.main_stored c.read_main.ensures.mains_kept c.requires.7)));
       within_file = c.satellite_reader.ensures.within_file;
     }
@@ -90,7 +90,7 @@ constituent_reader-returns-else-count-eq0 t c =
 pub constituent_reader-returns-in-Err : goal.constituent_reader-returns-in-Err
 constituent_reader-returns-in-Err t c =
     record {
-      mains_after = rw c.refused.ensures (sym (rw c.in-Err.is at (mains-step (names_from c.args.table.now.names 0 c.args.table.now.frequencies) c.args.file.now c.args.here.reached.at c.next_card-next.result.reached.at c.args.here.reached.line c.line_at-line.result.now c.if-file-at.false c.line_at-line.ensures c.next_card-next.ensures.at_lt_at.2 c.args.here.mains c.args.here.satellites
+      mains_after = rw c.refused.ensures (sym (rw c.in-Err.is at (mains-step (names_from c.args.names.now 0 c.args.known) c.args.file.now c.args.here.reached.at c.next_card-next.result.reached.at c.args.here.reached.line c.line_at-line.result.now c.if-file-at.false c.line_at-line.ensures c.next_card-next.ensures.at_lt_at.2 c.args.here.mains c.args.here.satellites
           c.read_main.new.cards c.args.rows.now.cards c.read_main.new.angles c.args.rows.now.angles c.args.rows.now.sat c.args.rows.now.ratios c.read_main.result c.read_main.ensures.main_stored c.read_main.ensures.mains_kept c.requires.7)));
       within_file = tt;
     }
@@ -98,7 +98,7 @@ constituent_reader-returns-in-Err t c =
 pub satellite_reader-returns-then-file-at : goal.satellite_reader-returns-then-file-at
 satellite_reader-returns-then-file-at t c =
     record {
-      mains_after = rw c.ended.ensures (sym (satellites-end (names_from c.args.table.now.names 0 c.args.table.now.frequencies) c.args.file.now c.args.here.reached.at c.args.here.reached.line (mains_in c.args.rows.now.cards c.args.rows.now.angles c.args.rows.now.sat c.args.rows.now.ratios c.args.here.mains)
+      mains_after = rw c.ended.ensures (sym (satellites-end (names_from c.args.names.now 0 c.args.known) c.args.file.now c.args.here.reached.at c.args.here.reached.line (mains_in c.args.rows.now.cards c.args.rows.now.angles c.args.rows.now.sat c.args.rows.now.ratios c.args.here.mains)
           (main_of c.args.rows.now.cards c.args.rows.now.angles c.args.rows.now.sat c.args.rows.now.ratios c.args.here.mains) c.args.due c.if-file-at.true));
       within_file = tt;
     }
@@ -149,7 +149,7 @@ pub satellite_reader-returns-then-due-le-SATELLITES_A_CARD : goal.satellite_read
 satellite_reader-returns-then-due-le-SATELLITES_A_CARD t c =
     let p = c.requires in record {
       mains_after = c.constituent_reader.ensures.mains_after ∙ rw (c.with_more.ensures, c.next_card-next.ensures.n_value.0, c.next_card-next.ensures.n_value.1, one_more (main_of c.read_satellites.new.cards c.args.rows.now.angles c.read_satellites.new.sat c.read_satellites.new.ratios) (main_of c.args.rows.now.cards c.args.rows.now.angles c.args.rows.now.sat c.args.rows.now.ratios) c.args.here.mains (c.read_satellites.ensures.satellites_stored c.args.rows.now.angles).1)
-          (sym (rw (c.in-Ok.is, le-leb _ satellites_a_card c.if-due-le-SATELLITES_A_CARD.true) at (satellites-step (names_from c.args.table.now.names 0 c.args.table.now.frequencies) c.args.file.now c.args.here.reached.at c.next_card-next.result.reached.at c.args.here.reached.line c.line_at-line.result.now c.if-file-at.false c.line_at-line.ensures c.next_card-next.ensures.at_lt_at.2 c.args.here.mains
+          (sym (rw (c.in-Ok.is, le-leb _ satellites_a_card c.if-due-le-SATELLITES_A_CARD.true) at (satellites-step (names_from c.args.names.now 0 c.args.known) c.args.file.now c.args.here.reached.at c.next_card-next.result.reached.at c.args.here.reached.line c.line_at-line.result.now c.if-file-at.false c.line_at-line.ensures c.next_card-next.ensures.at_lt_at.2 c.args.here.mains
           c.read_satellites.new.cards c.args.rows.now.cards c.args.rows.now.angles c.read_satellites.new.sat c.args.rows.now.sat c.read_satellites.new.ratios c.args.rows.now.ratios c.read_satellites.result c.args.due c.read_satellites.ensures.satellites_stored)));
       within_file = c.constituent_reader.ensures.within_file;
     }
@@ -157,7 +157,7 @@ satellite_reader-returns-then-due-le-SATELLITES_A_CARD t c =
 pub satellite_reader-returns-else-due-le-SATELLITES_A_CARD : goal.satellite_reader-returns-else-due-le-SATELLITES_A_CARD
 satellite_reader-returns-else-due-le-SATELLITES_A_CARD t c =
     let p = c.requires in record {
-      mains_after = c.satellite_reader.ensures.mains_after ∙ rw (c.with_more-more.ensures, c.next_card-next.ensures.n_value.0, c.next_card-next.ensures.n_value.1, add-zero c.args.here.mains) (sym (rw (c.in-Ok.is, lt-leb _ satellites_a_card c.if-due-le-SATELLITES_A_CARD.false) at (satellites-step (names_from c.args.table.now.names 0 c.args.table.now.frequencies) c.args.file.now c.args.here.reached.at c.next_card-next.result.reached.at c.args.here.reached.line c.line_at-line.result.now c.if-file-at.false c.line_at-line.ensures c.next_card-next.ensures.at_lt_at.2 c.args.here.mains
+      mains_after = c.satellite_reader.ensures.mains_after ∙ rw (c.with_more-more.ensures, c.next_card-next.ensures.n_value.0, c.next_card-next.ensures.n_value.1, add-zero c.args.here.mains) (sym (rw (c.in-Ok.is, lt-leb _ satellites_a_card c.if-due-le-SATELLITES_A_CARD.false) at (satellites-step (names_from c.args.names.now 0 c.args.known) c.args.file.now c.args.here.reached.at c.next_card-next.result.reached.at c.args.here.reached.line c.line_at-line.result.now c.if-file-at.false c.line_at-line.ensures c.next_card-next.ensures.at_lt_at.2 c.args.here.mains
           c.read_satellites.new.cards c.args.rows.now.cards c.args.rows.now.angles c.read_satellites.new.sat c.args.rows.now.sat c.read_satellites.new.ratios c.args.rows.now.ratios c.read_satellites.result c.args.due c.read_satellites.ensures.satellites_stored)));
       within_file = c.satellite_reader.ensures.within_file;
     }
@@ -165,7 +165,7 @@ satellite_reader-returns-else-due-le-SATELLITES_A_CARD t c =
 pub satellite_reader-returns-in-Err : goal.satellite_reader-returns-in-Err
 satellite_reader-returns-in-Err t c =
     record {
-      mains_after = rw c.refused.ensures (sym (rw c.in-Err.is at (satellites-step (names_from c.args.table.now.names 0 c.args.table.now.frequencies) c.args.file.now c.args.here.reached.at c.next_card-next.result.reached.at c.args.here.reached.line c.line_at-line.result.now c.if-file-at.false c.line_at-line.ensures c.next_card-next.ensures.at_lt_at.2 c.args.here.mains
+      mains_after = rw c.refused.ensures (sym (rw c.in-Err.is at (satellites-step (names_from c.args.names.now 0 c.args.known) c.args.file.now c.args.here.reached.at c.next_card-next.result.reached.at c.args.here.reached.line c.line_at-line.result.now c.if-file-at.false c.line_at-line.ensures c.next_card-next.ensures.at_lt_at.2 c.args.here.mains
           c.read_satellites.new.cards c.args.rows.now.cards c.args.rows.now.angles c.read_satellites.new.sat c.args.rows.now.sat c.read_satellites.new.ratios c.args.rows.now.ratios c.read_satellites.result c.args.due c.read_satellites.ensures.satellites_stored)));
       within_file = tt;
     }

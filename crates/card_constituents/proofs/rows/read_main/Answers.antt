@@ -17,7 +17,7 @@ use Rattle.card_constituents.proofs.rows.read_main.Goals as goal
 pub put_main-requires : goal.put_main-requires
 put_main-requires c =
     let told : c.next_main.result ≡ Ok (Some c.in-Ok-Some.main) = rw c.in-Ok-Some.field-0-is at c.in-Ok-Some.is in
-    let names = names_from c.args.table.now.names 0 c.args.table.now.frequencies in
+    let names = names_from c.args.names.now 0 c.args.known in
     ((step_room names c.args.cards.now c.args.here.mains c.args.here.satellites c.args.line.now c.next_main.result c.in-Ok-Some.main c.next_main.ensures told).0, c.requires.2)
 
 pub returns-in-Ok-Some : goal.returns-in-Ok-Some
@@ -25,7 +25,7 @@ returns-in-Ok-Some c =
     let main = c.in-Ok-Some.main in
     let m = c.args.here.mains in
     let told : c.next_main.result ≡ Ok (Some main) = rw c.in-Ok-Some.field-0-is at c.in-Ok-Some.is in
-    let names = names_from c.args.table.now.names 0 c.args.table.now.frequencies in
+    let names = names_from c.args.names.now 0 c.args.known in
     let room = step_room names c.args.cards.now m c.args.here.satellites c.args.line.now c.next_main.result main c.next_main.ensures told in
     let six : length main.doodson ≡ 6 = search rules in
     let small : SFits w8 main.phase = search rules in
