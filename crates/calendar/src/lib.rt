@@ -8,6 +8,7 @@ ghost use Rattle.calendar.specs.Calendar.{between, day_count, in_range, is_fourt
 const LENGTHS: [u32; 12] = [31, 28, 31, 30, 31, 30, 31, 31, 30, 31, 30, 31];
 
 // Whether a number is from the first of two to the second.
+// (`drawing_svg` has it for bytes: one for both would need a bound and a crate below both, for a single line, which is no plainer.)
 fn between(low: u32, high: u32, number: u32) -> bool
     ensures { result ≡ between low high number }
 {

@@ -21,6 +21,7 @@ pub struct Sheet {
 pub fn year_answer(tabled: bool, stationed: bool, year: u32) -> Answer
     ensures { outcome_of result ≡ year_by tabled stationed year }
 {
+    // No `?`: `has-the-clock` of claim_runs cannot have std's code.
     if let Err(refused) = state_answer(There {
         tabled,
         stationed,

@@ -37,6 +37,7 @@ pub fn state_answer(there: There) -> Answer
 fn minutes_answer(there: There, outside: bool) -> Answer
     ensures { outcome_of result ≡ minutes_by there.tabled there.stationed there.dated outside }
 {
+    // No `?`: `has-the-clock` of claim_runs cannot have std's code.
     if let Err(refused) = state_answer(there) {
         return Err(refused);
     }

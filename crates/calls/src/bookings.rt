@@ -31,6 +31,7 @@ fn minutes_answer(last: u64, minutes: &[u32]) -> Answer
 pub fn bookings_answer(there: There, last: u64, minutes: &[u32], places: usize) -> Answer
     ensures { outcome_of result ≡ bookings_by there.tabled there.stationed there.dated last minutes.now places }
 {
+    // No `?`: `has-the-clock` of claim_runs cannot have std's code.
     if let Err(refused) = state_answer(there) {
         return Err(refused);
     }

@@ -11,6 +11,7 @@ use refusals::{Answer, Refusal};
 pub fn hourly_answer(there: There, number: u32) -> Answer
     ensures { outcome_of result ≡ hourly_by there.tabled there.stationed there.dated number }
 {
+    // No `?`: `has-the-clock` of claim_runs cannot have std's code.
     if let Err(refused) = state_answer(there) {
         return Err(refused);
     }

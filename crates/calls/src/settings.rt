@@ -16,6 +16,7 @@ use station::strides::Strides;
 use table::Table;
 
 // What a station comes to: 21 where there is no table, else what its records come to.
+// (A flag beside the table and no Option: both lie so in the clock, which C holds, and `TakenPost` speaks of `tabled`.)
 pub fn station_answer(
     tabled: bool,
     table: Table,
@@ -26,6 +27,7 @@ pub fn station_answer(
 ) -> Result<Station, Refused>
     ensures { TakenPost tabled table (station_lent latitude strides (records_of rows n)) result }
 {
+    // No `?`: `has-the-clock` of claim_runs cannot have std's code.
     if let Err(refused) = state_answer(There {
         tabled,
         stationed: true,
@@ -40,6 +42,7 @@ pub fn station_answer(
 pub fn date_answer(tabled: bool, stationed: bool, year: u32, month: u32) -> Answer
     ensures { outcome_of result ≡ date_by tabled stationed year month }
 {
+    // No `?`: `has-the-clock` of claim_runs cannot have std's code.
     if let Err(refused) = state_answer(There {
         tabled,
         stationed,
@@ -57,6 +60,7 @@ pub fn date_answer(tabled: bool, stationed: bool, year: u32, month: u32) -> Answ
 pub fn month_answer(prepared: Result<Month, Refused>) -> Answer
     ensures { outcome_of result ≡ answered (prepared_of prepared) }
 {
+    // No `map`: `has-the-clock` of claim_runs cannot have std's code.
     match prepared {
         Ok(_) => Ok(()),
         Err(refused) => Err(refused),

@@ -42,6 +42,7 @@ pub fn fault_in(f: NumberField, trouble: Trouble) -> Fault
 }
 
 // Part 1: a frequency.
+// (A function and no constant, here and for the fields below that take no parameter: its clause ties it to `frequency_field`, and a constant has no clause.)
 pub fn frequency() -> NumberField
     ensures { result ≡ frequency_field }
 {

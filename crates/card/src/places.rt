@@ -24,6 +24,7 @@ pub fn place_named(line: &[u8], from: usize, names: &[u8], count: usize) -> Resu
     if names::name_blank(name) {
         return Err(faults::only(What::Name, Trouble::Blank));
     }
+    // No `?`, no `ok_or`: `has-the-clock` of claim_runs cannot have std's code.
     match names::find_name(name, names, count) {
         Some(place) => Ok(place as u16),
         None => Err(faults::only(What::Name, Trouble::NoFrequency)),
@@ -81,6 +82,7 @@ pub fn main_named(
     requires { (j < 4) × (frequencies ≤ most_frequencies) × (mains ≤ most_frequencies) }
     ensures { card_gives (λ p. p) result ≡ main_named j (names_from names.now 0 frequencies) (places_in 3 cards.now mains) (columns line.now (part_name j) 5) }
 {
+    // No `?`, no `ok_or`: `has-the-clock` of claim_runs cannot have std's code.
     match names::find_name(names::name_part(line, part_name(j)), names, frequencies) {
         Some(place) => main_at(j, place as u16, cards, mains),
         None => Err(not_main(j)),

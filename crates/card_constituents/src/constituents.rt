@@ -77,6 +77,7 @@ pub fn constituent_reader(
     }
     let line = line_at(file, at);
     let next = next_card(file, here, line.len());
+    // No `?`, no `map_err`: `has-the-clock` of claim_runs cannot have std's code.
     match read_main(line, here, names, known, &mut rows.cards, &mut rows.angles) {
         Ok(None) => Ok(next),
         Ok(Some(count)) => {
@@ -110,6 +111,7 @@ pub fn satellite_reader(
     }
     let line = line_at(file, at);
     let next = next_card(file, here, line.len());
+    // No `?`, no `map_err`: `has-the-clock` of claim_runs cannot have std's code.
     match read_satellites(
         line,
         here,

@@ -155,6 +155,7 @@ pub fn parse_cards(file: &[u8]) -> Result<Parsed, Misread>
 pub fn read_cards(file: &[u8]) -> Result<Table, Refused>
     ensures { outcome_of result ≡ cards_outcome file.now }
 {
+    // No `?`, no `map_err`: `has-the-clock` of claim_runs cannot have std's code.
     match parse_cards(file) {
         Ok(parsed) => Ok(parsed.table),
         Err(misread) => Err(refusal_for(misread.fault.trouble).at(misread.line)),
@@ -165,6 +166,7 @@ pub fn read_cards(file: &[u8]) -> Result<Table, Refused>
 pub fn check_of(file: &[u8]) -> Option<Fault>
     ensures { result ≡ check_of (read_cards file.now) }
 {
+    // No `err`, no `map`: `has-the-clock` of claim_runs cannot have std's code.
     match parse_cards(file) {
         Ok(_) => None,
         Err(misread) => Some(misread.fault),

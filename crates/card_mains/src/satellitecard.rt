@@ -54,6 +54,7 @@ fn satellites_on(
 }
 
 // How many satellites stand on the next card. (No `min`: `has-the-clock` of claim_runs cannot have std's code.)
+// (Nor an own `min` of two numbers: a call of it would be no plainer than the `if`.)
 pub fn at_most_three(count: usize) -> usize
     ensures { result ≡ min count satellites_a_card }
 {

@@ -34,6 +34,7 @@ pub fn coefficient_field(line: &[u8], j: usize, sizes: u64) -> Result<i8, Fault>
     ensures { card_gives (λ c. c) result ≡ coefficient_in sizes line.now j }
 {
     let f = formats::coefficient(j);
+    // No `?`, no `map_err`: `has-the-clock` of claim_runs cannot have std's code.
     match field_on(line, f) {
         Ok(hundredths) => whole_coefficient(f, hundredths, sizes),
         Err(error) => Err(fault_in(f, Trouble::from(error))),

@@ -52,7 +52,7 @@ pub fn read_shallows(file: &[u8], from: Reached, table: &Table) -> Result<Shallo
         cards: [0u16; SHALLOW_CARDS],
         coefficients: [0i8; COEFFICIENTS],
     };
-    // (It goes on by a line's length, so it is a `while`.)
+    // (No `for`: a line's end shows where the next begins, and an iterator over lines is std's code, which `has-the-clock` of claim_runs cannot have.)
     while read.reached.at < file.len() {
         let here = read.reached;
         let line = line_at(file, here.at);
@@ -60,6 +60,7 @@ pub fn read_shallows(file: &[u8], from: Reached, table: &Table) -> Result<Shallo
             at: after_line(file, here.at, line.len()),
             line: here.line + 1,
         };
+        // No `?`, no `map_err`: `has-the-clock` of claim_runs cannot have std's code.
         match next_shallow(line, table, &read) {
             Ok(Some(row)) => put_shallow(&mut read.cards, &mut read.coefficients, read.count, row),
             Ok(None) => {

@@ -3,7 +3,8 @@
 // A call takes the clock and, where it can change it, gives it back. A refused call leaves the clock and the lent buffers as they were.
 // No call asks anything of its caller but a clock that `new` or another call made.
 //
-// A refusal is handed on by `if let` or `match`: `?` calls std's code, which `has-the-clock` of claim_runs can't have.
+// A refusal is handed on by `if let` or `match`, in `load_cards`, `place_station`, `prepare_month` and `set_date` with the clock beside it: `?` calls std's code,
+// which `has-the-clock` of claim_runs can't have.
 #![tactic(auto)]
 
 ghost use Rattle.std.specs.Prelude.{◌≡◌, true};
@@ -45,6 +46,7 @@ use turns::strides::station_stride;
 use turns::{Reach, Summary};
 
 // What the clock keeps. Only the calls below make or change one; all zeros are a clock without a table.
+// (No Option for the table, the station and the month: C holds this struct in its own memory, of a fixed size, and all zeros have to be a clock.)
 #[repr(C)]
 #[derive(Clone, Copy)]
 pub struct Clock {
@@ -74,6 +76,7 @@ pub struct TableNames {
 }
 
 // What a call says, and the clock as it leaves it.
+// (No Result: a refused call hands the clock back too, of which `CardsPost`, `StationPost` and `DatePost` speak.)
 #[derive(Clone, Copy)]
 pub struct After {
     pub answer: Answer,
@@ -281,6 +284,7 @@ pub fn height_lent(lent: &Clock, minute: u32) -> Result<i64, Refused>
     requires { Made lent.now }
     ensures { HeightPost lent.now minute (height_returned result) }
 {
+    // No `?`: `has-the-clock` of claim_runs cannot have std's code.
     if let Err(refused) = asked::height_answer(lent.there(), lent.last, minute as u64) {
         return Err(refused);
     }
@@ -292,6 +296,7 @@ pub fn series(clock: Clock, start: u32, step: u32, heights: &mut [i64]) -> Answe
     requires { Made clock }
     ensures { SeriesPost clock start step heights.old heights.new (outcome_of result) }
 {
+    // No `?`: `has-the-clock` of claim_runs cannot have std's code.
     if let Err(refused) = asked::series_answer(
         clock.there(),
         clock.last,
@@ -318,6 +323,7 @@ pub fn bookings_lent(held: &Clock, minutes: &[u32], heights: &mut [i64]) -> Answ
     requires { Made held.now }
     ensures { BookingsPost held.now minutes.now heights.old heights.new (outcome_of result) }
 {
+    // No `?`: `has-the-clock` of claim_runs cannot have std's code.
     if let Err(refused) = bookings_answer(held.there(), held.last, minutes, heights.len()) {
         return Err(refused);
     }
@@ -331,6 +337,7 @@ pub fn hourly(clock: Clock, number: u32, cards: &mut [u8]) -> Result<usize, Refu
     requires { Made clock }
     ensures { HourlyPost clock number cards.old cards.new (cards_returned result) }
 {
+    // No `?`: `has-the-clock` of claim_runs cannot have std's code.
     if let Err(refused) = hourly_answer(clock.there(), number) {
         return Err(refused);
     }
@@ -349,6 +356,7 @@ pub fn turns(
     requires { Made clock }
     ensures { TurnsPost clock first last minutes.old minutes.new heights.old heights.new (turns_returned result) }
 {
+    // No `?`: `has-the-clock` of claim_runs cannot have std's code.
     if let Err(refused) = asked::turns_answer(
         clock.there(),
         clock.last,
@@ -377,6 +385,7 @@ pub fn year(
     requires { Made clock }
     ensures { YearPost clock sheet series.old series.new minutes.old minutes.new heights.old heights.new (turns_returned result) }
 {
+    // No `?`: `has-the-clock` of claim_runs cannot have std's code.
     if let Err(refused) = annual::year_answer(clock.tabled, clock.stationed, sheet.year) {
         return Err(refused);
     }

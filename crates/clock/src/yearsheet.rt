@@ -39,6 +39,7 @@ fn written(
         first: sheet.first as u64,
         last: sheet.last as u64,
     };
+    // No `?`: `has-the-clock` of claim_runs cannot have std's code.
     match turns::turns(lent, reach, minutes, heights) {
         Ok(found) => {
             heights::months::series(lent, sheet.start as u64, sheet.step as u64, series);
@@ -67,6 +68,7 @@ pub fn sheet(
     let mut arguments = [0u64; ROWS];
     let mut ps = [0i32; ROWS];
     let mut qs = [0i32; ROWS];
+    // No `?`: `has-the-clock` of claim_runs cannot have std's code.
     if let Err(refused) = year::prepare(
         cosines,
         table,

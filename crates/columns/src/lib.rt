@@ -55,6 +55,7 @@ pub fn rest_lines(file: &[u8]) -> &[u8]
 }
 
 // The byte in column k of the line; a blank past its end.
+// (`byte` of `names` has 0 for the blank. One for both would take the missing byte as a parameter in each call, which says less than two names.)
 pub fn column(line: &[u8], k: usize) -> u8
     ensures { result ≡ columns.column line.now k }
 {
@@ -71,6 +72,7 @@ pub fn run_end(line: &[u8], k: usize, end: usize, low: u8, high: u8) -> usize
             return i;
         }
     }
+    // No `max`: `has-the-clock` of claim_runs cannot have std's code.
     if k < end { end } else { k }
 }
 

@@ -30,6 +30,7 @@ fn name_at(names: &[u8], place: usize) -> &[u8]
 }
 
 // The byte at k; 0 past the end of the row.
+// (Beside `column`, which has a blank there: one for both would take the missing byte as a parameter in each call, which says less than two names.)
 fn byte(row: &[u8], k: usize) -> u8
     ensures { result ≡ get_or row.now k 0 }
 {

@@ -7,6 +7,7 @@ use crate::numbers::number;
 use station::strides::Strides;
 
 // Where the bytes of a length end that begins at a byte: a comma is below each of them.
+// (It and `word_end` of `row` are one call of `columns::run_end` each, for a definition each: one for both would be that call again.)
 #[tactic(auto, using(crate::proofs::Words::row_from), unfolding(crate::specs::Lengths::length_end))]
 fn length_end(word: &[u8], at: usize) -> usize
     ensures { result ≡ length_end word.now at }

@@ -28,6 +28,7 @@ pub fn default_byte(k: usize) -> u8
 }
 
 // Where the word ends that begins at a byte, or the row where nothing ends it.
+// (It and `length_end` of `lengths` are one call of `columns::run_end` each, for a definition each: one for both would be that call again.)
 #[tactic(auto, using(crate::proofs::Words::row_from), unfolding(crate::specs::Words::word_at))]
 fn word_end(words: &[u8], at: usize) -> usize
     ensures { result ≡ at + length (word_at words.now at) }

@@ -10,6 +10,7 @@ fn put_defaults(words: &mut [u8]) {
 }
 
 // Puts argument i at a place of the row, ended by the 0 that stands behind it; gives the next place, or the row's end where it has no room.
+// (No Option for the row's end: the next argument has no room there either, so that one comparison serves both.)
 fn put_argument(rt: &impl Env, words: &mut [u8], at: usize, i: usize) -> usize {
     let length = words.len();
     if length <= at {

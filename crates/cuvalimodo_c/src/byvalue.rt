@@ -15,6 +15,7 @@ use station::records::Rows;
 use station::strides::Strides;
 
 // What a call says, and the clock as it leaves it.
+// (No Result: a refused call leaves a clock too, of which `CardsPost`, `StationPost` and `DatePost` speak.)
 #[derive(Clone, Copy)]
 pub struct Left {
     pub verdict: Verdict,

@@ -43,6 +43,7 @@ fn put_lines(rt: &impl Print, page: &mut Page, file: &[u8], heights: &[i64]) -> 
     let width = reading::longest_line(file);
     let mut rest = file;
     let mut left = heights.iter();
+    // (No `for`: a line's end shows where the next begins, and `split` at the LFs would give one line more behind the last LF, which `lines_of` does not have.)
     while !rest.is_empty() {
         let line = without_return(columns::first_line(rest));
         put_line(rt, page, line, width, left.next().copied().unwrap_or(0))?;

@@ -26,6 +26,7 @@ fn fill_minutes(file: &[u8], minutes: &mut [u32]) -> Result<usize, NoBooking>
 {
     let mut rest = file;
     let mut count = 0;
+    // (No `for`: a line's end shows where the next begins, and `split` at the LFs would give one line more behind the last LF, which `lines_of` does not have.)
     while !rest.is_empty() {
         let Some(minute) = booking_of(without_return(columns::first_line(rest))) else {
             return Err(NoBooking { line: count + 1 });
@@ -56,6 +57,7 @@ pub fn longest_line(file: &[u8]) -> usize
 {
     let mut longest = 0;
     let mut rest = file;
+    // (No `for`: a line's end shows where the next begins, and `split` at the LFs would give one line more behind the last LF, which `lines_of` does not have.)
     while !rest.is_empty() {
         longest = longest.max(without_return(columns::first_line(rest)).len());
         rest = columns::rest_lines(rest);

@@ -105,7 +105,7 @@ pub fn four_decimals(size: u64) -> [u8; 5]
     ]
 }
 
-// The minute at a place of a row; 0 past its end. (It and `height_at` are one call of the library at two types.)
+// The minute at a place of a row; 0 past its end. (It and `height_at` are one call of the library at two types: one for both would take the zero as a parameter in each call, which is no plainer.)
 pub fn minute_at(minutes: &[u32], i: usize) -> u32
     ensures { result ≡ get_or minutes.now i 0 }
 {

@@ -99,6 +99,7 @@ fn write_month(
 }
 
 // Says that the clock refused the month's turns.
+// (A view of `views` says the same: it is one call of `messages::refused_turns`, which is the function for both.)
 fn say_turns(rt: HostRuntime, date: Date, refused: Refused) -> io::Result<()> {
     messages::refused_turns(rt, b"month", date.month as u64, TURNS, refused.refusal)
 }

@@ -122,6 +122,7 @@ fn put_numbers(rt: &impl Print, page: &mut Page, plot: Plot, minutes: Minutes) -
 }
 
 // Puts the hours of a day under its frame, every second one.
+// (It and `put_days` are one call of `put_numbers` each, which is the function for both: they name its minutes.)
 pub fn put_hours(rt: &impl Print, page: &mut Page, plot: Plot) -> io::Result<()> {
     let hours = Minutes {
         first: 0,

@@ -6,6 +6,7 @@ ghost use Rattle.drawing_svg.specs.Utf8.{is_from, size_from, second_low, second_
 ghost use Rattle.drawing_svg.specs.Escapes.{shown_as, written_of};
 
 // Whether a byte is from one to another.
+// (`calendar` has it for numbers, as `between`: one for both would need a bound and a crate below both, for a single line, which is no plainer.)
 #[tactic(auto, unfolding(crate::specs::Utf8::is_from))]
 fn is_from(low: u8, high: u8, byte: u8) -> bool
     ensures { result ≡ is_from low high byte }
@@ -14,6 +15,7 @@ fn is_from(low: u8, high: u8, byte: u8) -> bool
 }
 
 // How many bytes a character of UTF-8 has that begins with a byte; 0 where it is ASCII or no character begins so.
+// (No Option: a count, as the definition `size_from` has it.)
 #[tactic(auto, unfolding(crate::specs::Utf8::size_from, crate::specs::Utf8::is_from))]
 fn sequence_size(byte: u8) -> usize
     ensures { result ≡ size_from byte }
@@ -27,6 +29,7 @@ fn sequence_size(byte: u8) -> usize
 }
 
 // The least second byte after a first.
+// (It and `second_high` follow a definition of specs/Utf8 each. One for both would take two first bytes and three bounds as parameters, which is no plainer.)
 #[tactic(auto, unfolding(crate::specs::Utf8::second_low))]
 fn second_low(first: u8) -> u8
     ensures { result ≡ second_low first }
@@ -51,6 +54,7 @@ fn second_high(first: u8) -> u8
 }
 
 // The byte at a place; 0 past the end.
+// (`columns` has the same line, in `names`: this crate stands on `output` alone, and one line is no reason to stand on another.)
 fn byte_at(text: &[u8], i: usize) -> u8
     ensures { result ≡ get_or text.now i 0 }
 {

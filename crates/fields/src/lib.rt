@@ -104,6 +104,7 @@ pub fn ranged_field(
     ensures { result ≡ ranged low high (contents_of format (columns line.now from width)) }
 {
     let written = written_in(line, from, width, format);
+    // No `?`, no `ok_or`: `has-the-clock` of claim_runs cannot have std's code.
     match written.size {
         Some(size) => ranged(written.negative, size, low, high),
         None => Err(FieldError::Malformed),

@@ -25,6 +25,7 @@ fn push(size: u64, digit: u64) -> u64
         return CAP;
     }
     let x = 10 * size + digit;
+    // No `min`: `has-the-clock` of claim_runs cannot have std's code.
     if x < CAP { x } else { CAP }
 }
 

@@ -30,6 +30,7 @@ pub struct Unread {
 }
 
 // Reads once into the buffer from `done` on; gives how many bytes came, 0 at the input's end and where the read fails.
+// (`transcript` has the same line for its window: it does not stand on this crate, and one line is no reason to.)
 fn read_behind(input: &mut impl Read, buffer: &mut [u8], done: usize) -> usize
     requires { done ≤ length buffer.old }
     ensures { done + result ≤ length buffer.new }
@@ -43,6 +44,7 @@ pub fn read_full(input: &mut impl Read, buffer: &mut [u8]) -> usize
     ensures prefix { result ≡ length (take result buffer.new) }
 {
     let mut done = 0;
+    // (No `for`: it goes on by as many bytes as a read brings, which only the read tells.)
     while done < buffer.len() {
         let n = read_behind(input, buffer, done);
         if n == 0 {

@@ -64,6 +64,7 @@ fn places_in(months: Months, own: InMonth, step: u64, left: usize) -> usize
         return left;
     }
     let places = (months.lasts[month] - own.minute - 1) as usize / step as usize + 1;
+    // No `min`: `has-the-clock` of claim_runs cannot have std's code.
     if places < left { places } else { left }
 }
 

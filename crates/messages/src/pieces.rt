@@ -30,6 +30,7 @@ static WHAT: [u8; 284] = *b"the file\n\
        phase lag";
 
 // What is at fault.
+// (It and `write_wrong` are one call of `words_of` each, which is the function for both: they name its text.)
 pub fn write_what(to: &impl Print, what: What) -> io::Result<()> {
     to.write_all(phrases::words_of(&WHAT, what))
 }

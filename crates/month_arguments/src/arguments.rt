@@ -18,6 +18,7 @@ use table::{MAIN_ANGLES, Table};
 fn below(angle: u64) -> u64
     ensures { result ≡ angle % turn }
 {
+    // (No `min`: the `if` spares the division where the angle is below a turn already.)
     if angle < TURN { angle } else { angle % TURN }
 }
 

@@ -36,6 +36,7 @@ pub fn no_constituents() -> Month
 }
 
 // How many constituents a month with this count holds.
+// (No `min`: `has-the-clock` of claim_runs cannot have std's code; and a call of an own `min` of two numbers would be no plainer than this line.)
 pub fn held(count: usize) -> usize
     ensures { result ≡ min count most_records }
 {

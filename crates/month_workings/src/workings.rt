@@ -32,6 +32,7 @@ pub struct Given {
 }
 
 // V of a main that is not worked out yet: T.
+// (No Option: V lies with two sums in a flat row of numbers, of which `none_kept` and `KeptBy` speak.)
 const NOT_YET: i64 = TURN as i64;
 
 // Room for 64 mains, none of them worked out yet.

@@ -84,6 +84,7 @@ impl Waters<'_> {
 }
 
 // Room for the minutes of a year's turns. (Each a function's result, so that its length is known as a fact.)
+// (Two, for one of any type would take its zero as a parameter, and a zero says less of what the places are for than these names.)
 pub fn minute_places() -> [u32; YEAR_TURNS]
     ensures { 6_144 ≡ length result }
 {

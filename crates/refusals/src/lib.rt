@@ -51,6 +51,7 @@ impl Refusal {
 pub type Answer = Result<(), Refused>;
 
 // The number that 01 gives a refusal.
+// (A number for a refusal: 01 gives it, C gets it, and the definition `number_of` has it.)
 pub fn number_of(r: Refusal) -> u32
     ensures { result ≡ number_of r }
 {

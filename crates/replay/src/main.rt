@@ -286,6 +286,7 @@ fn input_buffer() -> [u8; 262144]
 }
 
 // The places for minutes.
+// (It and `height_places`: one of any type would take its zero as a parameter, and a zero says less of what the places are for than these names.)
 fn minute_places() -> [u32; 65536]
     ensures { 65536 ≡ length result }
 {

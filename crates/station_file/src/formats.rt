@@ -16,6 +16,7 @@ pub const MARK: usize = 41;
 pub const SECOND_MARK: usize = 42;
 
 // The latitude's degrees.
+// (A function and no constant, as the other fields here: its clause ties it to `degrees_field`, and a constant has no clause.)
 pub fn degrees() -> NumberField
     ensures { result ≡ degrees_field }
 {

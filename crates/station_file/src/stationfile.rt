@@ -52,7 +52,7 @@ fn read_records(
     let mut rows = no_rows();
     let mut count = 0;
     let mut at = first;
-    // (It goes on by a line's length, so it is a `while`.)
+    // (No `for`: a line's end shows where the next begins, and `split` at the LFs would give one line more behind the last LF, which `lines_of` does not have.)
     while at < file.len() {
         match record_card(line_at(file, at), names, frequencies, count) {
             Ok(Some(r)) => rows = put(rows, count, r.place, r.amplitude, r.phase),

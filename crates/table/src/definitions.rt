@@ -14,6 +14,7 @@ pub enum Defined {
 }
 
 // For each place the first of so many rows that has it, or their number. (From the last row to the first, so that the first stays.)
+// (No Option at each place: `FirstRows` and `found_by` have the number of rows where there is none, so that one comparison tells.)
 pub fn first_rows(cards: &[u16], width: usize, rows: usize) -> [usize; PLACES]
     requires { (width ≤ 8) × (length cards.now ≤ 1024) }
     ensures { FirstRows (place_in width cards.now) rows result }

@@ -38,6 +38,7 @@ fn to_front(buffer: &mut [u8], from: usize, to: usize) -> usize
 }
 
 // Reads once into the buffer from `to` on; gives how many bytes came: none where the read fails.
+// (`files` has the same line: this crate does not stand on it, and one line is no reason to.)
 fn read_behind(input: &mut impl Read, buffer: &mut [u8], to: usize) -> usize
     requires { to ≤ length buffer.old }
     ensures { to + result ≤ length buffer.old }

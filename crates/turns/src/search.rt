@@ -11,6 +11,7 @@ use crate::slopes::slope;
 use heights::months::LentMonths;
 
 // How many turns were found, and whether the first is high.
+// (No Option for `high`: it is false where there is no turn, as `first_high` of 01's words has it and as C gets it.)
 #[derive(Clone, Copy)]
 pub struct Summary {
     pub count: usize,
@@ -89,6 +90,7 @@ pub fn find_turns(lent: LentMonths, reach: Reach, kept: &mut [u32]) -> Summary
     let mut next = next_turn(lent, reach, reach.first, slope(lent, reach.first));
     let high = is_high(next);
     let mut found: usize = 0;
+    // (No `for`: the next search begins where the last one ended; `successors` and `zip` are std's code, which `has-the-clock` of claim_runs cannot have.)
     while let Some(n) = next {
         if found < kept.len() {
             kept[found] = n.turn as u32;
