@@ -45,6 +45,7 @@ use turns::strides::station_stride;
 use turns::{Reach, Summary};
 
 // What the clock keeps. Only the calls below make or change one; all zeros are a clock without a table.
+// (Flags beside what they say, not Options: C holds the clock, so it is #[repr(C)] and all zeros are one.)
 #[repr(C)]
 #[derive(Clone, Copy)]
 pub struct Clock {
@@ -73,7 +74,7 @@ pub struct TableNames {
     pub bytes: [u8; NAMES],
 }
 
-// What a call says, and the clock as it leaves it.
+// What a call says, and the clock as it leaves it. (Not a Result of the clock: it is given back where the call is refused too.)
 #[derive(Clone, Copy)]
 pub struct After {
     pub answer: Answer,
