@@ -33,7 +33,7 @@ pub struct Turn {
     pub high: bool,
 }
 
-// A month's turns: how many there are, whether the first is high, and in order their minutes and their heights.
+// A month's turns: how many there are, whether the first is high, and in order their minutes and their heights. (Rows with a count: fixed memory, no heap.)
 #[derive(Clone, Copy)]
 pub struct Turns {
     pub count: usize,

@@ -6,7 +6,7 @@ use lib.Dec.{eqb}
 use lib.Pointwise.{pointwise}
 use Rattle.columns.specs.Names.{same}
 
--- the library's answer whether two words are equal is `same`
+-- the library's answer whether two words are equal is `same` (digits has it too: neither crate stands on the other, and a crate's proofs are its own)
 pub pointwise-same : (a b : List ℕ) → pointwise eqb a b ≡ same a b
 unfolding same
 pointwise-same [] [] = refl

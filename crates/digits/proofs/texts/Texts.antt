@@ -43,7 +43,7 @@ unfolding trimmed every
 trimmed-other [] b h = rw h
 trimmed-other (x ∷ l) b h = rw (every-snoc blank l b, h, and-false (every blank l), and-false (blank x), trimmed-other l b h)
 
--- the library's answer whether two texts are equal is `same`
+-- the library's answer whether two texts are equal is `same` (script has it too: neither crate stands on the other, and a crate's proofs are its own)
 pub pointwise-same : (a b : List ℕ) → pointwise eqb a b ≡ same a b
 unfolding same
 pointwise-same [] [] = refl
