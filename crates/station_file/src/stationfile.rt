@@ -55,7 +55,7 @@ fn read_records(
     // (It goes on by a line's length, so it is a `while`.)
     while at < file.len() {
         match record_card(line_at(file, at), names, frequencies, count) {
-            Ok(Some(r)) => rows = put(rows, count, r.place, r.amplitude, r.phase),
+            Ok(Some(r)) => rows = put(rows, count, r),
             Ok(None) => {
                 return Ok(StationCards {
                     latitude,
