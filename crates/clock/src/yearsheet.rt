@@ -19,7 +19,7 @@ use station::Station;
 use table::Table;
 use turns::strides::station_stride;
 use turns::{Reach, Summary};
-use year::ROWS;
+use year::{ROWS, YearRows};
 
 // The turns of the search are counted, 10; then all three buffers are written.
 fn written(
@@ -64,21 +64,14 @@ pub fn sheet(
     ensures { SheetPost table station sheet series.old series.new minutes.old minutes.new heights.old heights.new (turns_returned result) }
 {
     let months = year::months_of(sheet.year, month_prepared::held(station.count));
-    let mut frequencies = [0u64; RECORDS];
-    let mut arguments = [0u64; ROWS];
-    let mut ps = [0i32; ROWS];
-    let mut qs = [0i32; ROWS];
+    let mut rows = YearRows {
+        frequencies: [0u64; RECORDS],
+        arguments: [0u64; ROWS],
+        ps: [0i32; ROWS],
+        qs: [0i32; ROWS],
+    };
     // No `?`: `has-the-clock` of claim_runs cannot have std's code.
-    if let Err(refused) = year::prepare(
-        cosines,
-        table,
-        station,
-        sheet.year,
-        &mut frequencies,
-        &mut arguments,
-        &mut ps,
-        &mut qs,
-    ) {
+    if let Err(refused) = year::prepare(cosines, table, station, sheet.year, &mut rows) {
         return Err(refused);
     }
     if annual::sheet_outside(sheet, series.len()) {
@@ -86,11 +79,11 @@ pub fn sheet(
     }
     let lent = LentMonths {
         table: cosines,
-        arguments: &arguments,
+        arguments: &rows.arguments,
         lags: &station.lags,
-        frequencies: &frequencies,
-        ps: &ps,
-        qs: &qs,
+        frequencies: &rows.frequencies,
+        ps: &rows.ps,
+        qs: &rows.qs,
         months,
     };
     let stride = station_stride(table, station);

@@ -13,7 +13,7 @@ ghost use Rattle.station.specs.Records.{record_at, records_of};
 pub mod records; // the lent row of records, taken apart
 pub mod strides; // the stride lengths
 
-use crate::records::Rows;
+use crate::records::{Record, Rows, nth_record};
 use crate::strides::Strides;
 use limits::{AMPLITUDE, LATITUDE, PHASE, RECORDS};
 use refusals::{Answer, Refusal, Refused};
@@ -86,24 +86,24 @@ fn record_answer(frequencies: usize, rows: Rows, k: usize) -> Answer
     Ok(())
 }
 
-// The station with record k kept.
-fn with_record(station: Station, k: usize, place: u8, amplitude: u16, phase: u16) -> Station
-    requires { k < most_records }
-    ensures { result ≡ put_record station k place amplitude phase }
-{
-    let mut out = station;
-    out.places[k] = place;
-    out.amplitudes[k] = amplitude;
-    out.lags[k] = phase;
-    out.count = k + 1;
-    out
-}
-
 // The low sixteen bits, which are all of a number that is in range.
 fn narrow(x: u32) -> u16
     ensures { result ≡ x % 65_536 }
 {
     (x % 65_536) as u16
+}
+
+// The station with record k kept.
+fn with_record(station: Station, k: usize, one: Record) -> Station
+    requires { k < most_records }
+    ensures { result ≡ put_record station k one.place (one.amplitude % 65_536) (one.phase % 65_536) }
+{
+    let mut out = station;
+    out.places[k] = one.place;
+    out.amplitudes[k] = narrow(one.amplitude);
+    out.lags[k] = narrow(one.phase);
+    out.count = k + 1;
+    out
 }
 
 // The first n records: each is checked in its turn, and added to the station, which starts with none.
@@ -122,9 +122,7 @@ fn take_records(
         if let Err(refused) = record_answer(frequencies, rows, k) {
             return Err(refused);
         }
-        let amplitude = narrow(rows.amplitudes[k]);
-        let phase = narrow(rows.phases[k]);
-        station = with_record(station, k, rows.places[k], amplitude, phase);
+        station = with_record(station, k, nth_record(&rows, k));
     }
     Ok(station)
 }

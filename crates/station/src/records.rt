@@ -1,6 +1,7 @@
 // A station's records as they are lent, one for each constituent, taken apart into an array for each field.
 ghost use Rattle.std.specs.Prelude.{◌≡◌, ◌<◌, min};
 ghost use Rattle.limits.specs.Limits.{most_records};
+ghost use Rattle.station.specs.Records.{record_at};
 ghost use Rattle.station.specs.inner.Rows.{no_rows, put_row, rows_of};
 
 use limits::RECORDS;
@@ -23,15 +24,27 @@ pub struct Rows {
 }
 
 // Rows with one more record.
-pub fn put(rows: Rows, k: usize, place: u8, amplitude: u32, phase: u32) -> Rows
+pub fn put(rows: Rows, k: usize, one: Record) -> Rows
     requires { k < most_records }
-    ensures { result ≡ put_row rows k place amplitude phase }
+    ensures { result ≡ put_row rows k one.place one.amplitude one.phase }
 {
     let mut out = rows;
-    out.places[k] = place;
-    out.amplitudes[k] = amplitude;
-    out.phases[k] = phase;
+    out.places[k] = one.place;
+    out.amplitudes[k] = one.amplitude;
+    out.phases[k] = one.phase;
     out
+}
+
+// Record k of the rows.
+pub fn nth_record(rows: &Rows, k: usize) -> Record
+    requires { k < most_records }
+    ensures { result ≡ record_at rows.now k }
+{
+    Record {
+        place: rows.places[k],
+        amplitude: rows.amplitudes[k],
+        phase: rows.phases[k],
+    }
 }
 
 // No rows yet.
@@ -58,7 +71,7 @@ pub fn rows_of(rs: &[Record]) -> Rows
 {
     let mut rows = no_rows();
     for (i, r) in rs[..at_most(rs.len())].iter().enumerate() {
-        rows = put(rows, i, r.place, r.amplitude, r.phase);
+        rows = put(rows, i, *r);
     }
     rows
 }

@@ -55,7 +55,7 @@ fn read_records(
     // (No `for`: a line's end shows where the next begins, and `split` at the LFs would give one line more behind the last LF, which `lines_of` does not have.)
     while at < file.len() {
         match record_card(line_at(file, at), names, frequencies, count) {
-            Ok(Some(r)) => rows = put(rows, count, r.place, r.amplitude, r.phase),
+            Ok(Some(r)) => rows = put(rows, count, r),
             Ok(None) => {
                 return Ok(StationCards {
                     latitude,

@@ -107,7 +107,7 @@ fn with_row(rows: Rows, k: usize, one: Record) -> Rows
     if RECORDS <= k {
         return rows;
     }
-    put(rows, k, one.place, one.amplitude, one.phase)
+    put(rows, k, one)
 }
 
 // A station's lines, the first 146 as records. Where one is bad, the window begins with it.

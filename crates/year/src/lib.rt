@@ -19,6 +19,15 @@ use table::Table;
 // A row for each month, MONTHS × RECORDS places.
 pub const ROWS: usize = 1_752;
 
+// A year's rows: the frequencies, which are the same in each month, and for each month a row of its arguments and of its weights.
+#[derive(Clone, Copy)]
+pub struct YearRows {
+    pub frequencies: [u64; RECORDS],
+    pub arguments: [u64; ROWS],
+    pub ps: [i32; ROWS],
+    pub qs: [i32; ROWS],
+}
+
 // The months of a year, each with so many constituents.
 pub fn months_of(year: u32, count: usize) -> Months
     requires { count ≤ most_records }
@@ -36,24 +45,19 @@ pub fn months_of(year: u32, count: usize) -> Months
 }
 
 // Puts a month's arguments and weights into row m.
-fn put_month(
-    month: &Month,
-    m: usize,
-    arguments: &mut [u64; ROWS],
-    ps: &mut [i32; ROWS],
-    qs: &mut [i32; ROWS],
-)
-    requires { RowInto month.now.arguments m arguments.old × RowInto month.now.ps m ps.old × RowInto month.now.qs m qs.old }
-    ensures arguments { arguments.new ≡ paste arguments.old (m * most_records) month.now.arguments most_records }
-    ensures cosines { ps.new ≡ paste ps.old (m * most_records) month.now.ps most_records }
-    ensures sines { qs.new ≡ paste qs.old (m * most_records) month.now.qs most_records }
+fn put_month(month: &Month, m: usize, rows: &mut YearRows)
+    requires { RowInto month.now.arguments m rows.old.arguments × RowInto month.now.ps m rows.old.ps × RowInto month.now.qs m rows.old.qs }
+    ensures frequencies { rows.new.frequencies ≡ rows.old.frequencies }
+    ensures arguments { rows.new.arguments ≡ paste rows.old.arguments (m * most_records) month.now.arguments most_records }
+    ensures cosines { rows.new.ps ≡ paste rows.old.ps (m * most_records) month.now.ps most_records }
+    ensures sines { rows.new.qs ≡ paste rows.old.qs (m * most_records) month.now.qs most_records }
 {
     let from = m * RECORDS;
     // (no `copy_from_slice`, for the same reason as no `?` below)
     for k in 0..RECORDS {
-        arguments[from + k] = month.arguments[k];
-        ps[from + k] = month.ps[k];
-        qs[from + k] = month.qs[k];
+        rows.arguments[from + k] = month.arguments[k];
+        rows.ps[from + k] = month.ps[k];
+        rows.qs[from + k] = month.qs[k];
     }
 }
 
@@ -64,20 +68,17 @@ pub fn prepare(
     table: Table,
     station: Station,
     year: u32,
-    frequencies: &mut [u64; RECORDS],
-    arguments: &mut [u64; ROWS],
-    ps: &mut [i32; ROWS],
-    qs: &mut [i32; ROWS],
+    rows: &mut YearRows,
 ) -> Answer
-    requires { IsTable cosines.now × ((year_in_range year ≡ true) × TwelveRows arguments.old ps.old qs.old) }
-    ensures { PreparedPost table station year frequencies.new arguments.new ps.new qs.new result }
+    requires { IsTable cosines.now × ((year_in_range year ≡ true) × TwelveRows rows.old.arguments rows.old.ps rows.old.qs) }
+    ensures { PreparedPost table station year rows.new.frequencies rows.new.arguments rows.new.ps rows.new.qs result }
 {
     for m in 0..MONTHS {
         // (no `?`: it calls std's code, which `has-the-clock` of claim_runs can't have)
         match month::prepare(cosines, table, station, year, m as u32 + 1) {
             Ok(month) => {
-                *frequencies = month.frequencies;
-                put_month(&month, m, arguments, ps, qs);
+                rows.frequencies = month.frequencies;
+                put_month(&month, m, rows);
             }
             Err(refused) => return Err(refused),
         }

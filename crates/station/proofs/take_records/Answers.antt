@@ -27,7 +27,7 @@ loop-k-preserved c =
     let good : record_outcome c.args.frequencies (places_before c.args.rows.places c.loop-k.k) (c.loop-k.k + 1) (record_at c.args.rows c.loop-k.k) ≡ accepted tt = sym c.in_default.ensures in
     let fits = record-fits c.args.frequencies (places_before c.args.rows.places c.loop-k.k) (c.loop-k.k + 1) (record_at c.args.rows c.loop-k.k) good in record {
       left = rw (records-more c.args.frequencies c.args.rows c.loop-k.k c.args.n (omega arith), good) at c.loop-k.invariant.left;
-      kept = rw (c.with_record-station.ensures, c.narrow-amplitude.ensures, c.narrow-phase.ensures, narrow-is _ fits.0, narrow-is (get_or c.args.rows.phases c.loop-k.k 0) (omega arith), upto-more c.args.empty c.args.rows c.loop-k.k, c.loop-k.invariant.kept);
+      kept = rw (c.with_record-station.ensures, c.nth_record.ensures, narrow-is _ fits.0, narrow-is (get_or c.args.rows.phases c.loop-k.k 0) (omega arith), upto-more c.args.empty c.args.rows c.loop-k.k, c.loop-k.invariant.kept);
     }
 
 pub returns : goal.returns

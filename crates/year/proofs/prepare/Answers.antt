@@ -14,7 +14,7 @@ prepare-requires-clause-month_value c =
 
 pub returns-in-Err : goal.returns-in-Err
 returns-in-Err c =
-    refused-at c.args.table c.args.station c.args.year c.loop-m.m c.loop-m.frequencies c.loop-m.arguments c.loop-m.ps c.loop-m.qs c.loop-m.invariant c.loop-m-test.true c.in-Err.refused (sym c.in-Err.ensures)
+    refused-at c.args.table c.args.station c.args.year c.loop-m.m c.loop-m.rows.frequencies c.loop-m.rows.arguments c.loop-m.rows.ps c.loop-m.rows.qs c.loop-m.invariant c.loop-m-test.true c.in-Err.refused (sym c.in-Err.ensures)
 
 pub loop-m-preserved : goal.loop-m-preserved
 loop-m-preserved c =
@@ -22,11 +22,11 @@ loop-m-preserved c =
     let vs : length month.arguments ≡ most_records = search rules in
     let ps : length month.ps ≡ most_records = search rules in
     let qs : length month.qs ≡ most_records = search rules in
-    rw (c.put_month.ensures.arguments, c.put_month.ensures.cosines, c.put_month.ensures.sines)
-    (one_more c.args.table c.args.station c.args.year c.loop-m.m c.loop-m.frequencies c.loop-m.arguments c.loop-m.ps c.loop-m.qs c.loop-m.invariant c.loop-m-test.true month (sym c.in-Ok.ensures)
+    rw (c.put_month.ensures.frequencies, c.put_month.ensures.arguments, c.put_month.ensures.cosines, c.put_month.ensures.sines)
+    (one_more c.args.table c.args.station c.args.year c.loop-m.m c.loop-m.rows.frequencies c.loop-m.rows.arguments c.loop-m.rows.ps c.loop-m.rows.qs c.loop-m.invariant c.loop-m-test.true month (sym c.in-Ok.ensures)
     (record { there = c.loop-m-test.true; whole = vs; long = c.loop-m.invariant.rows.arguments }) (record { there = c.loop-m-test.true; whole = ps; long = c.loop-m.invariant.rows.cosines }) (record { there = c.loop-m-test.true; whole = qs; long = c.loop-m.invariant.rows.sines }))
 
 pub returns : goal.returns
 returns c =
     let all : c.loop-m.m ≡ months_a_year = omega arith in
-    all_done c.args.table c.args.station c.args.year c.loop-m.frequencies c.loop-m.arguments c.loop-m.ps c.loop-m.qs (rw all at c.loop-m.invariant)
+    all_done c.args.table c.args.station c.args.year c.loop-m.rows.frequencies c.loop-m.rows.arguments c.loop-m.rows.ps c.loop-m.rows.qs (rw all at c.loop-m.invariant)

@@ -6,7 +6,8 @@ use Rattle.year.proofs.put_month.Given as goal
 
 abbrev pub invariant-loop-k : goal.invariant-loop-k
 invariant-loop-k l = record {
-  arguments : l.arguments ≡ paste l.initial.arguments (l.m * most_records) l.month.arguments l.k;
-  cosines : l.ps ≡ paste l.initial.ps (l.m * most_records) l.month.ps l.k;
-  sines : l.qs ≡ paste l.initial.qs (l.m * most_records) l.month.qs l.k;
+  frequencies : l.rows.frequencies ≡ l.initial.rows.frequencies;
+  arguments : l.rows.arguments ≡ paste l.initial.rows.arguments (l.m * most_records) l.month.arguments l.k;
+  cosines : l.rows.ps ≡ paste l.initial.rows.ps (l.m * most_records) l.month.ps l.k;
+  sines : l.rows.qs ≡ paste l.initial.rows.qs (l.m * most_records) l.month.qs l.k;
 }
