@@ -5,7 +5,7 @@ ghost use Rattle.commandline.specs.Days.{DayAsked, hourly_asked};
 use crate::plain::{Form, Plain, Wanted};
 use crate::{Asked, Wrong, WrongWord};
 
-// The commands, and a word that names none.
+// The commands.
 #[derive(Clone, Copy)]
 enum Command {
     Year,
@@ -17,12 +17,11 @@ enum Command {
     Bookings,
     Hourly,
     Refusals,
-    NoCommand,
 }
 
-// The command that a word names.
-fn command_of(word: &[u8]) -> Command {
-    match word {
+// The command that a word names, if any.
+fn command_of(word: &[u8]) -> Option<Command> {
+    Some(match word {
         b"year" => Command::Year,
         b"month" => Command::Month,
         b"day" => Command::Day,
@@ -32,8 +31,8 @@ fn command_of(word: &[u8]) -> Command {
         b"bookings" => Command::Bookings,
         b"hourly" => Command::Hourly,
         b"refusals" => Command::Refusals,
-        _ => Command::NoCommand,
-    }
+        _ => return None,
+    })
 }
 
 // Words that are all numbers: as many as are taken of this.
@@ -70,7 +69,6 @@ fn form_of(command: Command) -> Form {
         Command::Bookings => form(3, &BOOKINGS),
         Command::Hourly => form(3, &NUMBERS[..3]),
         Command::Refusals => form(0, &[]),
-        Command::NoCommand => form(0, &NUMBERS),
     }
 }
 
@@ -92,7 +90,7 @@ fn drawing_of(plain: &Plain, v: [u32; 8]) -> Result<Asked, WrongWord>
         0..=2 => Ok(Asked::YearDrawing(v[1])),
         3 => Ok(Asked::MonthDrawing(v[1], v[2])),
         _ => {
-            check_day(v[3], plain.start(3))?;
+            check_day(v[3], plain.words[3].start)?;
             Ok(Asked::DayDrawing(v[1], v[2], v[3]))
         }
     }
@@ -122,27 +120,30 @@ fn with_values(command: Command, plain: &Plain, v: [u32; 8]) -> Result<Asked, Wr
         Command::Year => Asked::Year(v[1]),
         Command::Month => Asked::Month(v[1], v[2]),
         Command::Day => {
-            check_day(v[3], plain.start(3))?;
+            check_day(v[3], plain.words[3].start)?;
             Asked::Day(v[1], v[2], v[3], v[4])
         }
         Command::Heights => heights_of(plain, v),
         Command::Series => {
-            check_day(v[3], plain.start(3))?;
+            check_day(v[3], plain.words[3].start)?;
             Asked::Series(v[1], v[2], v[3], v[4], v[5], v[6])
         }
         Command::Svg => drawing_of(plain, v)?,
-        Command::Bookings => Asked::Bookings(v[1], v[2], plain.start(3)),
+        Command::Bookings => Asked::Bookings(v[1], v[2], plain.words[3].start),
         Command::Hourly => hourly_of(v),
         Command::Refusals => Asked::Refusals,
-        Command::NoCommand => return Err(Wrong::NoCommand.at(plain.start(0))),
     })
 }
 
-// What the command that the first plain word names asks with those behind it.
+// What the command that the first plain word names asks with those behind it. Where it names none, a word behind it that is no number is
+// the wrong one, and else it is itself.
 pub fn asked_of(first: &[u8], plain: &Plain) -> Result<Asked, WrongWord>
     ensures { IfOk result (λ asked. DayAsked asked) }
 {
-    let command = command_of(first);
+    let Some(command) = command_of(first) else {
+        plain.fit(form(0, &NUMBERS))?;
+        return Err(Wrong::NoCommand.at(plain.words[0].start));
+    };
     plain.fit(form_of(command))?;
     with_values(command, plain, plain.values())
 }

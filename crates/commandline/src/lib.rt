@@ -129,7 +129,7 @@ fn asked_by(words: &[u8], parsed: &Parsed, strides: Option<Strides>) -> Result<A
     if parsed.plain.count() == 0 {
         return Ok(Asked::Help);
     }
-    let asked = asked_of(word(words, parsed.plain.start(0)), &parsed.plain)?;
+    let asked = asked_of(word(words, parsed.plain.words[0].start), &parsed.plain)?;
     match parsed.csv {
         None => Ok(asked),
         Some(csv) => as_table(asked, csv),

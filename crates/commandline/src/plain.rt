@@ -3,19 +3,18 @@ use crate::numbers::number;
 use crate::times::time_of;
 use crate::{Wrong, WrongWord};
 
-// What a plain word says: a whole number, a time of day, or neither.
+// What a plain word can say: a whole number, or a time of day.
 #[derive(Clone, Copy)]
 enum Says {
     Number(u32),
     Time(u32),
-    Neither,
 }
 
-// A plain word: where it begins, and what it says.
+// A plain word: where it begins, and what it says, if it is a number or a time.
 #[derive(Clone, Copy)]
 pub struct PlainWord {
     pub start: usize,
-    says: Says,
+    says: Option<Says>,
 }
 
 // What a word of a form has to be: a file's name may be any word.
@@ -37,17 +36,14 @@ pub struct Form {
 #[derive(Clone, Copy)]
 pub struct Plain {
     count: usize,
-    words: [PlainWord; 8],
+    pub words: [PlainWord; 8],
 }
 
 // A plain word that begins at a byte.
 pub fn plain_of(word: &[u8], start: usize) -> PlainWord {
-    let says = if let Some(minute) = time_of(word) {
-        Says::Time(minute)
-    } else if let Some(value) = number(word, 0, word.len(), u32::MAX) {
-        Says::Number(value)
-    } else {
-        Says::Neither
+    let says = match time_of(word) {
+        Some(minute) => Some(Says::Time(minute)),
+        None => number(word, 0, word.len(), u32::MAX).map(Says::Number),
     };
     PlainWord { start, says }
 }
@@ -56,16 +52,17 @@ impl PlainWord {
     // The number or the time; 0 where it is neither.
     fn value(&self) -> u32 {
         match self.says {
-            Says::Number(value) | Says::Time(value) => value,
-            Says::Neither => 0,
+            Some(Says::Number(value) | Says::Time(value)) => value,
+            None => 0,
         }
     }
 
     // What is wrong with it at a place of a form.
     fn check(&self, wanted: Wanted) -> Result<(), WrongWord> {
         match (wanted, self.says) {
-            (Wanted::File, _) | (Wanted::Number, Says::Number(_)) | (Wanted::Time, Says::Time(_)) =>
-                Ok(()),
+            (Wanted::File, _)
+            | (Wanted::Number, Some(Says::Number(_)))
+            | (Wanted::Time, Some(Says::Time(_))) => Ok(()),
             (Wanted::Number, _) => Err(Wrong::NotNumber.at(self.start)),
             (Wanted::Time, _) => Err(Wrong::NotTime.at(self.start)),
         }
@@ -78,7 +75,7 @@ impl Plain {
         count: 0,
         words: [PlainWord {
             start: 0,
-            says: Says::Neither,
+            says: None,
         }; 8],
     };
 
@@ -95,11 +92,6 @@ impl Plain {
         self.count
     }
 
-    // Where the word at a place begins; 0 past the eighth.
-    pub fn start(&self, k: usize) -> usize {
-        self.words.get(k).map_or(0, |word| word.start)
-    }
-
     // What their numbers and times are.
     pub fn values(&self) -> [u32; 8] {
         let mut values = [0; 8];
@@ -111,12 +103,12 @@ impl Plain {
 
     // The first word behind the first, the command's own, that does not fit a form; or that there are too few or too many.
     pub fn fit(&self, form: Form) -> Result<(), WrongWord> {
-        let most = form.wanted.len();
         if self.count <= form.least {
-            return Err(Wrong::TooFew.at(self.start(0)));
+            return Err(Wrong::TooFew.at(self.words[0].start));
         }
-        if most + 1 < self.count {
-            return Err(Wrong::TooMany.at(self.start(most + 1)));
+        let mut behind = self.words.iter().take(self.count).skip(1);
+        if let Some(extra) = behind.nth(form.wanted.len()) {
+            return Err(Wrong::TooMany.at(extra.start));
         }
         let words = self.words.iter().take(self.count).skip(1);
         for (word, wanted) in words.zip(form.wanted) {
