@@ -14,18 +14,6 @@ fn labelled(
     page: &mut [u8],
     at: usize,
     label: &[u8],
-    number: u64,
-) -> io::Result<usize> {
-    let next = output::put_bytes(rt, page, at, label)?;
-    output::put_number(rt, page, next, number)
-}
-
-// Puts a label and a signed number.
-fn signed(
-    rt: &impl Print,
-    page: &mut [u8],
-    at: usize,
-    label: &[u8],
     number: i64,
 ) -> io::Result<usize> {
     let next = output::put_bytes(rt, page, at, label)?;
@@ -43,9 +31,10 @@ fn angle(
     requires { IsTable table.now }
 {
     let wave = cosine::wave(table, ticks);
-    let a = labelled(rt, page, at, b"ticks ", ticks)?;
-    let b = signed(rt, page, a, b" cosine ", wave.cosine)?;
-    let c = signed(rt, page, b, b" sine ", wave.sine)?;
+    let start = output::put_bytes(rt, page, at, b"ticks ")?;
+    let a = output::put_number(rt, page, start, ticks)?;
+    let b = labelled(rt, page, a, b" cosine ", wave.cosine)?;
+    let c = labelled(rt, page, b, b" sine ", wave.sine)?;
     output::put(rt, page, c, b'\n')
 }
 
@@ -58,10 +47,10 @@ fn date(
     month: u32,
     day: u32,
 ) -> io::Result<usize> {
-    let a = labelled(rt, page, at, b"date ", year as u64)?;
-    let b = labelled(rt, page, a, b" ", month as u64)?;
-    let c = labelled(rt, page, b, b" ", day as u64)?;
-    let d = signed(
+    let a = labelled(rt, page, at, b"date ", year as i64)?;
+    let b = labelled(rt, page, a, b" ", month as i64)?;
+    let c = labelled(rt, page, b, b" ", day as i64)?;
+    let d = labelled(
         rt,
         page,
         c,
@@ -73,7 +62,7 @@ fn date(
         page,
         d,
         b" month ",
-        calendar::month_days(year, month) as u64,
+        calendar::month_days(year, month) as i64,
     )?;
     output::put(rt, page, e, b'\n')
 }
