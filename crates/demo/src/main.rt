@@ -8,7 +8,6 @@ use cosine::ENTRIES;
 use std::io;
 
 // Puts a label and a number.
-// (Beside `signed`: one for both would take the function that puts the number as a parameter in each of its calls, which is no plainer.)
 fn labelled(
     rt: &impl Print,
     page: &mut [u8],
