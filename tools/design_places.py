@@ -9,8 +9,8 @@ import re
 import sys
 
 FUNCTION = re.compile(
-    r"^[ ]*(?:pub )?(?:unsafe )?(?:extern \"C\" )?fn (?P<name>\w+)(?P<generics><[^(]*>)?"
-    r"\((?P<params>[^)]*)\)(?P<rest>[^{;]*?)(?P<clauses>(?:\n[ ]*(?:requires|ensures)[^\n]*)*)\n?[ ]*\{\n(?P<body>.*?)^(?P<end>[ ]*)\}$",
+    r"^(?P<indent>[ ]*)(?:pub )?(?:unsafe )?(?:extern \"C\" )?fn (?P<name>\w+)(?P<generics><[^(]*>)?"
+    r"\((?P<params>[^)]*)\)(?P<rest>[^{;]*?)(?P<clauses>(?:\n[ ]*(?:requires|ensures)[^\n]*)*)\n?[ ]*\{\n(?P<body>.*?)^(?P=indent)\}$",
     re.M | re.S,
 )
 ENUM = re.compile(r"enum (\w+)(?:<[^>]*>)? \{\n(.*?)^\}", re.M | re.S)
