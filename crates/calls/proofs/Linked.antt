@@ -12,6 +12,7 @@ use Rattle.calls.proofs.asked.turns_answer.Symbol as asked-turns_answer
 use Rattle.calls.proofs.bookings.bookings_answer.Symbol as bookings-bookings_answer
 use Rattle.calls.proofs.hourcards.hourly_answer.Symbol as hourcards-hourly_answer
 use Rattle.calls.proofs.settings.date_answer.Symbol as settings-date_answer
+use Rattle.calls.proofs.settings.month_answer.Symbol as settings-month_answer
 use Rattle.calls.proofs.settings.station_answer.Symbol as settings-station_answer
 
 abbrev pub table : Tree
@@ -43,6 +44,9 @@ linked-hourcards-hourly_answer = link.linked-calls::hourcards::hourly_answer
 
 pub linked-settings-date_answer : (W : World) → Holds W "calls" table → Below W → HasT (in_world W) true settings-date_answer.code
 linked-settings-date_answer = link.linked-calls::settings::date_answer
+
+pub linked-settings-month_answer : (W : World) → Holds W "calls" table → Below W → HasT (in_world W) true settings-month_answer.code
+linked-settings-month_answer = link.linked-calls::settings::month_answer
 
 pub linked-settings-station_answer : (W : World) → Holds W "calls" table → Below W → HasT (in_world W) true settings-station_answer.code
 linked-settings-station_answer = link.linked-calls::settings::station_answer

@@ -255,7 +255,7 @@ clock-there : Holds crates "clock" clock.table
 clock-there = refl
 
 clock-below : clock.Below crates
-clock-below = (calendar.linked-month_days crates calendar-there calendar-below, (calendar.linked-month_minutes crates calendar-there calendar-below, (calls.linked-annual-sheet_outside crates calls-there calls-below, (calls.linked-annual-year_answer crates calls-there calls-below, (calls.linked-asked-height_answer crates calls-there calls-below, (calls.linked-asked-series_answer crates calls-there calls-below, (calls.linked-asked-turns_answer crates calls-there calls-below, (calls.linked-bookings-bookings_answer crates calls-there calls-below, (calls.linked-hourcards-hourly_answer crates calls-there calls-below, (calls.linked-settings-date_answer crates calls-there calls-below, (calls.linked-settings-station_answer crates calls-there calls-below, (card_file.linked-reader-read_cards crates card-file-there card-file-below, (cosine.linked-cosines crates cosine-there cosine-below, (heights.linked-bookings-heights_at crates heights-there heights-below, (heights.linked-height crates heights-there heights-below, (heights.linked-months-series crates heights-there heights-below, (heights.linked-series-series crates heights-there heights-below, (hourly.linked-write_cards crates hourly-there hourly-below, (month.linked-prepare crates month-there month-below, (month_prepared.linked-held crates month-prepared-there month-prepared-below, (month_prepared.linked-months-one_month crates month-prepared-there month-prepared-below, (refusals.linked-Refusal-at crates refusals-there refusals-below, (station.linked-no_station crates station-there station-below, (station.linked-records-rows_of crates station-there station-below, (station.linked-strides-usual crates station-there station-below, (table.linked-no_cards crates table-there table-below, (turns.linked-strides-station_stride crates turns-there turns-below, (turns.linked-turns crates turns-there turns-below, (year.linked-months_of crates year-there year-below, (year.linked-prepare crates year-there year-below, tt))))))))))))))))))))))))))))))
+clock-below = (calendar.linked-month_days crates calendar-there calendar-below, (calendar.linked-month_minutes crates calendar-there calendar-below, (calls.linked-annual-sheet_outside crates calls-there calls-below, (calls.linked-annual-year_answer crates calls-there calls-below, (calls.linked-asked-height_answer crates calls-there calls-below, (calls.linked-asked-series_answer crates calls-there calls-below, (calls.linked-asked-turns_answer crates calls-there calls-below, (calls.linked-bookings-bookings_answer crates calls-there calls-below, (calls.linked-hourcards-hourly_answer crates calls-there calls-below, (calls.linked-settings-date_answer crates calls-there calls-below, (calls.linked-settings-month_answer crates calls-there calls-below, (calls.linked-settings-station_answer crates calls-there calls-below, (card_file.linked-reader-read_cards crates card-file-there card-file-below, (cosine.linked-cosines crates cosine-there cosine-below, (heights.linked-bookings-heights_at crates heights-there heights-below, (heights.linked-height crates heights-there heights-below, (heights.linked-months-series crates heights-there heights-below, (heights.linked-series-series crates heights-there heights-below, (hourly.linked-write_cards crates hourly-there hourly-below, (month.linked-prepare crates month-there month-below, (month_prepared.linked-held crates month-prepared-there month-prepared-below, (month_prepared.linked-months-one_month crates month-prepared-there month-prepared-below, (refusals.linked-Refusal-at crates refusals-there refusals-below, (station.linked-no_station crates station-there station-below, (station.linked-records-rows_of crates station-there station-below, (station.linked-strides-usual crates station-there station-below, (table.linked-no_cards crates table-there table-below, (turns.linked-strides-station_stride crates turns-there turns-below, (turns.linked-turns crates turns-there turns-below, (year.linked-months_of crates year-there year-below, (year.linked-prepare crates year-there year-below, tt)))))))))))))))))))))))))))))))
 
 cuvalimodo-c-there : Holds crates "cuvalimodo_c" cuvalimodo_c.table
 cuvalimodo-c-there = refl

@@ -58,8 +58,9 @@ module _ (c : Clock) (year month : ℕ) (sound : Sound c) where
         leaves = rw ready;
       }
 
-  pub month-refused : (e : Refused) → refused (number_of e.refusal) e.place ≡ month_of (table_of c.table) (station_of c.station) year month → PreparedPost c year month (Err e) c
-  month-refused e prepares = record { sound = sound; returns = rw (← prepares); leaves = rw (← prepares) }
+  pub month-refused : (e : Refused) (answer : Result (Unit {0}) Refused) → refused (number_of e.refusal) e.place ≡ month_of (table_of c.table) (station_of c.station) year month
+      → outcome_of answer ≡ refused (number_of e.refusal) e.place → PreparedPost c year month answer c
+  month-refused e answer prepares says = record { sound = sound; returns = rw (← prepares) says; leaves = rw (← prepares) }
 
 -- a date that passes returns and leaves what its month says
 pub date-post : (c : Clock) (year month : ℕ) → date_by c.tabled c.stationed year month ≡ accepted tt

@@ -248,10 +248,11 @@ fn prepare_month(clock: Clock, year: u32, month: u32) -> After
     ensures { PreparedPost clock year month result.answer result.clock }
 {
     let last = calendar::month_minutes(year, month) as u64;
-    match month::prepare(&clock.cosines, clock.table, clock.station, year, month) {
-        Ok(prepared) => with_month(clock, year, month, last, prepared),
-        Err(refused) => After {
-            answer: Err(refused),
+    let prepared = month::prepare(&clock.cosines, clock.table, clock.station, year, month);
+    match prepared {
+        Ok(made) => with_month(clock, year, month, last, made),
+        Err(_) => After {
+            answer: settings::month_answer(prepared),
             clock,
         },
     }

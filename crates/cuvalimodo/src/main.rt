@@ -18,6 +18,7 @@ use clock::Clock;
 use commandline::{Asked, Request};
 use files::checksum;
 use messages::matters;
+use page::face;
 use page::face::{Face, Ground};
 use refusals::Refused;
 use station::records::Rows;
@@ -81,18 +82,18 @@ fn say_station(rt: HostRuntime, asking: &Asking, rows: Rows, refused: Refused) -
 
 // What the sheets of a station say on their face: what was read of it, its strides, and the two files' checksums.
 fn face_of<'a>(asking: &Asking<'a>, lent: Lent<'a>, read: &StationCards) -> Face<'a> {
-    Face {
-        name: stationcards::station_name(lent.station),
-        zone: stationcards::time_zone(lent.station),
-        unit: commandline::word(asking.words, asking.request.unit),
-        ground: Ground {
+    face::face_of(
+        stationcards::station_name(lent.station),
+        stationcards::time_zone(lent.station),
+        commandline::word(asking.words, asking.request.unit),
+        Ground {
             latitude: read.latitude,
             constituents: read.count,
             strides: asking.request.strides,
             cards: checksum::crc32(lent.cards),
             station: checksum::crc32(lent.station),
         },
-    }
+    )
 }
 
 // The station file's cards, by the names of the clock's table.

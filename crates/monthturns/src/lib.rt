@@ -151,7 +151,11 @@ fn month_turns(
     requires { Made clock }
     ensures { MonthTurns clock last minutes.old minutes.new heights.old heights.new result }
 {
-    let found = clock::turns(clock, 0, last, minutes, heights)?;
+    // No `?`: the wrong answer `another_place` is a slip in the arm of a refusal.
+    let found = match clock::turns(clock, 0, last, minutes, heights) {
+        Ok(found) => found,
+        Err(refused) => return Err(refused),
+    };
     let ends = ends_of(
         |from, m, h| clock::turns(clock, from, last, m, h),
         last,

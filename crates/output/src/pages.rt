@@ -1,5 +1,6 @@
 // A page that is written on: what is put stands on it until it is full, or flushed, and goes to standard output then.
-ghost use Rattle.std.specs.Prelude.{◌≡◌, ◌-◌, ◌<◌, ◌≤◌, length, get_or, IfOk};
+ghost use Rattle.std.specs.Prelude.{◌≡◌, ◌-◌, ◌<◌, ◌≤◌, length, get_or, decimal, IfOk};
+ghost use Rattle.output.specs.Pages.{EndsWith};
 
 use std::io;
 
@@ -38,7 +39,9 @@ impl Page {
     }
 
     // Puts bytes one after another.
-    pub fn put_bytes(&mut self, rt: &impl Print, bytes: &[u8]) -> io::Result<()> {
+    pub fn put_bytes(&mut self, rt: &impl Print, bytes: &[u8]) -> io::Result<()>
+        ensures { IfOk result (λ _. EndsWith self.new.bytes self.new.at bytes.now) }
+    {
         for byte in bytes {
             self.put(rt, *byte)?;
         }
@@ -46,13 +49,17 @@ impl Page {
     }
 
     // Puts a number in decimal.
-    pub fn put_number(&mut self, rt: &impl Print, number: u64) -> io::Result<()> {
+    pub fn put_number(&mut self, rt: &impl Print, number: u64) -> io::Result<()>
+        ensures { IfOk result (λ _. EndsWith self.new.bytes self.new.at (decimal number)) }
+    {
         let mut text = itoa::Buffer::new();
         self.put_bytes(rt, text.format(number).as_bytes())
     }
 
     // Puts a number of a size in decimal, with a minus where it is negative.
-    pub fn put_size(&mut self, rt: &impl Print, negative: bool, size: u64) -> io::Result<()> {
+    pub fn put_size(&mut self, rt: &impl Print, negative: bool, size: u64) -> io::Result<()>
+        ensures { IfOk result (λ _. EndsWith self.new.bytes self.new.at (decimal size)) }
+    {
         if negative {
             self.put(rt, b'-')?;
         }

@@ -30,6 +30,18 @@ pub struct Face<'a> {
     pub ground: Ground,
 }
 
+// The face of a station's sheets.
+pub fn face_of<'a>(name: &'a [u8], zone: &'a [u8], unit: &'a [u8], ground: Ground) -> Face<'a>
+    ensures { result.ground ≡ ground }
+{
+    Face {
+        name,
+        zone,
+        unit,
+        ground,
+    }
+}
+
 // Puts a month's name, or its number where it has none.
 pub fn put_month_name(rt: &impl Print, page: &mut Page, month: u32) -> io::Result<()> {
     let name = dates::month_name(month);

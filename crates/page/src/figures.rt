@@ -1,5 +1,6 @@
 // The figures on a sheet, put on a page right in their columns.
 
+pub use digits::{height_at, minute_at};
 use output::pages::Page;
 use std::io;
 

@@ -37,7 +37,7 @@ fn put_after(
     at: usize,
 ) -> io::Result<usize>
     requires { Made after.clock }
-    ensures { Made clock.new }
+    ensures { (clock.new ≡ after.clock) × Made clock.new }
 {
     *clock = after.clock;
     answers::put_answer(rt, page, at, after.answer)

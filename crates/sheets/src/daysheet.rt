@@ -1,4 +1,5 @@
 // The day at the berth: the height at a minute, the next high and low water, and the day's curve, drawn in characters.
+ghost use Rattle.std.specs.Prelude.{◌≤◌, length, IfOk};
 
 use digits::dates;
 use output::pages::Page;
@@ -230,8 +231,8 @@ fn put_water(rt: &impl Print, page: &mut Page, date: Date, water: Water) -> io::
     page.put(rt, b'\n')
 }
 
-// Puts a day's sheet for a minute of it: of the heights at the day's hours and of the month's turns.
-pub fn put_sheet(
+// Puts a day's sheet on a page.
+fn put_on(
     rt: &impl Print,
     page: &mut Page,
     face: Face,
@@ -244,4 +245,28 @@ pub fn put_sheet(
     put_water(rt, page, date, water)?;
     let start = water.minute / 1_440 * 1_440;
     put_curve(rt, page, day_of(start, hourly, waters), hourly, waters)
+}
+
+// Puts a day's sheet for a minute of it behind what stands on a lent page: of the heights at the day's hours and of the month's turns. Gives the
+// place behind it. (The lent page may have any length; it is written out first, and the sheet with it, so that its first byte is free again.)
+pub fn put_sheet(
+    rt: &impl Print,
+    lent: &[u8],
+    at: usize,
+    face: Face,
+    date: Date,
+    water: Water,
+    hourly: &[i64],
+    waters: Waters,
+) -> io::Result<usize>
+    ensures { IfOk result (λ next. next ≤ length lent.now) }
+{
+    if lent.is_empty() {
+        return Ok(0);
+    }
+    output::flush(rt, lent, output::on_page(lent.len(), at))?;
+    let mut page = Page::new();
+    put_on(rt, &mut page, face, date, water, hourly, waters)?;
+    page.flush(rt)?;
+    Ok(0)
 }

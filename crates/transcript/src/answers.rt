@@ -130,6 +130,20 @@ fn item_at<T: Copy>(row: &[T], i: usize, zero: T) -> T
     row.get(i).copied().unwrap_or(zero)
 }
 
+// The minute at a place; 0 past the end.
+fn minute_at(minutes: &[u32], i: usize) -> u32
+    ensures { result ≡ slice_index minutes.now i }
+{
+    item_at(minutes, i, 0)
+}
+
+// The height at a place; 0 past the end.
+fn height_at(heights: &[i64], i: usize) -> i64
+    ensures { result ≡ slice_index_or heights.now i (pos 0) }
+{
+    item_at(heights, i, 0)
+}
+
 // The turns found, each behind a blank, and LF.
 fn put_found<'a>(
     rt: &impl Print,
@@ -143,13 +157,7 @@ fn put_found<'a>(
 {
     let mut next = at;
     for i in 0..count {
-        next = put_turn(
-            rt,
-            page,
-            next,
-            item_at(minutes, i, 0),
-            item_at(heights, i, 0),
-        )?;
+        next = put_turn(rt, page, next, minute_at(minutes, i), height_at(heights, i))?;
     }
     output::put(rt, page, next, b'\n')
 }

@@ -3,7 +3,7 @@ ghost use Rattle.clock.specs.View.{Made};
 
 use crate::View;
 use digits::dates;
-use output::pages::Page;
+use output::pages::SIZE;
 use page::shown::{Turns, Waters};
 use sheets::daysheet;
 use sheets::daysheet::{Next, Water};
@@ -73,15 +73,17 @@ pub fn day(rt: HostRuntime, view: &View, minute: u32) -> io::Result<()>
         high: next_turn(view, true, minute, &turns),
         low: next_turn(view, false, minute, &turns),
     };
-    let mut page = Page::new();
-    daysheet::put_sheet(
+    let page = [0; SIZE];
+    let end = daysheet::put_sheet(
         &rt,
-        &mut page,
+        &page,
+        0,
         view.face,
         view.date,
         water,
         &hourly,
         turns.lent(),
     )?;
-    page.flush(&rt)
+    output::flush(&rt, &page, end)?;
+    Ok(())
 }

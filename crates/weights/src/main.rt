@@ -99,15 +99,16 @@ fn put_prepared(
     requires { in_range year month ≡ true }
 {
     let cosines = cosine::cosines();
-    match month::prepare(
+    let prepared = month::prepare(
         &cosines,
         kept.some_table(),
         kept.some_station(),
         year,
         month,
-    ) {
-        Ok(prepared) => put_month(rt, page, at, prepared),
-        Err(refused) => answers::put_refused(rt, page, at, refused),
+    );
+    match prepared {
+        Ok(made) => put_month(rt, page, at, made),
+        Err(_) => answers::put_answer(rt, page, at, settings::month_answer(prepared)),
     }
 }
 

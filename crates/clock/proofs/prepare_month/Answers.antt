@@ -4,7 +4,7 @@ use Rattle.clock.proofs.prepare_month.Goals as goal
 
 pub returns-in-Ok : goal.returns-in-Ok
 returns-in-Ok c =
-    rw (c.with_month.ensures, c.month_minutes-last.ensures) (month-ready c.args.clock c.args.year c.args.month c.requires.0 c.in-Ok.prepared c.in-Ok.ensures)
+    rw (c.with_month.ensures, c.month_minutes-last.ensures) (month-ready c.args.clock c.args.year c.args.month c.requires.0 c.in-Ok.made c.in-Ok.ensures)
 
 pub returns-in-Err : goal.returns-in-Err
-returns-in-Err c = month-refused c.args.clock c.args.year c.args.month c.requires.0 c.in-Err.refused c.in-Err.ensures
+returns-in-Err c = month-refused c.args.clock c.args.year c.args.month c.requires.0 c.in-Err.field-0 c.month_answer.result c.in-Err.ensures c.month_answer.ensures

@@ -7,9 +7,9 @@ use Rattle.replay.proofs.answer_call.Goals.{in-Cards, in-Station, in-Date, in-He
 pub returns : goal.returns
 returns g c =
     elim c.match-asked.branch [
-      | in-Cards w ↦ subst Made (sym w.clock-is) w.put_after.ensures
-      | in-Station w ↦ subst Made (sym w.clock-is) w.put_after-in-Station.ensures
-      | in-Date w ↦ subst Made (sym w.clock-is) w.put_after-in-Date.ensures
+      | in-Cards w ↦ subst Made (sym w.clock-is) w.put_after.ensures.1
+      | in-Station w ↦ subst Made (sym w.clock-is) w.put_after-in-Station.ensures.1
+      | in-Date w ↦ subst Made (sym w.clock-is) w.put_after-in-Date.ensures.1
       | in-Height w ↦ subst Made (sym w.clock-is) c.requires.made
       | in-Series w ↦ subst Made (sym w.clock-is) c.requires.made
       | in-Turns w ↦ subst Made (sym w.clock-is) c.requires.made
