@@ -97,6 +97,20 @@ module _ (low high : ℤ) (fl : SFits w64 low) (fh : SFits w64 high) where
       go true = sized-gives format true (drop 1 bs)
       go false = sized-gives format false bs
 
+-- a range from 0 on: nothing with a minus but 0, and nothing above its end
+pub minus-out : (high size : ℕ) → 0 < size → Err OutOfRange ≡ ranged (pos 0) (pos high) (numeric (signed true size))
+unfolding ranged
+minus-out high zero h = absurd (omega arith)
+minus-out high (suc m) h = refl
+
+pub above-out : (high size : ℕ) → high < size → Err OutOfRange ≡ ranged (pos 0) (pos high) (numeric (pos size))
+unfolding ranged
+above-out high size h = rw (lt-leb size high h, and-false)
+
+pub natural-in : (high size : ℕ) → size ≤ high → Ok (pos size) ≡ ranged (pos 0) (pos high) (numeric (pos size))
+unfolding ranged
+natural-in high size h = rw (le-leb 0 size (omega arith), le-leb size high h)
+
 -- a number that is in its range keeps to its bounds
 pub ranged-within : (low high v : ℤ) (x : Contents) → Ok v ≡ ranged low high x → (le_z low v ≡ true) × (le_z v high ≡ true)
 unfolding ranged

@@ -92,6 +92,23 @@ fn ranged(negative: bool, size: u64, low: i64, high: i64) -> Result<i64, FieldEr
     within(size as i64, low, high)
 }
 
+// A size with its sign, in 32 bits if it is from 0 to `high`: narrowed in the step that compares it, and not from what `ranged` hands out.
+fn narrowed(negative: bool, size: u64, high: u32) -> Result<u32, FieldError>
+    ensures result_value { narrow_gives result ≡ ranged (pos 0) (pos high) (number.numeric (signed negative size)) }
+    ensures narrow_within { IfOk result (λ n. n ≤ high) }
+{
+    if negative {
+        if size == 0 {
+            return Ok(0);
+        }
+        return Err(FieldError::OutOfRange);
+    }
+    if (high as u64) < size {
+        return Err(FieldError::OutOfRange);
+    }
+    Ok(size as u32)
+}
+
 // The number in `width` columns of the line from column `from` on, if it is from `low` to `high`.
 pub fn ranged_field(
     line: &[u8],
@@ -122,9 +139,10 @@ pub fn narrow_field(
     ensures result_value { narrow_gives result ≡ ranged (pos 0) (pos high) (contents_of format (columns line.now from width)) }
     ensures narrow_within { IfOk result (λ n. n ≤ high) }
 {
-    // No `?` or `map`: `has-the-clock` of claim_runs cannot have std's code.
-    match ranged_field(line, from, width, format, 0, high as i64) {
-        Ok(value) => Ok(value as u32),
-        Err(error) => Err(error),
+    let written = written_in(line, from, width, format);
+    // No `?`, no `ok_or`: `has-the-clock` of claim_runs cannot have std's code.
+    match written.size {
+        Some(size) => narrowed(written.negative, size, high),
+        None => Err(FieldError::Malformed),
     }
 }
