@@ -95,6 +95,19 @@ pub fn sequence(text: &[u8]) -> usize
     if goes_on(text, size) { size } else { 0 }
 }
 
+// How XML has a character of ASCII: by its name where XML keeps it for itself, else as `shown` has it, in the byte that is lent.
+pub fn written(byte: u8, own: &mut [u8; 1]) -> &[u8]
+    ensures { result.now ≡ written_of byte }
+{
+    match name_of(byte) {
+        Some(name) => name,
+        None => {
+            *own = [shown(byte)];
+            own
+        }
+    }
+}
+
 // The name by which XML has a character of ASCII that it keeps for itself; none for any other, which is written as `shown` has it.
 #[tactic(auto, unfolding(crate::specs::Escapes::written_of))]
 pub fn name_of(byte: u8) -> Option<&'static [u8]>

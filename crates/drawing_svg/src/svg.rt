@@ -33,10 +33,7 @@ pub fn end_group(rt: &impl Print, page: &mut Page) -> io::Result<()> {
 
 // Puts an ASCII character of text as XML has it.
 fn put_character(rt: &impl Print, page: &mut Page, byte: u8) -> io::Result<()> {
-    match markup::name_of(byte) {
-        Some(name) => page.put_bytes(rt, name),
-        None => page.put(rt, markup::shown(byte)),
-    }
+    page.put_bytes(rt, markup::written(byte, &mut [0]))
 }
 
 // How many bytes pass as they are, from the first of a text on, where so many were left to pass.
