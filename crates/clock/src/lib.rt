@@ -160,14 +160,13 @@ pub fn new() -> Clock
 fn with_station(clock: Clock, station: Station) -> After
     ensures { result ≡ accepts (with_station clock station) }
 {
+    let mut next = clock;
+    next.stationed = true;
+    next.station = station;
+    next.dated = false;
     After {
         answer: Ok(()),
-        clock: Clock {
-            stationed: true,
-            station,
-            dated: false,
-            ..clock
-        },
+        clock: next,
     }
 }
 
@@ -183,21 +182,20 @@ fn with_month(clock: Clock, year: u32, month: u32, last: u64, prepared: Month) -
         ps,
         qs,
     } = prepared;
+    let mut next = clock;
+    next.dated = true;
+    next.year = year;
+    next.month = month;
+    next.last = last;
+    next.count = month_prepared::held(count);
+    next.arguments = arguments;
+    next.lags = lags;
+    next.frequencies = frequencies;
+    next.ps = ps;
+    next.qs = qs;
     After {
         answer: Ok(()),
-        clock: Clock {
-            dated: true,
-            year,
-            month,
-            last,
-            count: month_prepared::held(count),
-            arguments,
-            lags,
-            frequencies,
-            ps,
-            qs,
-            ..clock
-        },
+        clock: next,
     }
 }
 
@@ -224,11 +222,15 @@ pub fn place_station(clock: Clock, latitude: i32, strides: Strides, n: usize, ro
     ensures { StationPost clock (station_lent latitude strides (records_of rows n)) (outcome_of result.answer) result.clock }
 {
     match settings::station_answer(clock.tabled, clock.table, latitude, strides, n, rows) {
-        Ok(station) => with_station(clock, station),
-        Err(refused) => After {
-            answer: Err(refused),
-            clock,
-        },
+        Ok(station) => {
+            return with_station(clock, station);
+        }
+        Err(refused) => {
+            return After {
+                answer: Err(refused),
+                clock,
+            };
+        }
     }
 }
 
@@ -250,11 +252,15 @@ fn prepare_month(clock: Clock, year: u32, month: u32) -> After
     let last = calendar::month_minutes(year, month) as u64;
     let prepared = month::prepare(&clock.cosines, clock.table, clock.station, year, month);
     match prepared {
-        Ok(made) => with_month(clock, year, month, last, made),
-        Err(_) => After {
-            answer: settings::month_answer(prepared),
-            clock,
-        },
+        Ok(made) => {
+            return with_month(clock, year, month, last, made);
+        }
+        Err(_) => {
+            return After {
+                answer: settings::month_answer(prepared),
+                clock,
+            };
+        }
     }
 }
 
@@ -264,11 +270,15 @@ pub fn set_date(clock: Clock, year: u32, month: u32) -> After
     ensures { DatePost clock year month (outcome_of result.answer) result.clock }
 {
     match settings::date_answer(clock.tabled, clock.stationed, year, month) {
-        Ok(_) => prepare_month(clock, year, month),
-        Err(refused) => After {
-            answer: Err(refused),
-            clock,
-        },
+        Ok(_) => {
+            return prepare_month(clock, year, month);
+        }
+        Err(refused) => {
+            return After {
+                answer: Err(refused),
+                clock,
+            };
+        }
     }
 }
 

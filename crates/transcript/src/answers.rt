@@ -1,6 +1,6 @@
 // The lines that answer a script. Each function puts one on the page and gives the place behind it, which is on the page. (The place is no field of a page: that
 // it lies on the page is a clause of each, which the wrong answer `line_number_for_a_place` tries.)
-ghost use Rattle.std.specs.Prelude.{◌≡◌, ◌≤◌, length, slice_index_or, IfOk};
+ghost use Rattle.std.specs.Prelude.{◌≡◌, ◌≤◌, length, slice_index, slice_index_or, pos, IfOk};
 
 use refusals::{Answer, Refused};
 use std::io;
