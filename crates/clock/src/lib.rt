@@ -4,8 +4,8 @@
 // No call asks anything of its caller but a clock that `new` or another call made.
 //
 // A refusal is handed on by `if let` or `match`, in `load_cards`, `place_station`, `prepare_month` and `set_date` with the clock beside it: `?` calls std's code,
-// which `has-the-clock` of claim_runs can't have. Where a call changes the clock each arm returns at once, and a field is set in place: the value of a `match`,
-// or a clock that is made of another by `..`, is one more copy of 21 KB.
+// which `has-the-clock` of claim_runs can't have. In `place_station`, `prepare_month` and `set_date` each arm returns at once: the value of a `match` is one more copy of 21 KB.
+// `with_month` sets fields in place: in the literal of a clock the month's rows are copied once more.
 #![tactic(auto)]
 
 ghost use Rattle.std.specs.Prelude.{◌≡◌, true};
@@ -161,13 +161,14 @@ pub fn new() -> Clock
 fn with_station(clock: Clock, station: Station) -> After
     ensures { result ≡ accepts (with_station clock station) }
 {
-    let mut next = clock;
-    next.stationed = true;
-    next.station = station;
-    next.dated = false;
     After {
         answer: Ok(()),
-        clock: next,
+        clock: Clock {
+            stationed: true,
+            station,
+            dated: false,
+            ..clock
+        },
     }
 }
 
