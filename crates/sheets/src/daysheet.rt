@@ -248,7 +248,8 @@ fn put_on(
 }
 
 // Puts a day's sheet for a minute of it behind what stands on a lent page: of the heights at the day's hours and of the month's turns. Gives the
-// place behind it. (The lent page may have any length; it is written out first, and the sheet with it, so that its first byte is free again.)
+// place behind it. (What stands on the lent page before the place is written out first, then the sheet, so that its first byte is free again. On an
+// empty one nothing is written, the sheet neither. A caller with a Page of its own flushes that and lends `&[0]` at place 0.)
 pub fn put_sheet(
     rt: &impl Print,
     lent: &[u8],
